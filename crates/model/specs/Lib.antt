@@ -1,0 +1,6 @@
+-- The model: what the calls do.
+pub mod Board
+pub mod Refusals
+pub mod Calls
+pub mod Search
+pub mod Known

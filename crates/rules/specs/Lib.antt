@@ -1,0 +1,4 @@
+-- The rules: what a reader must believe, in the order of document 01, then the laws that a sceptic would ask for.
+pub mod Grid
+pub mod Drawing
+pub mod Record
