@@ -11,7 +11,7 @@ use Rattle.rules.specs.Grid.{Edge, Place, edge, no-edge, place-at, field-side, 
 use Rattle.rules.specs.Drawing.{num}
 use Rattle.rules.specs.Record.{field, undecided-byte, line-byte, none-byte, tabulate}
 use Rattle.model.specs.Board.{EdgeState, undecided, line, none, State, decide, enough, fresh, end-number}
-use Rattle.model.specs.Refusals.{Refusal, grid-refusal}
+use Rattle.model.specs.Refusals.{grid-refusal}
 
 -- A BOARD: its grid, its state, and the states at the checkpoints not yet undone, the last one first.
 pub record Board : Type 0 where
@@ -36,9 +36,9 @@ blank-board = fresh-board (grid-of 2 2 (blank-cell ∷ blank-cell ∷ blank-cell
 unfoldable pub new : ℕ → ℕ → List ℤ → Answer
 new height width cells =
     let r = grid-refusal height width cells in
-    elim (eqb (r .number) 0) [
+    elim (eqb (r .0) 0) [
       | true ↦ record { number = 0; answer = 0; board = fresh-board (grid-of height width cells) }
-      | false ↦ record { number = r .number; answer = r .index; board = blank-board }
+      | false ↦ record { number = r .0; answer = r .1; board = blank-board }
     ]
 
 -- the byte of an edge's state

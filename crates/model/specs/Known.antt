@@ -9,6 +9,7 @@ use lib.IntN.{ℤ, pos, negsuc}
 use Rattle.rules.specs.Grid.{Cell, cell-of, blank-cell, Grid, grid-of, places, place-at}
 use Rattle.rules.specs.Record.{codes, drawing-of, field, record-lines, tabulate}
 use Rattle.model.specs.Board.{fresh, end-number, State, decide, check, after-store, cannot-join, join-ends, check-items, settled, decide-first, degree, undecideds, lines, keep-aparts, around, do-item, do-items, shape-items, barred, joined-ends, put-end, put-end-at, set-flag, set-edge, enough}
+use Rattle.model.specs.KnownFiles.{K10 as Largest-code-read, K11 as Letter-refused, K12 as One-row-refused, known-files}
 use Rattle.model.specs.Search.{Run, scan, search, fewest, backtrack, try, degree-so-far, next-pad, board-record}
 
 -- what document 01 tells of a grid: layouts, visited, fewest, and the codes of each layout
@@ -44,7 +45,13 @@ pub record KnownGrids : Type 0 where
   -- clue 0 is end -2, clue 2147483646 is end -2147483648
   pub K9 : (end-number (fresh (grid-of 2 2 (pos 0 ∷ pos 2147483646 ∷ blank-cell ∷ blank-cell ∷ [])) .end 0) ≡ negsuc 1)
       × (end-number (fresh (grid-of 2 2 (pos 0 ∷ pos 2147483646 ∷ blank-cell ∷ blank-cell ∷ [])) .end 1) ≡ negsuc 2147483647)
+  -- field 2147483646 is read, 2147483647 gives 3
+  pub K10 : Largest-code-read
+  -- `1O` first in line 2 gives 1, line 2, field 1
+  pub K11 : Letter-refused
+  -- header `1,2` gives 5, line 1, field 1
+  pub K12 : One-row-refused
 
 known-grids : KnownGrids
 unfolding known grid-of cell-of codes drawing-of field record-lines tabulate place-at scan search fewest backtrack try degree-so-far next-pad board-record fresh end-number decide check after-store cannot-join join-ends check-items settled decide-first degree undecideds lines keep-aparts around do-item do-items shape-items barred joined-ends put-end put-end-at set-flag set-edge enough
-known-grids = record { K1 = refl; K2 = refl; K3 = refl; K4 = refl; K5 = refl; K6 = refl; K7 = refl; K8 = refl; K9 = (refl, refl) }
+known-grids = record { K1 = refl; K2 = refl; K3 = refl; K4 = refl; K5 = refl; K6 = refl; K7 = refl; K8 = refl; K9 = (refl, refl); K10 = known-files .0; K11 = known-files .1; K12 = known-files .2 }

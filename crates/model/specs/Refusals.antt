@@ -1,41 +1,28 @@
--- The grid's refusals 7, 8 and 9, for a board or a search. Document 01, 'When a call declines'. They rest on the sizes and codes of the
--- rules' Grid.antt. The law `accepted` says that what is not refused is exactly what the rules call an accepted grid.
-use Prim.Native.Nat.{ℕ, zero, suc, _+_, _*_, _≤_, _<_}
-use mathlib.Core.Bool.{Bool, true, false, _&&_}
+-- When a grid is declined, for a board or a search: the numbers 7, 8 and 9, in document 01's order. Assumes nothing.
+use Prim.Native.Nat.{ℕ, zero, suc, _*_}
+use mathlib.Core.Bool.{Bool, true, false, not, _&&_}
 use mathlib.Core.List.{List, [], _∷_}
-use lib.Dec.{eqb, ltb, leb}
 use lib.ListN.{length}
 use lib.IntN.{ℤ, pos, negsuc}
-use Rattle.rules.specs.Grid.{least-size, largest-size, largest-code}
+use lib.Dec.{eqb, ltb}
+use Rattle.model.specs.Choice.{if_then_else_}
+use Rattle.rules.specs.Grid.{largest-code}
+use Rattle.model.specs.Bounds.{is-size}
 
--- a refusal's number, 0 for none, and the index beside it
-pub record Refusal : Type 0 where
-  pub number : ℕ
-  pub index : ℕ
+-- a cell is -1 for blank or a code: not below -1, and no more than the largest code
+unfoldable pub is-cell : ℤ → Bool
+is-cell (pos code) = not (ltb largest-code code)
+is-cell (negsuc below) = eqb below 0
 
-abbrev pub accepted : Refusal
-accepted = record { number = 0; index = 0 }
+-- the index of the first cell that is none; the number of cells if there is no such
+unfoldable pub first-bad-cell : List ℤ → ℕ
+first-bad-cell [] = 0
+first-bad-cell (cell ∷ cells) = if is-cell cell then suc (first-bad-cell cells) else 0
 
-abbrev pub in-size : ℕ → Bool
-in-size n = leb least-size n && leb n largest-size
-
--- a cell below -1, or above the largest code
-abbrev pub bad-cell : ℤ → Bool
-bad-cell (pos code) = ltb largest-code code
-bad-cell (negsuc zero) = false
-bad-cell (negsuc (suc n)) = true
-
--- 9 with the first bad index
-unfoldable pub first-bad : List ℤ → ℕ → Refusal
-first-bad [] index = accepted
-first-bad (z ∷ cells) index = elim (bad-cell z) [ true ↦ record { number = 9; index = index } | false ↦ first-bad cells (suc index) ]
-
--- 7 a size out of range, 8 not one cell a pad, 9 a bad cell; tested in this order, 0 beside 7 and 8
-unfoldable pub grid-refusal : ℕ → ℕ → List ℤ → Refusal
-grid-refusal height width cells = elim (in-size height && in-size width) [
-  | false ↦ record { number = 7; index = 0 }
-  | true ↦ elim (eqb (length cells) (height * width)) [
-    | false ↦ record { number = 8; index = 0 }
-    | true ↦ first-bad cells 0
-  ]
-]
+-- number and index: 7 H or W out of bounds; 8 not HW cells; 9 a bad cell, with the first such index (0 for the others)
+unfoldable pub grid-refusal : ℕ → ℕ → List ℤ → ℕ × ℕ
+grid-refusal height width cells =
+    if not (is-size height && is-size width) then (7, 0)
+    else if not (eqb (length cells) (height * width)) then (8, 0)
+    else if ltb (first-bad-cell cells) (length cells) then (9, first-bad-cell cells)
+    else (0, 0)

@@ -11,7 +11,7 @@ use Rattle.rules.specs.Drawing.{num}
 use Rattle.rules.specs.Record.{field, record-lines}
 use Rattle.model.specs.Board.{EdgeState, State, isLine, isUndecided, isBlank, line-or-none, has-left, has-right, has-up, has-down, decide, enough, fresh}
 use Rattle.model.specs.Calls.{state-byte}
-use Rattle.model.specs.Refusals.{Refusal, grid-refusal}
+use Rattle.model.specs.Refusals.{grid-refusal}
 
 -- EVENTS: a visited board, and a layout with its record
 pub data Event : Type 0 where
@@ -121,8 +121,8 @@ solved run buffer = record {
 unfoldable pub solve : ℕ → ℕ → List ℤ → ℕ → List ℕ → Solved
 solve height width cells limit buffer =
     let refusal = grid-refusal height width cells in
-    elim (eqb (refusal .number) 0) [
+    elim (eqb (refusal .0) 0) [
       | true ↦ solved (scan limit (places height width) 0 (length buffer) (search (grid-of height width cells))) buffer
       | false ↦ record
-          { number = refusal .number; index = refusal .index; outcome = 0; layouts = 0; visited = 0; fewest-lines = no-fewest; buffer = buffer }
+          { number = refusal .0; index = refusal .1; outcome = 0; layouts = 0; visited = 0; fewest-lines = no-fewest; buffer = buffer }
     ]

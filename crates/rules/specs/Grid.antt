@@ -51,15 +51,16 @@ pub data Place : Type 0 where
   edge : Edge → Place
   no-edge : Place
 
--- Place (2y, 2x+1) joins pad (y, x) to the right, place (2y+1, 2x) joins it downward; a row and a column that are both even or both odd have no edge.
+-- Place (2y, 2x+1), of even row and odd column, joins pad (y, x) to the right; place (2y+1, 2x), of odd row and even column, joins it
+-- downward; where row and column are both even or both odd there is no edge.
+unfoldable pub place-by-parity : ℕ → ℕ → ℕ → Place
+place-by-parity zero zero pad = no-edge
+place-by-parity zero (suc column) pad = edge (right pad)
+place-by-parity (suc row) zero pad = edge (down pad)
+place-by-parity (suc row) (suc column) pad = no-edge
+
 unfoldable pub place-at : ℕ → ℕ → ℕ → Place
-place-at width row column = elim (eqb (row % 2) (column % 2)) [
-  | true ↦ no-edge
-  | false ↦ elim (eqb (row % 2) 0) [
-    | true ↦ edge (right (pad-index width (row / 2) (column / 2)))
-    | false ↦ edge (down (pad-index width (row / 2) (column / 2)))
-  ]
-]
+place-at width row column = place-by-parity (row % 2) (column % 2) (pad-index width (row / 2) (column / 2))
 
 -- the row and the column of an edge's place
 abbrev pub row-of : ℕ → Edge → ℕ

@@ -2,3 +2,5 @@
 pub mod Grid
 pub mod Drawing
 pub mod Record
+pub mod Places
+pub mod RecordLaws

@@ -1,0 +1,168 @@
+-- Reading a grid file: from its bytes to a refusal with its line and field, or to H, W and 256 cells.
+-- The file is read byte by byte. `refusal` has document 01's numbers in the order in which they are tested at one byte,
+-- `after` says what an accepted byte does, and `read` stops at the first byte where a number applies. Assumes nothing.
+use Prim.Native.Nat.{ℕ, zero, suc, _+_, _*_, _-_}
+use mathlib.Core.Bool.{Bool, true, false, not, _&&_, _||_}
+use mathlib.Core.List.{List, [], _∷_}
+use lib.ListN.{set, replicate}
+use lib.IntN.{ℤ, pos, negsuc}
+use lib.Dec.{eqb, ltb, leb}
+use Rattle.model.specs.Choice.{if_then_else_}
+use Rattle.rules.specs.Grid.{largest-code}
+use Rattle.model.specs.Bounds.{is-size, most-digits}
+
+-- ## Bytes and cells
+
+-- decimal digits
+unfoldable pub is-digit : ℕ → Bool
+is-digit byte = leb 48 byte && leb byte 57
+
+-- fields are parted by commas
+unfoldable pub is-comma : ℕ → Bool
+is-comma byte = eqb byte 44
+
+-- each line is ended by byte 0A hexadecimal, and by nothing else
+unfoldable pub is-line-end : ℕ → Bool
+is-line-end byte = eqb byte 10
+
+-- any other byte has no place in a file
+unfoldable pub is-allowed : ℕ → Bool
+is-allowed byte = is-digit byte || is-comma byte || is-line-end byte
+
+-- a cell is -1 for blank, else its code
+unfoldable pub blank : ℤ
+blank = negsuc 0
+
+unfoldable pub no-cells : List ℤ
+no-cells = replicate 256 blank
+
+-- ## Where the reading stands before a byte
+
+pub record Standing : Type 0 where
+  -- the line and the field being read, both from 1
+  pub line : ℕ
+  pub field : ℕ
+  -- how many digits the field has so far, and their value
+  pub digits : ℕ
+  pub value : ℕ
+  -- H and W, each once its field has ended
+  pub height : ℕ
+  pub width : ℕ
+  -- the 256 cells, blank where no field has ended
+  pub cells : List ℤ
+
+unfoldable pub start : Standing
+start = record { line = 1; field = 1; digits = 0; value = 0; height = 0; width = 0; cells = no-cells }
+
+-- line 1 is the header
+unfoldable pub in-header : Standing → Bool
+in-header s = eqb (s .line) 1
+
+-- the header is `H,W`; then there are H lines of W fields
+unfoldable pub fields-due : Standing → ℕ
+fields-due s = if in-header s then 2 else s .width
+
+unfoldable pub is-complete : Standing → Bool
+is-complete s = not (in-header s) && eqb (s .line) (s .height + 2)
+
+-- what the field says if it ends here: empty for blank, else its value (leading zeros count for nothing)
+unfoldable pub field-cell : Standing → ℤ
+field-cell s = if eqb (s .digits) 0 then blank else pos (s .value)
+
+-- the first of H and W that is empty or out of bounds if the header ends here, 0 if both are sound;
+-- an empty field has the value 0, which is out of bounds
+unfoldable pub bad-size : Standing → ℕ
+bad-size s = if not (is-size (s .height)) then 1 else if not (is-size (s .value)) then 2 else 0
+
+-- ## What a byte does
+
+-- the number that applies at a byte, 0 if none does: the first of these that holds
+--   6 a byte after the last row (tested before 1)
+--   1 not a digit, comma or 0A
+--   2 an eleventh digit
+--   3 the ended field exceeds the largest code
+--   4 too few fields at a line's end, or a comma after the last
+--   5 header end with H or W empty or out of bounds
+unfoldable pub refusal : Standing → ℕ → ℕ
+refusal s byte =
+    if is-complete s then 6
+    else if not (is-allowed byte) then 1
+    else if is-digit byte && eqb (s .digits) most-digits then 2
+    else if not (is-digit byte) && ltb largest-code (s .value) then 3
+    else if is-line-end byte && ltb (s .field) (fields-due s) then 4
+    else if is-comma byte && eqb (s .field) (fields-due s) then 4
+    else if is-line-end byte && in-header s && ltb 0 (bad-size s) then 5
+    else 0
+
+-- a digit goes to the field being read
+unfoldable pub with-digit : Standing → ℕ → Standing
+with-digit s byte =
+    record {
+      line = s .line;
+      field = s .field;
+      digits = s .digits + 1;
+      value = s .value * 10 + (byte - 48);
+      height = s .height;
+      width = s .width;
+      cells = s .cells;
+    }
+
+-- the field ends, its value is stored, and another field is begun: H is the header's first field and W its second,
+-- any other is the cell of the pad in row line - 2 and column field - 1
+unfoldable pub begun : Standing → ℕ → ℕ → Standing
+begun s next-line next-field =
+    record {
+      line = next-line;
+      field = next-field;
+      digits = 0;
+      value = 0;
+      height = if in-header s && eqb (s .field) 1 then s .value else s .height;
+      width = if in-header s && eqb (s .field) 2 then s .value else s .width;
+      cells =
+          if in-header s then s .cells
+          else set (s .cells) ((s .line - 2) * s .width + (s .field - 1)) (field-cell s);
+    }
+
+-- where the reading stands after an accepted byte
+unfoldable pub after : Standing → ℕ → Standing
+after s byte =
+    if is-digit byte then with-digit s byte
+    else if is-comma byte then begun s (s .line) (s .field + 1)
+    else begun s (s .line + 1) 1
+
+-- ## The answer
+
+pub record Reading : Type 0 where
+  -- 0 if accepted; the line and field that a refusal names, from 1, and 0 if accepted
+  pub number : ℕ
+  pub line : ℕ
+  pub field : ℕ
+  -- H, W and 256 cells, blank past HW; a declined grid is 0, 0, all blank
+  pub height : ℕ
+  pub width : ℕ
+  pub cells : List ℤ
+
+unfoldable pub accepted : Standing → Reading
+accepted s =
+    record { number = 0; line = 0; field = 0; height = s .height; width = s .width; cells = s .cells }
+
+-- a refusal names the field being read or ended, and 5 the first bad one of the header
+unfoldable pub declined : ℕ → Standing → Reading
+declined number s =
+    record {
+      number = number;
+      line = s .line;
+      field = if eqb number 5 then bad-size s else s .field;
+      height = 0;
+      width = 0;
+      cells = no-cells;
+    }
+
+-- 6 also where the file ends before the last row does
+unfoldable pub read-from : Standing → List ℕ → Reading
+read-from s [] = elim (is-complete s) [ true ↦ accepted s | false ↦ declined 6 s ]
+read-from s (byte ∷ bytes) =
+    elim (refusal s byte) [ zero ↦ read-from (after s byte) bytes | suc n ↦ declined (suc n) s ]
+
+unfoldable pub read : List ℕ → Reading
+read bytes = read-from start bytes

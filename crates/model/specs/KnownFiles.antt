@@ -1,0 +1,193 @@
+-- Known grid files and what is printed for them, by computation: K10, K11 and K12 of document 01, accepted files, each
+-- refusal at its place, and the two texts that document 01 shows. The statements come first; `known-files` and
+-- `known-texts` prove them all, each by `refl`.
+use Prim.Native.Nat.{ℕ, zero, suc}
+use mathlib.Core.Path.{_≡_, refl}
+use mathlib.Core.List.{List, [], _∷_, _++_}
+use lib.ListN.{length, replicate, getD}
+use lib.IntN.{ℤ, pos}
+use Rattle.model.specs.Bounds.{is-size, most-digits}
+use Rattle.model.specs.Text.{bytes}
+use Rattle.model.specs.GridFile.{Reading, is-digit, is-comma, is-line-end, is-allowed, blank, no-cells, start, in-header, fields-due, is-complete, field-cell, bad-size, refusal, with-digit, begun, after, accepted, declined, read-from, read}
+use Rattle.model.specs.Records.{is-line, lines}
+use Rattle.model.specs.Printed.{digit-byte, digits-before, decimal, line-at, pad-code, codes-from, codes, comma, line-end, summary-line, layout-line, refusal-line, Found, layout-lines, found-text, reading-text, printed}
+
+-- number, line and field of a file's answer
+pub record Answer : Type 0 where
+  pub number : ℕ
+  pub line : ℕ
+  pub field : ℕ
+
+unfoldable pub answer : List ℕ → Answer
+answer file = record { number = read file .number; line = read file .line; field = read file .field }
+
+abbrev pub names : ℕ → ℕ → ℕ → Answer
+names number line field = record { number = number; line = line; field = field }
+
+-- the cell that a file gives a pad
+unfoldable pub cell : List ℕ → ℕ → ℤ
+cell file index = getD (read file .cells) index blank
+
+-- ## K10, K11 and K12
+
+-- field 2147483646 is read, 2147483647 gives 3
+abbrev pub K10 : Type 0
+K10 =
+    (answer (bytes "2,2\n2147483646,\n,\n") ≡ names 0 0 0)
+    × (cell (bytes "2,2\n2147483646,\n,\n") 0 ≡ pos 2147483646)
+    × (answer (bytes "2,2\n2147483647,\n,\n") ≡ names 3 2 1)
+
+-- `1O` first in line 2 gives 1, line 2, field 1
+abbrev pub K11 : Type 0
+K11 = answer (bytes "2,2\n1O,\n,1O\n") ≡ names 1 2 1
+
+-- header `1,2` gives 5, line 1, field 1
+abbrev pub K12 : Type 0
+K12 = answer (bytes "1,2\n") ≡ names 5 1 1
+
+-- ## Accepted files
+
+-- the file of document 01
+abbrev pub Example-read : Type 0
+Example-read =
+    read (bytes "2,2\n5,\n,5\n")
+    ≡ record { number = 0; line = 0; field = 0; height = 2; width = 2; cells = pos 5 ∷ blank ∷ blank ∷ pos 5 ∷ replicate 252 blank }
+
+-- leading zeros count for nothing: 007 is 7; ten digits are read
+abbrev pub Leading-zeros : Type 0
+Leading-zeros =
+    (cell (bytes "2,2\n007,\n,0000000007\n") 0 ≡ pos 7)
+    × (cell (bytes "2,2\n007,\n,0000000007\n") 3 ≡ pos 7)
+    × (cell (bytes "2,2\n0,\n,\n") 0 ≡ pos 0)
+
+-- the longest file: ten digits in both fields of the header and in each of 16 rows of 16 fields
+unfoldable pub longest-row : ℕ → List ℕ
+longest-row zero = bytes "2147483646\n"
+longest-row (suc more) = bytes "2147483646," ++ longest-row more
+
+unfoldable pub longest-rows : ℕ → List ℕ
+longest-rows zero = []
+longest-rows (suc more) = longest-row 15 ++ longest-rows more
+
+unfoldable pub longest-file : List ℕ
+longest-file = bytes "0000000016,0000000016\n" ++ longest-rows 16
+
+abbrev pub Longest-read : Type 0
+Longest-read =
+    (length longest-file ≡ 2838)
+    × (read longest-file
+    ≡ record { number = 0; line = 0; field = 0; height = 16; width = 16; cells = replicate 256 (pos 2147483646) })
+
+-- ## Refused files
+
+-- 1: not a digit, comma or 0A: first of all, after a digit, in the last field; a return (0D) is no line end
+abbrev pub Refused-1 : Type 0
+Refused-1 =
+    (answer (bytes " 2,2\n") ≡ names 1 1 1)
+    × (answer (bytes "2,2\r\n") ≡ names 1 1 2)
+    × (answer (bytes "2,2\n,\n,1O\n") ≡ names 1 3 2)
+    × (answer (0 ∷ []) ≡ names 1 1 1)
+    × (answer (bytes "2,2\n,\n5" ++ 255 ∷ []) ≡ names 1 3 1)
+
+-- 2: an eleventh digit
+abbrev pub Refused-2 : Type 0
+Refused-2 =
+    (answer (bytes "2,00000000002\n") ≡ names 2 1 2)
+    × (answer (bytes "2,2\n00000000005,\n,\n") ≡ names 2 2 1)
+    × (answer (replicate 4096 49) ≡ names 2 1 1)
+
+-- 3: the ended field exceeds 2147483646, also where 4 or 5 would apply
+abbrev pub Refused-3 : Type 0
+Refused-3 =
+    (answer (bytes "1,2147483647\n") ≡ names 3 1 2)
+    × (answer (bytes "2147483647\n") ≡ names 3 1 1)
+    × (answer (bytes "2,2\n,\n,9999999999\n") ≡ names 3 3 2)
+
+-- 4: too few fields, or a comma after the last, also where 5 would apply
+abbrev pub Refused-4 : Type 0
+Refused-4 =
+    (answer (bytes "17\n") ≡ names 4 1 1)
+    × (answer (bytes "2,2,") ≡ names 4 1 2)
+    × (answer (bytes "17,17,") ≡ names 4 1 2)
+    × (answer (bytes "2,2\n5\n") ≡ names 4 2 1)
+    × (answer (bytes "2,3\n,,\n,,,\n") ≡ names 4 3 3)
+
+-- 5: H or W empty or outside 2..16, the first bad one
+abbrev pub Refused-5 : Type 0
+Refused-5 =
+    (answer (bytes ",2\n") ≡ names 5 1 1)
+    × (answer (bytes "2,\n") ≡ names 5 1 2)
+    × (answer (bytes "2,1\n") ≡ names 5 1 2)
+    × (answer (bytes "17,17\n") ≡ names 5 1 1)
+    × (answer (bytes "16,17\n") ≡ names 5 1 2)
+
+-- 6: the file ends before the last row does, or has a byte after it, whatever byte that is
+abbrev pub Refused-6 : Type 0
+Refused-6 =
+    (answer [] ≡ names 6 1 1)
+    × (answer (bytes "2,2") ≡ names 6 1 2)
+    × (answer (bytes "2,2\n") ≡ names 6 2 1)
+    × (answer (bytes "2,2\n5,\n,5") ≡ names 6 3 2)
+    × (answer (bytes "2,2\n5,\n,5\n\n") ≡ names 6 4 1)
+    × (answer (bytes "2,2\n5,\n,5\nx") ≡ names 6 4 1)
+
+-- a declined grid is 0, 0, all blank
+abbrev pub Declined-read : Type 0
+Declined-read =
+    read (bytes "2,2\n5,\n,5")
+    ≡ record { number = 6; line = 3; field = 2; height = 0; width = 0; cells = replicate 256 blank }
+
+pub known-files :
+    K10 × K11 × K12 × Example-read × Leading-zeros × Longest-read
+    × Refused-1 × Refused-2 × Refused-3 × Refused-4 × Refused-5 × Refused-6 × Declined-read
+unfolding is-size most-digits bytes is-digit is-comma is-line-end is-allowed blank no-cells start in-header fields-due is-complete field-cell bad-size refusal with-digit begun after accepted declined read-from read answer cell longest-row longest-rows longest-file
+known-files = (
+  (refl, refl, refl),
+  refl,
+  refl,
+  refl,
+  (refl, refl, refl),
+  (refl, refl),
+  (refl, refl, refl, refl, refl),
+  (refl, refl, refl),
+  (refl, refl, refl),
+  (refl, refl, refl, refl, refl),
+  (refl, refl, refl, refl, refl),
+  (refl, refl, refl, refl, refl, refl),
+  refl,
+)
+
+-- ## Printed texts
+
+-- the one layout of document 01's file: down from its first pad, then right to its last
+unfoldable pub example-found : Found
+example-found =
+    record {
+      outcome = 0;
+      layouts = 1;
+      visited = 2;
+      fewest = 2;
+      records = (0 ∷ 2 ∷ 0 ∷ 1 ∷ 0 ∷ 2 ∷ 0 ∷ 1 ∷ 0 ∷ []) ∷ [];
+    }
+
+abbrev pub Example-printed : Type 0
+Example-printed =
+    printed (λ height width cells. example-found) (bytes "2,2\n5,\n,5\n") ≡ bytes "1,2,2,0\n1,2,2010\n"
+
+abbrev pub Refused-printed : Type 0
+Refused-printed =
+    printed (λ height width cells. example-found) (bytes "2,2\n1O,\n,1O\n") ≡ bytes "refused,1,2,1\n"
+
+-- numbers in shortest digits, up to the largest of 64 bits
+abbrev pub Decimals : Type 0
+Decimals =
+    (decimal 0 ≡ bytes "0")
+    × (decimal 9 ≡ bytes "9")
+    × (decimal 10 ≡ bytes "10")
+    × (decimal 481 ≡ bytes "481")
+    × (decimal 1000000 ≡ bytes "1000000")
+    × (decimal 18446744073709551615 ≡ bytes "18446744073709551615")
+
+pub known-texts : Example-printed × Refused-printed × Decimals
+unfolding example-found is-size most-digits bytes is-digit is-comma is-line-end is-allowed blank no-cells start in-header fields-due is-complete field-cell bad-size refusal with-digit begun after accepted declined read-from read is-line lines digit-byte digits-before decimal line-at pad-code codes-from codes comma line-end summary-line layout-line refusal-line layout-lines found-text reading-text printed
+known-texts = (refl, refl, (refl, refl, refl, refl, refl, refl))

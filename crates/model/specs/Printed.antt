@@ -1,0 +1,113 @@
+-- What the program `routes` prints, as bytes: decimal numbers in shortest digits, the summary line, a layout's line, the
+-- line of a refused file, and the whole of it for a reading and what a search found. Assumes nothing.
+use Prim.Native.Nat.{ℕ, zero, suc, _+_, _*_, _-_, _/_, _%_}
+use mathlib.Core.Bool.{Bool, true, false, not, _&&_}
+use mathlib.Core.List.{List, [], _∷_, _++_}
+use lib.ListN.{length, take, getD}
+use lib.IntN.{ℤ}
+use lib.Dec.{eqb, ltb}
+use Rattle.model.specs.Choice.{if_then_else_}
+use Rattle.model.specs.Bounds.{is-size}
+use Rattle.model.specs.Text.{bytes}
+use Rattle.model.specs.Records.{lines, is-line}
+use Rattle.model.specs.GridFile.{Reading, read}
+
+-- ## Numbers
+
+-- the byte of a digit
+unfoldable pub digit-byte : ℕ → ℕ
+digit-byte digit = 48 + digit
+
+-- the digits of a number in front of a text; the first argument bounds how many there are
+unfoldable pub digits-before : ℕ → ℕ → List ℕ → List ℕ
+digits-before zero number text = text
+digits-before (suc more) number text =
+    elim (ltb number 10) [
+      | true ↦ digit-byte number ∷ text
+      | false ↦ digits-before more (number / 10) (digit-byte (number % 10) ∷ text)
+    ]
+
+-- a number in its shortest decimal digits: it has no more digits than itself and one more
+unfoldable pub decimal : ℕ → List ℕ
+decimal number = digits-before (suc number) number []
+
+-- ## Codes
+
+-- 1 if the place of a record's field holds a line, else 0
+unfoldable pub line-at : ℕ → List ℕ → ℕ → ℕ → ℕ
+line-at width layout row column = if is-line (getD layout (row * (2 * width - 1) + column) 0) then 1 else 0
+
+-- the code of pad (y, x) is right + 2 × down: place (2y, 2x+1) joins it to the right, (2y+1, 2x) downward
+unfoldable pub pad-code : ℕ → ℕ → List ℕ → ℕ → ℕ → ℕ
+pad-code height width layout y x =
+    (if ltb (x + 1) width then line-at width layout (2 * y) (2 * x + 1) else 0)
+    + 2 * (if ltb (y + 1) height then line-at width layout (2 * y + 1) (2 * x) else 0)
+
+-- the codes of so many pads from an index on, one digit each
+unfoldable pub codes-from : ℕ → ℕ → List ℕ → ℕ → ℕ → List ℕ
+codes-from height width layout zero index = []
+codes-from height width layout (suc more) index =
+    digit-byte (pad-code height width layout (index / width) (index % width))
+    ∷ codes-from height width layout more (index + 1)
+
+-- the codes of the pads in index order
+unfoldable pub codes : ℕ → ℕ → List ℕ → List ℕ
+codes height width layout = codes-from height width layout (height * width) 0
+
+-- ## Lines, each ended by 0A
+
+unfoldable pub comma : List ℕ
+comma = bytes ","
+
+unfoldable pub line-end : List ℕ
+line-end = bytes "\n"
+
+-- layouts, visited, fewest, outcome
+unfoldable pub summary-line : ℕ → ℕ → ℕ → ℕ → List ℕ
+summary-line layouts visited fewest outcome =
+    decimal layouts ++ comma ++ decimal visited ++ comma ++ decimal fewest ++ comma ++ decimal outcome ++ line-end
+
+-- a layout's number from 1, its lines, its codes
+unfoldable pub layout-line : ℕ → ℕ → ℕ → List ℕ → List ℕ
+layout-line height width number layout =
+    decimal number ++ comma ++ decimal (lines layout) ++ comma ++ codes height width layout ++ line-end
+
+-- the word, number, line, field
+unfoldable pub refusal-line : ℕ → ℕ → ℕ → List ℕ
+refusal-line number line field =
+    bytes "refused," ++ decimal number ++ comma ++ decimal line ++ comma ++ decimal field ++ line-end
+
+-- ## The whole
+
+-- what a search gives back: its outcome, the numbers of layouts and visited boards, the fewest lines, and the records
+pub record Found : Type 0 where
+  pub outcome : ℕ
+  pub layouts : ℕ
+  pub visited : ℕ
+  pub fewest : ℕ
+  pub records : List (List ℕ)
+
+-- one line for each layout, numbered on from a number
+unfoldable pub layout-lines : ℕ → ℕ → ℕ → List (List ℕ) → List ℕ
+layout-lines height width number [] = []
+layout-lines height width number (layout ∷ layouts) =
+    layout-line height width number layout ++ layout-lines height width (number + 1) layouts
+
+unfoldable pub found-text : ℕ → ℕ → Found → List ℕ
+found-text height width found =
+    summary-line (found .layouts) (found .visited) (found .fewest) (found .outcome)
+    ++ layout-lines height width 1 (found .records)
+
+-- a refused file prints one line; an accepted one what the search of its H, W and HW cells finds
+unfoldable pub reading-text : (ℕ → ℕ → List ℤ → Found) → Reading → List ℕ
+reading-text search reading =
+    elim (reading .number) [
+      | zero ↦
+          found-text (reading .height) (reading .width)
+          (search (reading .height) (reading .width) (take (reading .height * reading .width) (reading .cells)))
+      | suc n ↦ refusal-line (suc n) (reading .line) (reading .field)
+    ]
+
+-- what `routes` prints for the bytes of standard input: of these the first 4,096 are read
+unfoldable pub printed : (ℕ → ℕ → List ℤ → Found) → List ℕ → List ℕ
+printed search input = reading-text search (read (take 4096 input))

@@ -1,0 +1,10 @@
+-- A quoted text as the list of its bytes, so that files and printed lines can be written as they look. Assumes nothing.
+use Prim.Native.Nat.{ℕ}
+use Prim.Native.Char.{Char, code}
+use Prim.Native.String.{String, [] as no-text, _∷_ as _then_}
+use mathlib.Core.List.{List, [], _∷_}
+
+-- of texts whose characters are all below 128, which is one byte each
+unfoldable pub bytes : String → List ℕ
+bytes no-text = []
+bytes (_then_ character rest) = code character ∷ bytes rest
