@@ -1,16 +1,19 @@
 -- The known grids K1 to K12 of document 01, proved together as one fact of the definitions, by computation: `known-grids`, at the end.
 -- Nothing else is assumed; the definitions are those of the search, the ends and the grid file.
-use Prim.Native.Nat.{ℕ, zero, suc, _+_}
+use Prim.Native.Nat.{ℕ, zero, suc, _+_, _*_}
 use mathlib.Core.Path.{_≡_, refl}
 use mathlib.Core.Bool.{Bool, true, false}
-use mathlib.Core.List.{List, [], _∷_, map}
-use lib.ListN.{getD, length}
+use mathlib.Core.List.{List, [], _∷_}
+use lib.ListN.{getD, length, replicate}
 use lib.IntN.{ℤ, pos, negsuc}
-use Rattle.rules.specs.Grid.{Cell, cell-of, blank-cell, Grid, grid-of, places, place-at}
+use Rattle.rules.specs.Grid.{Cell, cell-of, blank-cell, Grid, grid-of, places, place-at, place-by-parity}
 use Rattle.rules.specs.Record.{codes, drawing-of, field, record-lines, tabulate}
 use Rattle.model.specs.Board.{fresh, end-number, State, decide, check, after-store, cannot-join, join-ends, check-items, settled, decide-first, degree, undecideds, lines, keep-aparts, around, do-item, do-items, shape-items, barred, joined-ends, put-end, put-end-at, set-flag, set-edge, enough}
 use Rattle.model.specs.KnownFiles.{K10 as Largest-code-read, K11 as Letter-refused, K12 as One-row-refused, known-files}
-use Rattle.model.specs.Search.{Run, scan, search, fewest, backtrack, try, degree-so-far, next-pad, board-record}
+use Rattle.model.specs.Bounds.{is-size}
+use Rattle.model.specs.Refusals.{grid-refusal, is-cell, first-bad-cell}
+use Rattle.model.specs.Records.{has-record, record-length, record-at}
+use Rattle.model.specs.Search.{Run, Solved, solve, concat, scan, search, fewest, backtrack, try, degree-so-far, next-pad, board-record}
 
 -- what document 01 tells of a grid: layouts, visited, fewest, and the codes of each layout
 pub record Known : Type 0 where
@@ -19,11 +22,21 @@ pub record Known : Type 0 where
   pub fewest-lines : ℕ
   pub layout-codes : List (List ℕ)
 
+-- solved with a limit that is not reached and room for four records
 unfoldable pub known : ℕ → ℕ → List ℤ → Known
 known height width cells =
     let g = grid-of height width cells in
-    let run = scan 1000000 (places height width) 0 61504 (search g) in
-    record { layouts = length (run .records); visited = run .visited; fewest-lines = fewest (run .records); layout-codes = map (λ r. codes g (drawing-of width r)) (run .records) }
+    let s = solve height width cells 1000000 (replicate (4 * places height width) 7) in
+    record {
+      layouts = s .layouts;
+      visited = s .visited;
+      fewest-lines = s .fewest-lines;
+      layout-codes = tabulate (λ k. codes g (drawing-of width (record-at height width (s .layouts) k (s .buffer)))) 0 (s .layouts);
+    }
+
+abbrev solved-as : (outcome layouts visited fewest : ℕ) → List ℕ → Solved
+solved-as outcome layouts visited fewest buffer =
+    record { number = 0; index = 0; outcome = outcome; layouts = layouts; visited = visited; fewest-lines = fewest; buffer = buffer }
 
 pub record KnownGrids : Type 0 where
   -- `,/,`
@@ -42,6 +55,9 @@ pub record KnownGrids : Type 0 where
   pub K7 : known 2 2 ((pos 5) ∷ blank-cell ∷ blank-cell ∷ blank-cell ∷ []) ≡ record { layouts = 0; visited = 1; fewest-lines = 481; layout-codes = [] }
   -- `,5,/5,6,/,,6`
   pub K8 : known 3 3 (blank-cell ∷ (pos 5) ∷ blank-cell ∷ (pos 5) ∷ (pos 6) ∷ blank-cell ∷ blank-cell ∷ blank-cell ∷ (pos 6) ∷ []) ≡ record { layouts = 1; visited = 3; fewest-lines = 4; layout-codes = (3 ∷ 0 ∷ 0 ∷ 0 ∷ 2 ∷ 0 ∷ 0 ∷ 1 ∷ 0 ∷ []) ∷ [] }
+  -- limit 1 on K1 gives outcome 1, visited 1; 8 bytes on K1 give outcome 2, visited 2; neither writes a byte
+  pub K1-spent : solve 2 2 (replicate 4 blank-cell) 1 (replicate 9 7) ≡ solved-as 1 0 1 481 (replicate 9 7)
+  pub K1-full : solve 2 2 (replicate 4 blank-cell) 1000000 (replicate 8 7) ≡ solved-as 2 0 2 481 (replicate 8 7)
   -- clue 0 is end -2, clue 2147483646 is end -2147483648
   pub K9 : (end-number (fresh (grid-of 2 2 (pos 0 ∷ pos 2147483646 ∷ blank-cell ∷ blank-cell ∷ [])) .end 0) ≡ negsuc 1)
       × (end-number (fresh (grid-of 2 2 (pos 0 ∷ pos 2147483646 ∷ blank-cell ∷ blank-cell ∷ [])) .end 1) ≡ negsuc 2147483647)
@@ -52,6 +68,6 @@ pub record KnownGrids : Type 0 where
   -- header `1,2` gives 5, line 1, field 1
   pub K12 : One-row-refused
 
-known-grids : KnownGrids
-unfolding known grid-of cell-of codes drawing-of field record-lines tabulate place-at scan search fewest backtrack try degree-so-far next-pad board-record fresh end-number decide check after-store cannot-join join-ends check-items settled decide-first degree undecideds lines keep-aparts around do-item do-items shape-items barred joined-ends put-end put-end-at set-flag set-edge enough
-known-grids = record { K1 = refl; K2 = refl; K3 = refl; K4 = refl; K5 = refl; K6 = refl; K7 = refl; K8 = refl; K9 = (refl, refl); K10 = known-files .0; K11 = known-files .1; K12 = known-files .2 }
+pub known-grids : KnownGrids
+unfolding known solve concat grid-refusal is-size is-cell first-bad-cell has-record record-length record-at grid-of cell-of codes drawing-of field record-lines tabulate place-at place-by-parity scan search fewest backtrack try degree-so-far next-pad board-record fresh end-number decide check after-store cannot-join join-ends check-items settled decide-first degree undecideds lines keep-aparts around do-item do-items shape-items barred joined-ends put-end put-end-at set-flag set-edge enough
+known-grids = record { K1 = refl; K2 = refl; K3 = refl; K4 = refl; K5 = refl; K6 = refl; K7 = refl; K8 = refl; K1-spent = refl; K1-full = refl; K9 = (refl, refl); K10 = known-files .0; K11 = known-files .1; K12 = known-files .2 }

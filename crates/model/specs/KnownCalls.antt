@@ -7,7 +7,8 @@ use lib.IntN.{ℤ, pos, negsuc}
 use Rattle.model.specs.Bounds.{is-size}
 use Rattle.model.specs.GridFile.{blank}
 use Rattle.model.specs.Refusals.{is-cell, first-bad-cell, grid-refusal}
-use Rattle.model.specs.Records.{record-length, is-line, lines, has-record, record-at, shorter}
+use Rattle.rules.specs.Record.{record-lines}
+use Rattle.model.specs.Records.{record-length, has-record, record-at, shorter}
 
 -- sizes first, then the number of cells, then the first bad cell; codes 0 and 2147483646 are sound
 abbrev pub Grids : Type 0
@@ -49,5 +50,5 @@ Shorter-of-two =
     × (shorter [] [] ≡ [])
 
 pub known-records : Parts × Shorter-of-two
-unfolding two-records is-size record-length is-line lines has-record record-at shorter
+unfolding two-records is-size record-length record-lines has-record record-at shorter
 known-records = ((refl, refl, refl, refl, refl, refl), (refl, refl, refl, refl, refl))

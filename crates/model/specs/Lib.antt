@@ -10,6 +10,8 @@ pub mod Records
 pub mod GridFile
 pub mod Printed
 pub mod Routes
-pub mod Known
 pub mod KnownFiles
 pub mod KnownCalls
+pub mod Known
+pub mod KnownRoutes
+pub mod Sequences

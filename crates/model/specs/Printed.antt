@@ -9,7 +9,8 @@ use lib.Dec.{eqb, ltb}
 use Rattle.model.specs.Choice.{if_then_else_}
 use Rattle.model.specs.Bounds.{is-size}
 use Rattle.model.specs.Text.{bytes}
-use Rattle.model.specs.Records.{lines, is-line}
+use Rattle.rules.specs.Grid.{field-side}
+use Rattle.rules.specs.Record.{record-lines, undecided-byte, line-byte}
 use Rattle.model.specs.GridFile.{Reading, read}
 
 -- ## Numbers
@@ -35,24 +36,24 @@ decimal number = digits-before (suc number) number []
 
 -- 1 if the place of a record's field holds a line, else 0
 unfoldable pub line-at : ℕ → List ℕ → ℕ → ℕ → ℕ
-line-at width layout row column = if is-line (getD layout (row * (2 * width - 1) + column) 0) then 1 else 0
+line-at width layout row column = if eqb (getD layout (row * field-side width + column) undecided-byte) line-byte then 1 else 0
 
 -- the code of pad (y, x) is right + 2 × down: place (2y, 2x+1) joins it to the right, (2y+1, 2x) downward
-unfoldable pub pad-code : ℕ → ℕ → List ℕ → ℕ → ℕ → ℕ
-pad-code height width layout y x =
+unfoldable pub code-of-pad : ℕ → ℕ → List ℕ → ℕ → ℕ → ℕ
+code-of-pad height width layout y x =
     (if ltb (x + 1) width then line-at width layout (2 * y) (2 * x + 1) else 0)
     + 2 * (if ltb (y + 1) height then line-at width layout (2 * y + 1) (2 * x) else 0)
 
 -- the codes of so many pads from an index on, one digit each
-unfoldable pub codes-from : ℕ → ℕ → List ℕ → ℕ → ℕ → List ℕ
-codes-from height width layout zero index = []
-codes-from height width layout (suc more) index =
-    digit-byte (pad-code height width layout (index / width) (index % width))
-    ∷ codes-from height width layout more (index + 1)
+unfoldable pub code-digits-from : ℕ → ℕ → List ℕ → ℕ → ℕ → List ℕ
+code-digits-from height width layout zero index = []
+code-digits-from height width layout (suc more) index =
+    digit-byte (code-of-pad height width layout (index / width) (index % width))
+    ∷ code-digits-from height width layout more (index + 1)
 
 -- the codes of the pads in index order
-unfoldable pub codes : ℕ → ℕ → List ℕ → List ℕ
-codes height width layout = codes-from height width layout (height * width) 0
+unfoldable pub code-digits : ℕ → ℕ → List ℕ → List ℕ
+code-digits height width layout = code-digits-from height width layout (height * width) 0
 
 -- ## Lines, each ended by 0A
 
@@ -70,7 +71,7 @@ summary-line layouts visited fewest outcome =
 -- a layout's number from 1, its lines, its codes
 unfoldable pub layout-line : ℕ → ℕ → ℕ → List ℕ → List ℕ
 layout-line height width number layout =
-    decimal number ++ comma ++ decimal (lines layout) ++ comma ++ codes height width layout ++ line-end
+    decimal number ++ comma ++ decimal (record-lines layout) ++ comma ++ code-digits height width layout ++ line-end
 
 -- the word, number, line, field
 unfoldable pub refusal-line : ℕ → ℕ → ℕ → List ℕ

@@ -1,5 +1,4 @@
--- The records of an answer buffer: how long one is, record k, the lines of a record and the shorter of two.
--- Assumes nothing.
+-- The records of an answer buffer: how long one is, record k, and the shorter of two. It rests on the rules' Record.antt.
 use Prim.Native.Nat.{ℕ, zero, suc, _+_, _*_, _-_}
 use mathlib.Core.Bool.{Bool, true, false, not, _&&_, _||_}
 use mathlib.Core.List.{List, [], _∷_}
@@ -7,20 +6,12 @@ use lib.ListN.{length, take, drop}
 use lib.Dec.{eqb, ltb, leb}
 use Rattle.model.specs.Choice.{if_then_else_}
 use Rattle.rules.specs.Grid.{places}
+use Rattle.rules.specs.Record.{record-lines}
 use Rattle.model.specs.Bounds.{is-size}
 
 -- a record is the field of 2H-1 by 2W-1 places, row by row
 unfoldable pub record-length : ℕ → ℕ → ℕ
 record-length height width = places height width
-
--- a byte of a record: 1 is a line
-unfoldable pub is-line : ℕ → Bool
-is-line byte = eqb byte 1
-
--- the number of lines of a record
-unfoldable pub lines : List ℕ → ℕ
-lines [] = 0
-lines (byte ∷ bytes) = if is-line byte then suc (lines bytes) else lines bytes
 
 -- is there a record k: sound sizes, k below the given count, and a buffer that does not end too soon?
 unfoldable pub has-record : ℕ → ℕ → ℕ → ℕ → List ℕ → Bool
@@ -39,5 +30,5 @@ record-at height width count k buffer =
 unfoldable pub shorter : List ℕ → List ℕ → List ℕ
 shorter first second =
     if not (eqb (length first) (length second)) then []
-    else if ltb (lines second) (lines first) then second
+    else if ltb (record-lines second) (record-lines first) then second
     else first
