@@ -3,6 +3,7 @@ pub mod Choice
 pub mod Text
 pub mod Bounds
 pub mod Refusals
+pub mod RefusalLaws
 pub mod Board
 pub mod Calls
 pub mod Search
