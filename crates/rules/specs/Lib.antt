@@ -4,3 +4,5 @@ pub mod Drawing
 pub mod Record
 pub mod Places
 pub mod RecordLaws
+pub mod Sums
+pub mod LineCount

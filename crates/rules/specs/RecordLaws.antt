@@ -96,14 +96,14 @@ module _ (g : Grid) (wide : 2 ≤ g .width) where
   past-row : (row column : ℕ) → field-side (g .height) ≤ row → places (g .height) (g .width) ≤ row * field-side (g .width) + column
   past-row row column past = let rows : places (g .height) (g .width) ≤ row * field-side (g .width) = mul-le-mul-right (field-side (g .width)) past in omega arith
 
-  off-line : (D : Drawing) → Placed g D → (e : Edge) → (OnBoard g e → ⊥) → drawn D e ≡ false
+  pub off-line : (D : Drawing) → Placed g D → (e : Edge) → (OnBoard g e → ⊥) → drawn D e ≡ false
   off-line D placed e off = go (drawn D e) refl
     where
       go : (b : Bool) → drawn D e ≡ b → drawn D e ≡ false
       go true h = absurd (off (placed e h))
       go false h = h
 
-  is-line-byte : (b : Bool) → eqb (byte-of b) line-byte ≡ b
+  pub is-line-byte : (b : Bool) → eqb (byte-of b) line-byte ≡ b
   is-line-byte true = refl
   is-line-byte false = refl
 
