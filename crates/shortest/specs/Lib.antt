@@ -1,0 +1,10 @@
+pub mod Chains
+pub mod Exchange
+pub mod Shortcut
+pub mod Edges
+pub mod Ring
+pub mod Moves
+pub mod Weight
+pub mod Step
+pub mod Descent
+pub mod Shortest
