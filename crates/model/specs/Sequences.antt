@@ -42,7 +42,7 @@ replay b (call ∷ calls) = let a = do-call b call in seen a ∷ replay (a .boar
 abbrev after : ℕ → List ℕ → List ℤ → Bool → Seen
 after answer edges ends flag = record { answer = answer; edges = edges; ends = ends; flag = flag }
 
--- READINGS point 1: in a square the side before the opposite edge
+-- in a square the side before the opposite edge
 -- Refuses: (g) in a square, the opposite edge set before the side; (h) no flag test after a decision nested in a square; (h) no flag test
 -- after a pad check; the second pad checked before the first
 abbrev Sequence-1 : Type 0
@@ -54,7 +54,7 @@ Sequence-1 =
     ∷ after 2 (0 ∷ 1 ∷ 0 ∷ 2 ∷ 0 ∷ 1 ∷ 0 ∷ 0 ∷ 0 ∷ []) ((negsuc 1) ∷ (negsuc 0) ∷ (negsuc 1) ∷ (negsuc 0) ∷ []) true
     ∷ []
 
--- READINGS point 2: the down-left corner before the down-right
+-- the down-left corner before the down-right
 -- Refuses: (b) a corner tested only when its right or left edge comes last; (e) the two corners of a downward edge in the other order; no
 -- bars; (g) in a square, the opposite edge set before the side; (h) no flag test after a decision nested in a square; (h) no flag test
 -- after a pad check; (h) no flag test after a decision that keeps ends apart; the second pad checked before the first; different clue ends
@@ -68,7 +68,7 @@ Sequence-2 =
     ∷ after 0 (0 ∷ 1 ∷ 0 ∷ 1 ∷ 0 ∷ 1 ∷ 0 ∷ 1 ∷ 0 ∷ 2 ∷ 0 ∷ 0 ∷ 0 ∷ 2 ∷ 0 ∷ 2 ∷ 0 ∷ 2 ∷ 0 ∷ 1 ∷ 0 ∷ 2 ∷ 0 ∷ 0 ∷ 0 ∷ 0 ∷ 0 ∷ 2 ∷ 0 ∷ 2 ∷ 0 ∷ 1 ∷ 0 ∷ 2 ∷ 0 ∷ 1 ∷ 0 ∷ 0 ∷ 0 ∷ 0 ∷ 0 ∷ 0 ∷ 0 ∷ 0 ∷ 0 ∷ 2 ∷ 0 ∷ 1 ∷ 0 ∷ 2 ∷ 0 ∷ 0 ∷ 0 ∷ 0 ∷ 0 ∷ 0 ∷ 0 ∷ 0 ∷ 0 ∷ 1 ∷ 0 ∷ 2 ∷ 0 ∷ 0 ∷ 0 ∷ []) ((negsuc 0) ∷ (negsuc 0) ∷ (negsuc 3) ∷ (negsuc 0) ∷ (negsuc 0) ∷ (negsuc 3) ∷ (negsuc 3) ∷ (negsuc 1) ∷ (negsuc 2) ∷ (negsuc 3) ∷ (negsuc 0) ∷ (negsuc 0) ∷ (pos 17) ∷ (pos 13) ∷ (pos 14) ∷ (pos 15) ∷ (pos 16) ∷ (pos 12) ∷ (negsuc 0) ∷ (negsuc 1) ∷ (pos 20) ∷ []) true
     ∷ []
 
--- READINGS point 3: the down-left bar before the down-right; undo with no checkpoint gives the fresh board
+-- the down-left bar before the down-right; undo with no checkpoint gives the fresh board
 -- Refuses: (d) undo that forgets the flag; undo that forgets the ends; (f) the two bars of a downward edge in the other order; no bars;
 -- (g) in a square, the opposite edge set before the side; the second pad checked before the first
 abbrev Sequence-3 : Type 0
