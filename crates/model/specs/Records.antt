@@ -13,16 +13,16 @@ use Rattle.model.specs.Bounds.{is-size}
 unfoldable pub record-length : ℕ → ℕ → ℕ
 record-length height width = places height width
 
--- is there a record k: sound sizes, k below the given count, and a buffer that does not end too soon?
-unfoldable pub has-record : ℕ → ℕ → ℕ → ℕ → List ℕ → Bool
-has-record height width count k buffer =
+-- is there a record k in a buffer of so many bytes: sound sizes, k below the given count, and a buffer that does not end too soon?
+unfoldable pub has-record : ℕ → ℕ → ℕ → ℕ → ℕ → Bool
+has-record height width count k room =
     is-size height && is-size width && ltb k count
-    && leb (k * record-length height width + record-length height width) (length buffer)
+    && leb (k * record-length height width + record-length height width) room
 
 -- record k as a part of the buffer, empty where there is none
 unfoldable pub record-at : ℕ → ℕ → ℕ → ℕ → List ℕ → List ℕ
 record-at height width count k buffer =
-    if has-record height width count k buffer
+    if has-record height width count k (length buffer)
     then take (record-length height width) (drop (k * record-length height width) buffer)
     else []
 

@@ -1,0 +1,104 @@
+-- Laws of sizes and of the first bad cell, one cell at a time: what the tests of the code say of a cell and of the cells
+-- from an index on. Assumes nothing.
+use mathlib.Core.Path.{_≡_, refl, sym, ap, _∙_}
+use mathlib.Core.Bool.{Bool, true, false, not}
+use mathlib.Core.List.{List, [], _∷_}
+use Prim.Native.Nat.{ℕ, zero, suc, _+_, _*_, _≤_, _<_}
+use native.Mathlib.Nat.{mul-le-mul}
+use native.Mathlib.Numerals.{add-one}
+use native.Mathlib.Omega.{arith}
+use lib.ListN.{length, getD, drop, drop-of-length-le}
+use lib.Seq.{drop-cons}
+use lib.IntN.{ℤ, pos, negsuc}
+use lib.Signed.{ltZ}
+use mir.Syntax.{w32}
+use mir.Val.{SFits, toZ, ofZ}
+use mir.ValLaws.{toZ-ofZ}
+use borrow.Author.Tests.{ltb-true, ltb-false, lt-ltb, le-ltb, ne-eqb, eq-eqb, not-true, not-false}
+use Rattle.rules.specs.Grid.{largest-size, largest-code}
+use Rattle.model.specs.Bounds.{is-size}
+use Rattle.model.specs.RefusalLaws.{size-of-test}
+use Rattle.model.specs.Refusals.{is-cell, first-bad-cell, grid-refusal}
+
+never : {A : Type 0} → true ≡ false → A
+never e = let z : _≡_ {A = ℕ} 0 1 = cc in absurd (omega arith)
+
+-- ## The code's tests of a cell
+
+module _ (z : ℤ) (f : SFits w32 z) where
+  back : toZ w32 (ofZ w32 z) ≡ z
+  back = toZ-ofZ w32 z f
+
+  pub below-blank : ltZ (toZ w32 (ofZ w32 z)) (negsuc 0) ≡ true → is-cell z ≡ false
+  unfolding is-cell
+  below-blank h = go z (rw back at h)
+    where
+      go : (z : ℤ) → ltZ z (negsuc 0) ≡ true → is-cell z ≡ false
+      go (pos n) h = never (sym h)
+      go (negsuc n) h = ne-eqb n 0 (λ e. absurd (omega (arith, ltb-true 0 n h)))
+
+  pub above-codes : ltZ (pos 2147483646) (toZ w32 (ofZ w32 z)) ≡ true → is-cell z ≡ false
+  unfolding is-cell
+  above-codes h = go z (rw back at h)
+    where
+      go : (z : ℤ) → ltZ (pos 2147483646) z ≡ true → is-cell z ≡ false
+      go (pos n) h = rw h
+      go (negsuc n) h = never (sym h)
+
+  pub sound-cell : ltZ (toZ w32 (ofZ w32 z)) (negsuc 0) ≡ false → ltZ (pos 2147483646) (toZ w32 (ofZ w32 z)) ≡ false → is-cell z ≡ true
+  unfolding is-cell
+  sound-cell h k = go z (rw back at h) (rw back at k)
+    where
+      go : (z : ℤ) → ltZ z (negsuc 0) ≡ false → ltZ (pos 2147483646) z ≡ false → is-cell z ≡ true
+      go (pos n) h k = rw k
+      go (negsuc n) h k = eq-eqb n 0 (omega (arith, ltb-false 0 n h))
+
+-- ## The cells from an index on
+
+module _ (cells : List ℤ) (i : ℕ) where
+  pub bad-here : i < length cells → is-cell (getD cells i (pos 0)) ≡ false → i + first-bad-cell (drop i cells) ≡ first-bad-cell cells → i ≡ first-bad-cell cells
+  unfolding first-bad-cell
+  bad-here h b e = omega (arith, simp (drop-cons cells i (pos 0) h, b) at e)
+
+  pub sound-here : i < length cells → is-cell (getD cells i (pos 0)) ≡ true → i + first-bad-cell (drop i cells) ≡ first-bad-cell cells → i + 1 + first-bad-cell (drop (i + 1) cells) ≡ first-bad-cell cells
+  unfolding first-bad-cell
+  sound-here h b e = rw add-one (omega (arith, simp (drop-cons cells i (pos 0) h, b) at e))
+
+  pub none-left : length cells ≤ i → i + first-bad-cell (drop i cells) ≡ first-bad-cell cells → i ≡ first-bad-cell cells
+  unfolding first-bad-cell
+  none-left h e = omega (arith, simp (drop-of-length-le cells h) at e)
+
+-- ## The answers
+
+pub not-a-size : {r : Bool} (n : ℕ) → r ≡ is-size n → not r ≡ true → is-size n ≡ false
+not-a-size n e h = sym e ∙ not-true _ h
+
+pub a-size : {r : Bool} (n : ℕ) → r ≡ is-size n → not r ≡ false → is-size n ≡ true
+a-size n e h = sym e ∙ not-false _ h
+
+module _ (height width : ℕ) (cells : List ℤ) where
+  pub says-7-height : is-size height ≡ false → (7, 0) ≡ grid-refusal height width cells
+  unfolding grid-refusal
+  says-7-height h = simp h
+
+  module _ (h : is-size height ≡ true) where
+    pub says-7-width : is-size width ≡ false → (7, 0) ≡ grid-refusal height width cells
+    unfolding grid-refusal
+    says-7-width w = simp (h, w)
+
+    module _ (w : is-size width ≡ true) where
+      pub product-fits : height * width ≤ 256
+      product-fits = mul-le-mul (size-of-test height h .1) (size-of-test width w .1)
+
+      pub says-8 : (length cells ≡ height * width → ⊥) → (8, 0) ≡ grid-refusal height width cells
+      unfolding grid-refusal
+      says-8 l = simp (h, w, ne-eqb _ _ l)
+
+      module _ (l : length cells ≡ height * width) (bad : ℕ) (b : bad ≡ first-bad-cell cells) where
+        pub says-9 : bad < length cells → (9, bad) ≡ grid-refusal height width cells
+        unfolding grid-refusal
+        says-9 k = simp (h, w, eq-eqb _ _ l, ← b, lt-ltb _ _ k)
+
+        pub says-0 : length cells ≤ bad → (0, 0) ≡ grid-refusal height width cells
+        unfolding grid-refusal
+        says-0 k = simp (h, w, eq-eqb _ _ l, ← b, le-ltb _ _ k)

@@ -1,0 +1,92 @@
+// The port of grid.rs: the edge type with its three named states, and when a grid is declined. The grid itself is a lent list
+// of cells. What the calls answer is said in the crate `model`: specs/Refusals.antt there.
+ghost use mathlib.Core.Path.{_≡_};
+ghost use Prim.Native.Nat.{ℕ, _+_, _*_, _≤_, _<_};
+ghost use Rattle.model.specs.Bounds.{is-size};
+ghost use Rattle.model.specs.Refusals.{first-bad-cell, grid-refusal};
+ghost use Rattle.grid.specs.Answers.{refusal-says};
+
+// An edge of a board, as the byte that a record holds for it.
+pub struct Edge(pub u8);
+
+impl Edge {
+    pub const UNDECIDED: Edge = Edge(0);
+
+    pub const LINE: Edge = Edge(1);
+
+    pub const NONE: Edge = Edge(2);
+}
+
+// The largest and the least number of rows and of columns.
+pub const LEAST_SIZE: usize = 2;
+
+pub const LARGEST_SIZE: usize = 16;
+
+// The largest floor code.
+pub const LARGEST_CODE: i32 = 2147483646;
+
+// Why a grid is declined: document 01's number, 0 for an accepted one, and the index of the first bad cell.
+pub struct Refusal {
+    pub number: u8,
+    pub index: usize,
+}
+
+// Whether a grid may have this many rows, or columns.
+pub fn is_size(n: usize) -> bool
+    ensures { λ r. ⌜ r ≡ is-size n ⌝ }
+{
+    LEAST_SIZE <= n && n <= LARGEST_SIZE
+}
+
+// The index of the first cell that is neither blank nor a code, or the number of cells.
+fn first_bad_cell(cells: &[i32]) -> usize
+    ensures { λ r. ⌜ r ≡ first-bad-cell (now (cells .entry)) ⌝ }
+{
+    let mut i = 0;
+    while i < cells.len() {
+        let cell = cells[i];
+        if cell < -1 {
+            return i;
+        }
+        if cell > LARGEST_CODE {
+            return i;
+        }
+        i += 1;
+    }
+    i
+}
+
+// The refusals 7, 8 and 9, in this order, for a board or a search.
+pub fn grid_refusal(height: usize, width: usize, cells: &[i32]) -> Refusal
+    ensures { λ r. ⌜ refusal-says r ≡ grid-refusal height width (now (cells .entry)) ⌝ }
+{
+    if !is_size(height) {
+        return Refusal {
+            number: 7,
+            index: 0,
+        };
+    }
+    if !is_size(width) {
+        return Refusal {
+            number: 7,
+            index: 0,
+        };
+    }
+    if cells.len() != height * width {
+        return Refusal {
+            number: 8,
+            index: 0,
+        };
+    }
+    let bad = first_bad_cell(cells);
+    if bad < cells.len() {
+        return Refusal {
+            number: 9,
+            index: bad,
+        };
+    }
+    Refusal {
+        number: 0,
+        index: 0,
+    }
+}

@@ -1,0 +1,15 @@
+-- `gridfile::declined` meets its contract, from that of `no_cells`. Assumes nothing.
+use Rattle.gridfile.specs.Answers.{declined-reading}
+use borrow.Author.Needs.{needs}
+use Rattle.gridfile.proofs.declined.Statement.{statement}
+use Rattle.gridfile.proofs.declined.Tie as tie
+
+no-cells-requires : tie.Need-no-cells-requires
+no-cells-requires c κs = search needs
+
+returns : tie.Need-returns
+unfolding declined-reading
+returns c = rw (c .no-cells .ensures)
+
+pub declined-spec : {M : Type 1} → statement M
+declined-spec = tie.close (tie.spec no-cells-requires returns)

@@ -1,0 +1,83 @@
+-- `gridfile::field_at` meets its contract. The loop keeps `Passed`: what is left of the field gives the field's answer.
+-- Assumes nothing.
+use Rattle.gridfile.proofs.FieldLaws.{Passed, none-passed, one-passed, value-fits, digit-bounds, a-digit, not-digit, field-stops, field-too-long, field-unended}
+use Prim.Native.Nat.{ℕ, _+_, _-_, _*_, _^_, _≤_, _<_}
+use mathlib.Core.Path.{_≡_, refl, sym, _∙_}
+use lib.ListN.{length, drop}
+use native.Mathlib.Omega.{arith}
+use Rattle.gridfile.specs.Fields.{field-from, field-at}
+use Rattle.gridfile.proofs.field_at.Statement.{statement}
+use Rattle.gridfile.proofs.field_at.Tie as tie
+
+abbrev Inv-loop : tie.InvT-loop
+Inv-loop bytes from at₀ value₀ at value = Passed bytes from at value
+
+abbrev μ-loop : tie.MeasureT-loop
+μ-loop bytes from at₀ value₀ at value = length bytes - at
+
+loop-holds : tie.Need-loop-holds Inv-loop μ-loop
+loop-holds c = none-passed (c .before .args .bytes .now) (c .before .args .from)
+
+shared-slice-read-byte : tie.Need-shared-slice-read-byte Inv-loop μ-loop
+shared-slice-read-byte c = omega arith
+
+is-digit-requires : tie.Need-is-digit-requires Inv-loop μ-loop
+is-digit-requires c κs = tt
+
+ended-field-requires : tie.Need-ended-field-requires Inv-loop μ-loop
+ended-field-requires c κs = tt
+
+returns : tie.Need-returns Inv-loop μ-loop
+returns c = (c .ended-field .ensures) ∙ sym (field-stops _ _ _ _ (c .before .before .before .before .loop-test .taken) (not-digit _ (c .before .before .is-digit .ensures) (c .before .if1 .taken))) ∙ (c .before .before .before .before .before .loop .inv .left)
+
+sub-if2 : tie.Need-sub-if2 Inv-loop μ-loop
+sub-if2 c = omega arith
+
+returns-2 : tie.Need-returns-2 Inv-loop μ-loop
+returns-2 c = sym (field-too-long _ _ _ _ (c .before .before .before .before .loop-test .taken) (a-digit _ (c .before .before .is-digit .ensures) (c .before .if1 .left)) (c .if2 .taken)) ∙ (c .before .before .before .before .before .loop .inv .left)
+
+mul-value : tie.Need-mul-value Inv-loop μ-loop
+mul-value c = omega (arith, value-fits _ _ _ _ (c .before .before .before .before .before .loop .inv) (c .before .before .before .before .loop-test .taken) (a-digit _ (c .before .before .is-digit .ensures) (c .before .if1 .left)) (c .if2 .left))
+
+sub-value : tie.Need-sub-value Inv-loop μ-loop
+sub-value c = digit-bounds _ (a-digit _ (c .before .before .is-digit .ensures) (c .before .if1 .left)) .0
+
+cast-value : tie.Need-cast-value Inv-loop μ-loop
+cast-value c = omega (arith, digit-bounds _ (a-digit _ (c .before .before .is-digit .ensures) (c .before .if1 .left)) .1)
+
+add-value : tie.Need-add-value Inv-loop μ-loop
+add-value c = omega (arith, value-fits _ _ _ _ (c .before .before .before .before .before .loop .inv) (c .before .before .before .before .loop-test .taken) (a-digit _ (c .before .before .is-digit .ensures) (c .before .if1 .left)) (c .if2 .left))
+
+add-at : tie.Need-add-at Inv-loop μ-loop
+add-at c = omega arith
+
+loop-less : tie.Need-loop-less Inv-loop μ-loop
+loop-less c = omega arith
+
+loop-again : tie.Need-loop-again Inv-loop μ-loop
+loop-again c = one-passed _ _ _ _ (c .before .before .before .before .before .loop .inv) (c .before .before .before .before .loop-test .taken) (a-digit _ (c .before .before .is-digit .ensures) (c .before .if1 .left)) (c .if2 .left)
+
+returns-3 : tie.Need-returns-3 Inv-loop μ-loop
+returns-3 c = sym (field-unended _ _ _ _ (c .loop-test .left)) ∙ c .before .loop .inv .left
+
+pub field-at-spec : {M : Type 1} → statement M
+field-at-spec =
+    tie.close
+    (tie.spec
+    Inv-loop
+    μ-loop
+    loop-holds
+    shared-slice-read-byte
+    is-digit-requires
+    ended-field-requires
+    returns
+    sub-if2
+    returns-2
+    mul-value
+    sub-value
+    cast-value
+    add-value
+    add-at
+    loop-less
+    loop-again
+    returns-3)

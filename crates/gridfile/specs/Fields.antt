@@ -1,0 +1,43 @@
+-- What one field of a grid file gives, from its first byte on: its value and the place of the byte that ends it, or the
+-- number of its refusal. These are the refusals of document 01 that a field can have by itself: 1, 2, 3, and 6 where the
+-- file ends in it. Assumes nothing.
+use Prim.Native.Nat.{ℕ, _+_, _*_, _-_}
+use mathlib.Core.Bool.{Bool, true, false, not, _&&_}
+use mathlib.Core.List.{List, [], _∷_}
+use lib.ListN.{drop}
+use lib.Dec.{eqb, ltb}
+use lib.IntN.{ℤ, pos}
+use Rattle.model.specs.Choice.{if_then_else_}
+use Rattle.rules.specs.Grid.{largest-code}
+use Rattle.model.specs.Bounds.{most-digits}
+use Rattle.model.specs.GridFile.{is-digit, is-comma, is-line-end, is-allowed, blank}
+use Rattle.gridfile.specs.declared.Field.{Field}
+use Rattle.gridfile.specs.declared.Field.the-variants.{Value, Refused}
+
+-- at a byte that is no digit: 1 if it may not stand in a file, 3 if the value is too large, else the field has ended
+unfoldable pub ended-field : ℕ → ℕ → ℕ → Field
+ended-field byte value at =
+    if not (is-comma byte) && not (is-line-end byte) then Refused 1
+    else if ltb largest-code value then Refused 3
+    else Value value at
+
+-- the field from a place on, after some digits with a value
+unfoldable pub field-from : List ℕ → ℕ → ℕ → ℕ → Field
+field-from [] at digits value = Refused 6
+field-from (byte ∷ bytes) at digits value =
+    if not (is-digit byte) then ended-field byte value at
+    else if eqb digits most-digits then Refused 2
+    else field-from bytes (at + 1) (digits + 1) (value * 10 + (byte - 48))
+
+-- the field that begins at a place of the file
+unfoldable pub field-at : List ℕ → ℕ → Field
+field-at bytes from = field-from (drop from bytes) from 0 0
+
+-- the cell of a field with so many digits and a value: empty for blank
+unfoldable pub cell-of : ℕ → ℕ → ℤ
+cell-of digits value = if eqb digits 0 then blank else pos value
+
+-- document 01's number: 0 for a value
+abbrev pub field-number : Field → ℕ
+field-number (Value value at) = 0
+field-number (Refused number) = number

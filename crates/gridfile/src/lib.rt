@@ -1,0 +1,193 @@
+// Reading a grid file: the answer is H, W and 256 cells, or one numbered refusal with its line and field. The whole answer
+// is said by `read` of the crate `model`, specs/GridFile.antt there; specs/Fields.antt says what one field gives.
+ghost use mathlib.Core.Path.{_≡_};
+ghost use mathlib.Core.Bool.{true};
+ghost use Prim.Native.Nat.{ℕ, _+_, _-_, _*_, _≤_, _<_};
+ghost use lib.ListN.{length, drop, set};
+ghost use Rattle.rules.specs.Grid.{largest-code};
+ghost use Rattle.model.specs.Bounds.{is-size};
+ghost use Rattle.model.specs.GridFile.{is-digit, no-cells, read-from, read};
+ghost use Rattle.gridfile.specs.Fields.{field-at, ended-field, field-number, cell-of};
+ghost use Rattle.gridfile.specs.Answers.{reading-says, declined-reading, field-start};
+
+// The bytes that part fields and end lines, and the most digits of a field.
+const COMMA: u8 = 44;
+
+const LINE_END: u8 = 10;
+
+const ZERO: u8 = 48;
+
+const NINE: u8 = 57;
+
+const MOST_DIGITS: usize = 10;
+
+// What reading a file gives: number 0 and the grid, or a refusal with its line and field beside the empty grid.
+pub struct Reading {
+    pub number: u8,
+    pub line: usize,
+    pub field: usize,
+    pub height: usize,
+    pub width: usize,
+    pub cells: [i32; 256],
+}
+
+// What a field gives: its value and the place of the byte that ended it, or the number of its refusal.
+enum Field {
+    Value(usize, usize),
+    Refused(u8),
+}
+
+fn is_digit(byte: u8) -> bool
+    ensures { λ r. ⌜ r ≡ is-digit byte ⌝ }
+{
+    ZERO <= byte && byte <= NINE
+}
+
+// A field that ends, or should end, at a byte that is no digit.
+fn ended_field(byte: u8, value: usize, at: usize) -> Field
+    ensures { λ r. ⌜ r ≡ ended-field byte value at ⌝ }
+{
+    if byte != COMMA {
+        if byte != LINE_END {
+            return Field::Refused(1);
+        }
+    }
+    if value > grid::LARGEST_CODE as usize {
+        return Field::Refused(3);
+    }
+    Field::Value(value, at)
+}
+
+// The field that begins at a place.
+fn field_at(bytes: &[u8], from: usize) -> Field
+    ensures { λ r. ⌜ r ≡ field-at (now (bytes .entry)) from ⌝ }
+{
+    let mut at = from;
+    let mut value: usize = 0;
+    while at < bytes.len() {
+        let byte = bytes[at];
+        if !is_digit(byte) {
+            return ended_field(byte, value, at);
+        }
+        if at - from == MOST_DIGITS {
+            return Field::Refused(2);
+        }
+        value = value * 10 + (byte - ZERO) as usize;
+        at += 1;
+    }
+    Field::Refused(6)
+}
+
+// The number of a field's refusal, 0 for a value.
+fn field_number(field: Field) -> u8
+    ensures { λ r. ⌜ r ≡ field-number field ⌝ }
+{
+    match field {
+        Field::Value(_, _) => 0,
+        Field::Refused(number) => number,
+    }
+}
+
+// 256 blank cells.
+fn no_cells() -> [i32; 256]
+    ensures { λ r. ⌜ r ≡ no-cells ⌝ }
+{
+    [-1; 256]
+}
+
+// A cell gets what its field says: blank if the field had no digits, else the value.
+fn store_cell(cells: &mut [i32; 256], index: usize, digits: usize, value: usize)
+    requires { ⌜ (index < 256) × (value ≤ largest-code) ⌝ }
+    ensures { λ _. ⌜ now (cells .exit) ≡ set (now (cells .entry)) index (cell-of digits value) ⌝ }
+{
+    if digits == 0 {
+        cells[index] = -1;
+    } else {
+        cells[index] = value as i32;
+    }
+}
+
+// The answer of a declined file.
+fn declined(number: u8, line: usize, field: usize) -> Reading
+    ensures { λ r. ⌜ reading-says r ≡ declined-reading number line field ⌝ }
+{
+    Reading {
+        number,
+        line,
+        field,
+        height: 0,
+        width: 0,
+        cells: no_cells(),
+    }
+}
+
+// The rows of a file whose header has been read: from a place on, H rows of W fields each, and nothing after them.
+fn read_rows(bytes: &[u8], from: usize, height: usize, width: usize) -> Reading
+    requires { ⌜ (is-size height ≡ true) × (is-size width ≡ true) × (from ≤ length (now bytes)) ⌝ }
+    ensures { λ r. ⌜ reading-says r ≡ read-from (field-start 2 1 height width no-cells) (drop from (now (bytes .entry))) ⌝ }
+{
+    let mut cells = no_cells();
+    let mut index = 0;
+    let mut at = from;
+    let mut line = 2;
+    let mut field = 1;
+    while line < height + 2 {
+        let found = field_at(bytes, at);
+        let Field::Value(value, end) = found else {
+            return declined(field_number(found), line, field);
+        };
+        store_cell(&mut cells, index, end - at, value);
+        index += 1;
+        at = end + 1;
+        if bytes[end] == LINE_END {
+            if field < width {
+                return declined(4, line, field);
+            }
+            line += 1;
+            field = 1;
+        } else {
+            if field == width {
+                return declined(4, line, field);
+            }
+            field += 1;
+        }
+    }
+    if at < bytes.len() {
+        return declined(6, line, field);
+    }
+    Reading {
+        number: 0,
+        line: 0,
+        field: 0,
+        height,
+        width,
+        cells,
+    }
+}
+
+// The whole file.
+pub fn read(bytes: &[u8]) -> Reading
+    ensures { λ r. ⌜ reading-says r ≡ read (now (bytes .entry)) ⌝ }
+{
+    let first = field_at(bytes, 0);
+    let Field::Value(height, comma) = first else {
+        return declined(field_number(first), 1, 1);
+    };
+    if bytes[comma] == LINE_END {
+        return declined(4, 1, 1);
+    }
+    let second = field_at(bytes, comma + 1);
+    let Field::Value(width, end) = second else {
+        return declined(field_number(second), 1, 2);
+    };
+    if bytes[end] != LINE_END {
+        return declined(4, 1, 2);
+    }
+    if !grid::is_size(height) {
+        return declined(5, 1, 1);
+    }
+    if !grid::is_size(width) {
+        return declined(5, 1, 2);
+    }
+    read_rows(bytes, end + 1, height, width)
+}
