@@ -6,3 +6,7 @@ pub mod Places
 pub mod RecordLaws
 pub mod Sums
 pub mod LineCount
+pub mod Checked
+pub mod CheckedListed
+pub mod Examples
+pub mod Loops

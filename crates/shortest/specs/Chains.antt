@@ -1,15 +1,11 @@
 -- Laws of lines and chains that hold whatever the lines are: chains set end to end and turned round, what is known of a pad with two
 -- lines, and the lines of a pad carried over to other lines. It rests on the rules' Drawing.antt alone.
-use Prim.Native.Nat.{ℕ, zero, suc}
+use Prim.Native.Nat.{ℕ}
 use mathlib.Core.Path.{_≡_, refl, sym, _∙_, ap}
 use mathlib.Core.Logic.{_≢_, _⊎_, inl, inr, _↔_, ⊎-map, ⊎-elim}
-use native.Mathlib.Omega.{arith}
 use Rattle.rules.specs.Grid.{Cell, blank, clue}
+use Rattle.rules.specs.Places.{zero≢one}
 use Rattle.rules.specs.Drawing.{Relation, Joined, here, more, NoLine, OneLine, TwoLines, Wired}
-
--- anything follows where two unequal things would be equal
-pub impossible {ℓ} : {A : Type ℓ} → _≡_ {A = ℕ} 0 1 → A
-impossible e = absurd (omega arith)
 
 -- lines lead both ways
 abbrev pub Symmetric : Relation → Type 0
@@ -32,7 +28,7 @@ JoinSame cell L M = (u v : ℕ) → ClueAt cell u → ClueAt cell v → Joined L
 
 -- a pad is not both a clue and blank
 pub not-blank : (cell : ℕ → Cell) (v w : ℕ) → ClueAt cell v → cell w ≡ blank → v ≢ w
-not-blank cell v w (code, is-clue) is-blank e = impossible (cc)
+not-blank cell v w (code, is-clue) is-blank e = zero≢one (cc)
 
 -- a pad with two known lines is blank and has no other line
 module _ {cell : ℕ → Cell} {L : Relation} (wired : Wired cell L) {p a c : ℕ} (pa : L p a) (pc : L p c) (a≢c : a ≢ c) where

@@ -1,13 +1,12 @@
 -- From an ordinary drawing to a listed one: while some unit square allows a move, make it. A number falls with each move, so the moves
 -- end, and where none is left the drawing is listed. It rests on Step.antt.
-use Prim.Native.Nat.{ℕ, zero, suc, _+_, _≤_, _<_}
-use mathlib.Core.Path.{_≡_, refl, sym, _∙_, ap}
+use Prim.Native.Nat.{ℕ, zero, suc, _≤_, _<_}
+use mathlib.Core.Path.{refl}
 use mathlib.Core.Logic.{_⊎_, inl, inr, ⊎-elim}
 use native.Mathlib.Decide.{ℕ-discrete}
 use native.Mathlib.Omega.{arith}
 use Rattle.rules.specs.Grid.{right, Grid, pads, OnBoard}
 use Rattle.rules.specs.Drawing.{Drawing, Side, on-left, on-right, DiagonallyBelow, Corner, IsClue, Ordinary, Listed, SamePairs, number-of-lines}
-use Rattle.shortest.specs.Moves.{AsGood}
 use Rattle.shortest.specs.Weight.{weigh}
 use Rattle.shortest.specs.Step.{Better, Fine, pads-from, look}
 
@@ -20,27 +19,27 @@ pub record NoWorse (g : Grid) (D : Drawing) : Type 1 where
 
 -- look at the unit squares one by one
 scan : (g : Grid) → 2 ≤ g .width → (D : Drawing) → Ordinary g D → (n : ℕ) → ((v : ℕ) → v < n → Fine g D v) ⊎ Better g D
-scan g big D ord zero = inl (λ v h. absurd (omega arith))
-scan g big D ord (suc n) = ⊎-elim
+scan g wide D ordinary zero = inl (λ v h. absurd (omega arith))
+scan g wide D ordinary (suc n) = ⊎-elim
     (λ before. ⊎-elim (λ last. inl (λ v h. elim (ℕ-discrete v n) [ yes e ↦ rw e last | no ne ↦ before v (omega arith) ])) (λ b. inr b)
-    (look g big D ord n))
-    (λ b. inr b) (scan g big D ord n)
+    (look g wide D ordinary n))
+    (λ b. inr b) (scan g wide D ordinary n)
 
 -- where nothing is left to do the drawing is listed
 listed : (g : Grid) (D : Drawing) → Ordinary g D → ((v : ℕ) → v < pads g → Fine g D v) → Listed g D
 unfolding OnBoard
-listed g D ord fine = record { ordinary = ord; squares = λ v u. fine v (u .0 .0) .few u; corners = corners }
+listed g D ordinary fine = record { ordinary = ordinary; squares = λ v u. fine v (u .0 .0) .few u; corners = corners }
   where
     corners : (side : Side) (p q : ℕ) → DiagonallyBelow side (g .width) p q → Corner side D p → IsClue g q ⊎ Corner side D q
-    corners on-right p q below (h, k) = fine p (ord .placed (right p) h .0) .corner on-right q below (h, k)
+    corners on-right p q below (h, k) = fine p (ordinary .placed (right p) h .0) .corner on-right q below (h, k)
     corners on-left p q below ((u, e, h), k) =
-        fine u (ord .placed (right u) h .0) .corner on-left q (rw e below) ((u, refl, h), rw e k)
+        fine u (ordinary .placed (right u) h .0) .corner on-left q (rw e below) ((u, refl, h), rw e k)
 
 descend : (n : ℕ) (g : Grid) → 2 ≤ g .width → (D : Drawing) → Ordinary g D → weigh (pads-from g) (pads g) D < n → NoWorse g D
-descend zero g big D ord h = absurd (omega arith)
-descend (suc n) g big D ord h = ⊎-elim
-    (λ fine. record { drawing = D; listed = listed g D ord fine; same-pairs = λ u v cu cv. ((λ j. j), (λ j. j)); no-more-lines = omega arith })
-    (λ b. let r = descend n g big (b .next) (b .as-good .ordinary) (omega (arith, b .lighter)) in record {
+descend zero g wide D ordinary h = absurd (omega arith)
+descend (suc n) g wide D ordinary h = ⊎-elim
+    (λ fine. record { drawing = D; listed = listed g D ordinary fine; same-pairs = λ u v cu cv. ((λ j. j), (λ j. j)); no-more-lines = omega arith })
+    (λ b. let r = descend n g wide (b .next) (b .as-good .ordinary) (omega (arith, b .lighter)) in record {
       drawing = r .drawing;
       listed = r .listed;
       same-pairs = λ u v cu cv. (
@@ -49,7 +48,7 @@ descend (suc n) g big D ord h = ⊎-elim
       );
       no-more-lines = omega (arith, r .no-more-lines, b .no-more-lines);
     })
-    (scan g big D ord (pads g))
+    (scan g wide D ordinary (pads g))
 
 pub listed-no-worse : (g : Grid) → 2 ≤ g .width → (D : Drawing) → Ordinary g D → NoWorse g D
-listed-no-worse g big D ord = descend (suc (weigh (pads-from g) (pads g) D)) g big D ord (omega arith)
+listed-no-worse g wide D ordinary = descend (suc (weigh (pads-from g) (pads g) D)) g wide D ordinary (omega arith)

@@ -1,14 +1,14 @@
 -- A line between two pads is a drawn edge that joins them, and two pads are joined by one edge at most. One edge of a drawing is set to
 -- line or none and the others stay. With these laws nothing later goes by cases of right and down. It rests on the rules.
-use Prim.Native.Nat.{ℕ, zero, suc, _+_, _≤_, min, max}
+use Prim.Native.Nat.{ℕ, _≤_}
 use mathlib.Core.Path.{_≡_, refl, sym, _∙_, ap}
-use mathlib.Core.Logic.{_≢_, _⊎_, inl, inr, ⊎-elim, ⊎-swap, ite, if-pos, if-neg}
-use mathlib.Core.Bool.{Bool, true, false}
+use mathlib.Core.Logic.{_≢_, _⊎_, inl, inr, ite, if-pos, if-neg}
+use mathlib.Core.Bool.{Bool, true}
 use native.Mathlib.Decide.{ℕ-discrete}
 use native.Mathlib.Omega.{arith}
-use Rattle.rules.specs.Grid.{Edge, right, down, first, second}
+use Rattle.rules.specs.Grid.{Edge, right, down, first, second, Grid}
 use Rattle.rules.specs.Drawing.{Drawing, drawn, Line, rightward, leftward, downward, upward}
-use Rattle.shortest.specs.Chains.{impossible, Symmetric}
+use Rattle.rules.specs.Places.{zero≢one, edge-of-pads, no-edge-back}
 use Rattle.shortest.specs.Shortcut.{Pair}
 
 -- edge e joins the pads x and y: x is its first pad and y its second, or the other way round
@@ -33,9 +33,6 @@ edge-line width D x y (right v) (back p q) h = leftward (omega arith) (rw q h)
 edge-line width D x y (down v) (forth p q) h = downward (omega arith) (rw p h)
 edge-line width D x y (down v) (back p q) h = upward (omega arith) (rw q h)
 
-pub line-symmetric : (width : ℕ) (D : Drawing) → Symmetric (Line width D)
-line-symmetric width D x y l = let (e, j, h) = line-edge l in edge-line width D y x e (joins-back j) h
-
 -- an edge that joins p to q is another than one that joins x and y, neither of which is p
 pub other-edge : {width : ℕ} {e f : Edge} {x y p q : ℕ} → Joins width e x y → Joins width f p q → x ≢ p → y ≢ p → e ≢ f
 other-edge (forth ex ey) (forth fp fq) xp yp e = xp (cc)
@@ -57,26 +54,26 @@ same-pads (forth ex ey) (back fp fq) = inr ((cc), (cc))
 same-pads (back ex ey) (forth fp fq) = inr ((cc), (cc))
 same-pads (back ex ey) (back fp fq) = inl ((cc), (cc))
 
--- an edge leads from the lower of its pads to the higher
-pub lower-first : (width : ℕ) (e : Edge) {x y : ℕ} → Joins width e x y → (first e ≡ min x y) × (second width e ≡ max x y)
-lower-first width (right v) (forth p q) = omega arith
-lower-first width (right v) (back p q) = omega arith
-lower-first width (down v) (forth p q) = omega arith
-lower-first width (down v) (back p q) = omega arith
+-- the first pad of an edge is the lower one
+pub first-is-lower : (width : ℕ) (e : Edge) {x y : ℕ} → Joins width e x y → first e ≤ x
+first-is-lower width (right v) (forth p q) = omega arith
+first-is-lower width (right v) (back p q) = omega arith
+first-is-lower width (down v) (forth p q) = omega arith
+first-is-lower width (down v) (back p q) = omega arith
 
 -- where the width is at least 2, the two pads tell the edge
-pub same-edge : {width x y : ℕ} → 2 ≤ width → (e f : Edge) → Joins width e x y → Joins width f x y → e ≡ f
-same-edge {width} big (right u) (right v) i j = ap right (omega (arith, lower-first width (right u) i, lower-first width (right v) j))
-same-edge {width} big (down u) (down v) i j = ap down (omega (arith, lower-first width (down u) i, lower-first width (down v) j))
-same-edge {width} big (right u) (down v) i j = absurd (omega (arith, lower-first width (right u) i, lower-first width (down v) j))
-same-edge {width} big (down u) (right v) i j = absurd (omega (arith, lower-first width (down u) i, lower-first width (right v) j))
+pub same-edge : (g : Grid) → 2 ≤ g .width → {x y : ℕ} (e f : Edge) → Joins (g .width) e x y → Joins (g .width) f x y → e ≡ f
+same-edge g wide e f (forth p q) (forth r s) = edge-of-pads g wide e f (sym p ∙ r) (sym q ∙ s)
+same-edge g wide e f (back p q) (back r s) = edge-of-pads g wide e f (sym q ∙ s) (sym p ∙ r)
+same-edge g wide e f (forth p q) (back r s) = absurd (no-edge-back g wide e f (sym p ∙ r) (sym q ∙ s))
+same-edge g wide e f (back p q) (forth r s) = absurd (no-edge-back g wide e f (sym q ∙ s) (sym p ∙ r))
 
 -- are two edges the same
 unfoldable pub edge-discrete : (e f : Edge) → Dec (e ≡ f)
 edge-discrete (right u) (right v) = elim (ℕ-discrete u v) [ yes e ↦ yes (ap right e) | no n ↦ no (λ e. n (cc)) ]
 edge-discrete (down u) (down v) = elim (ℕ-discrete u v) [ yes e ↦ yes (ap down e) | no n ↦ no (λ e. n (cc)) ]
-edge-discrete (right u) (down v) = no (λ e. impossible (cc))
-edge-discrete (down u) (right v) = no (λ e. impossible (cc))
+edge-discrete (right u) (down v) = no (λ e. zero≢one (cc))
+edge-discrete (down u) (right v) = no (λ e. zero≢one (cc))
 
 -- the drawing D with edge e set to line or none
 unfoldable pub set-edge : Drawing → Edge → Bool → Drawing

@@ -1,10 +1,10 @@
 -- Two blank pads change places: where the lines M are the lines L with pads p and q exchanged, M is wired as well as L and joins the same
 -- clue pads. This is why a corner may be flipped onto the bare pad diagonally below it. It rests on Chains.antt.
-use Prim.Native.Nat.{ℕ, zero, suc}
-use mathlib.Core.Path.{_≡_, refl, sym, _∙_, ap}
-use mathlib.Core.Logic.{_≢_, _⊎_, inl, inr, _↔_, ⊎-map, ite, if-pos, if-neg}
+use Prim.Native.Nat.{ℕ}
+use mathlib.Core.Path.{_≡_, refl, sym, _∙_}
+use mathlib.Core.Logic.{_≢_, ⊎-map, ite, if-pos, if-neg}
 use native.Mathlib.Decide.{ℕ-discrete}
-use Rattle.rules.specs.Grid.{Cell, blank, clue}
+use Rattle.rules.specs.Grid.{Cell, blank}
 use Rattle.rules.specs.Drawing.{Relation, Joined, here, more, NoLine, Loop, Wired}
 use Rattle.shortest.specs.Chains.{Symmetric, ClueAt, JoinSame, not-blank, carry-none, carry-one, carry-two, still-apart, LinesRenamed}
 

@@ -1,10 +1,10 @@
 -- The ring of a unit square: its four pads a, b, c, d in the order in which one walks round it, beginning with any of them, and the four
 -- edges between them. A law about a ring holds of the unit square from every corner, so no case is proved twice. The four edges are
 -- drawn anew and all others stay. It rests on Edges.antt.
-use Prim.Native.Nat.{ℕ, zero, suc, _+_, _*_, _%_, _≤_, _<_}
+use Prim.Native.Nat.{ℕ, _+_, _%_, _≤_, _<_}
 use mathlib.Core.Path.{_≡_, refl, sym, _∙_, ap}
-use mathlib.Core.Logic.{_≢_, _⊎_, inl, inr, ⊎-elim}
-use mathlib.Core.Bool.{Bool, true, false}
+use mathlib.Core.Logic.{_≢_, ⊎-elim}
+use mathlib.Core.Bool.{Bool, true}
 use native.Mathlib.Decide.{ℕ-discrete}
 use native.Mathlib.Omega.{arith}
 use native.Mathlib.Nat.{add-mod-right, mod-add-mod, mod-eq-of-lt, mul-mod-left}
@@ -77,7 +77,7 @@ right-on-board g v (inside, column) = elim (ℕ-discrete (v + 1) (pads g)) [
 -- the ring of the unit square of pad v: v, the pad to the right, the pad below that, the pad below v
 unfoldable pub ring-at : (g : Grid) → 2 ≤ g .width → (v : ℕ) → UnitSquare g v → Ring g
 unfolding OnBoard
-ring-at g big v u = record {
+ring-at g wide v u = record {
   a = v;
   b = v + 1;
   c = v + 1 + g .width;
@@ -98,37 +98,48 @@ ring-at g big v u = record {
   on-board-da = u .1;
 }
 
--- the drawing D with the ring's edges ab, bc, cd, da set anew
-unfoldable pub redraw : {g : Grid} → Ring g → Drawing → Bool → Bool → Bool → Bool → Drawing
-redraw R D on-ab on-bc on-cd on-da =
-    set-edge (set-edge (set-edge (set-edge D (R .ab) on-ab) (R .bc) on-bc) (R .cd) on-cd) (R .da) on-da
+-- line or none at each of the ring's edges
+pub record RingLines : Type 0 where
+  pub on-ab : Bool
+  pub on-bc : Bool
+  pub on-cd : Bool
+  pub on-da : Bool
+
+-- as they are in the drawing D
+abbrev pub ring-lines : {g : Grid} → Ring g → Drawing → RingLines
+ring-lines R D = record { on-ab = drawn D (R .ab); on-bc = drawn D (R .bc); on-cd = drawn D (R .cd); on-da = drawn D (R .da) }
+
+-- the drawing D with the ring's edges set anew
+unfoldable pub redraw : {g : Grid} → Ring g → Drawing → RingLines → Drawing
+redraw R D new =
+    set-edge (set-edge (set-edge (set-edge D (R .ab) (new .on-ab)) (R .bc) (new .on-bc)) (R .cd) (new .on-cd)) (R .da) (new .on-da)
 
 -- e is none of the ring's edges
-pub record Off {g : Grid} (R : Ring g) (e : Edge) : Type 0 where
+pub record OffRing {g : Grid} (R : Ring g) (e : Edge) : Type 0 where
   pub not-ab : e ≢ R .ab
   pub not-bc : e ≢ R .bc
   pub not-cd : e ≢ R .cd
   pub not-da : e ≢ R .da
 
 -- where a line of the redrawn drawing comes from
-pub data Origin {g : Grid} (R : Ring g) (D : Drawing) (on-ab on-bc on-cd on-da : Bool) (e : Edge) : Type 0 where
-  from-ab : e ≡ R .ab → on-ab ≡ true → Origin R D on-ab on-bc on-cd on-da e
-  from-bc : e ≡ R .bc → on-bc ≡ true → Origin R D on-ab on-bc on-cd on-da e
-  from-cd : e ≡ R .cd → on-cd ≡ true → Origin R D on-ab on-bc on-cd on-da e
-  from-da : e ≡ R .da → on-da ≡ true → Origin R D on-ab on-bc on-cd on-da e
-  from-old : Off R e → drawn D e ≡ true → Origin R D on-ab on-bc on-cd on-da e
+pub data Origin {g : Grid} (R : Ring g) (D : Drawing) (new : RingLines) (e : Edge) : Type 0 where
+  from-ab : e ≡ R .ab → new .on-ab ≡ true → Origin R D new e
+  from-bc : e ≡ R .bc → new .on-bc ≡ true → Origin R D new e
+  from-cd : e ≡ R .cd → new .on-cd ≡ true → Origin R D new e
+  from-da : e ≡ R .da → new .on-da ≡ true → Origin R D new e
+  from-old : OffRing R e → drawn D e ≡ true → Origin R D new e
 
-module _ {g : Grid} (R : Ring g) (D : Drawing) (on-ab on-bc on-cd on-da : Bool) where
+module _ {g : Grid} (R : Ring g) (D : Drawing) (new : RingLines) where
   with-ab : Drawing
-  with-ab = set-edge D (R .ab) on-ab
+  with-ab = set-edge D (R .ab) (new .on-ab)
 
   with-bc : Drawing
-  with-bc = set-edge with-ab (R .bc) on-bc
+  with-bc = set-edge with-ab (R .bc) (new .on-bc)
 
   with-cd : Drawing
-  with-cd = set-edge with-bc (R .cd) on-cd
+  with-cd = set-edge with-bc (R .cd) (new .on-cd)
 
-  pub redraw-origin : (e : Edge) → drawn (redraw R D on-ab on-bc on-cd on-da) e ≡ true → Origin R D on-ab on-bc on-cd on-da e
+  pub redraw-origin : (e : Edge) → drawn (redraw R D new) e ≡ true → Origin R D new e
   unfolding redraw with-ab with-bc with-cd
   redraw-origin e h =
       ⊎-elim (λ (q, l). from-da q l) (λ (not-da, h).
@@ -136,29 +147,29 @@ module _ {g : Grid} (R : Ring g) (D : Drawing) (on-ab on-bc on-cd on-da : Bool) 
       ⊎-elim (λ (q, l). from-bc q l) (λ (not-bc, h).
       ⊎-elim (λ (q, l). from-ab q l) (λ (not-ab, h).
       from-old (record { not-ab = not-ab; not-bc = not-bc; not-cd = not-cd; not-da = not-da }) h)
-      (set-origin D (R .ab) on-ab e h)) (set-origin with-ab (R .bc) on-bc e h))
-      (set-origin with-bc (R .cd) on-cd e h)) (set-origin with-cd (R .da) on-da e h)
+      (set-origin D (R .ab) (new .on-ab) e h)) (set-origin with-ab (R .bc) (new .on-bc) e h))
+      (set-origin with-bc (R .cd) (new .on-cd) e h)) (set-origin with-cd (R .da) (new .on-da) e h)
 
-  pub redraw-off : (e : Edge) → Off R e → drawn (redraw R D on-ab on-bc on-cd on-da) e ≡ drawn D e
+  pub redraw-off : (e : Edge) → OffRing R e → drawn (redraw R D new) e ≡ drawn D e
   unfolding redraw with-ab with-bc with-cd
   redraw-off e off =
-      set-other with-cd (R .da) on-da e (off .not-da) ∙ set-other with-bc (R .cd) on-cd e (off .not-cd)
-      ∙ set-other with-ab (R .bc) on-bc e (off .not-bc) ∙ set-other D (R .ab) on-ab e (off .not-ab)
+      set-other with-cd (R .da) (new .on-da) e (off .not-da) ∙ set-other with-bc (R .cd) (new .on-cd) e (off .not-cd)
+      ∙ set-other with-ab (R .bc) (new .on-bc) e (off .not-bc) ∙ set-other D (R .ab) (new .on-ab) e (off .not-ab)
 
-  pub redraw-da : drawn (redraw R D on-ab on-bc on-cd on-da) (R .da) ≡ on-da
+  pub redraw-da : drawn (redraw R D new) (R .da) ≡ new .on-da
   unfolding redraw with-ab with-bc with-cd
-  redraw-da = set-same with-cd (R .da) on-da
+  redraw-da = set-same with-cd (R .da) (new .on-da)
 
-  pub redraw-cd : drawn (redraw R D on-ab on-bc on-cd on-da) (R .cd) ≡ on-cd
+  pub redraw-cd : drawn (redraw R D new) (R .cd) ≡ new .on-cd
   unfolding redraw with-ab with-bc with-cd
-  redraw-cd = set-other with-cd (R .da) on-da (R .cd) cd≢da ∙ set-same with-bc (R .cd) on-cd
+  redraw-cd = set-other with-cd (R .da) (new .on-da) (R .cd) cd≢da ∙ set-same with-bc (R .cd) (new .on-cd)
     where
       cd≢da : R .cd ≢ R .da
       cd≢da = other-edge (R .joins-cd) (joins-back (R .joins-da)) (λ e. R .apart .a≢c (sym e)) (λ e. R .apart .a≢d (sym e))
 
-  pub redraw-bc : drawn (redraw R D on-ab on-bc on-cd on-da) (R .bc) ≡ on-bc
+  pub redraw-bc : drawn (redraw R D new) (R .bc) ≡ new .on-bc
   unfolding redraw with-ab with-bc with-cd
-  redraw-bc = set-other with-cd (R .da) on-da (R .bc) bc≢da ∙ set-other with-bc (R .cd) on-cd (R .bc) bc≢cd ∙ set-same with-ab (R .bc) on-bc
+  redraw-bc = set-other with-cd (R .da) (new .on-da) (R .bc) bc≢da ∙ set-other with-bc (R .cd) (new .on-cd) (R .bc) bc≢cd ∙ set-same with-ab (R .bc) (new .on-bc)
     where
       bc≢da : R .bc ≢ R .da
       bc≢da = other-edge (R .joins-bc) (R .joins-da) (R .apart .b≢d) (R .apart .c≢d)
@@ -166,10 +177,10 @@ module _ {g : Grid} (R : Ring g) (D : Drawing) (on-ab on-bc on-cd on-da : Bool) 
       bc≢cd : R .bc ≢ R .cd
       bc≢cd = other-edge (R .joins-bc) (joins-back (R .joins-cd)) (R .apart .b≢d) (R .apart .c≢d)
 
-  pub redraw-placed : Placed g D → Placed g (redraw R D on-ab on-bc on-cd on-da)
+  pub redraw-placed : Placed g D → Placed g (redraw R D new)
   redraw-placed placed e h = go (redraw-origin e h)
     where
-      go : Origin R D on-ab on-bc on-cd on-da e → OnBoard g e
+      go : Origin R D new e → OnBoard g e
       go (from-ab q l) = rw q (R .on-board-ab)
       go (from-bc q l) = rw q (R .on-board-bc)
       go (from-cd q l) = rw q (R .on-board-cd)

@@ -1,11 +1,11 @@
 -- Three lines a-b, b-c, c-d in a row give way to the one line a-d, which was none: the pads b and c lose their lines, a and d keep their
 -- number of lines, and the rules and the pairs are kept. This is why a unit square with three lines may give up two of them.
 -- It rests on Chains.antt and on the exchange of two pads.
-use Prim.Native.Nat.{ℕ, zero, suc}
-use mathlib.Core.Path.{_≡_, refl, sym, _∙_, ap}
-use mathlib.Core.Logic.{_≢_, _⊎_, inl, inr, _↔_, ⊎-map, ⊎-elim, ⊎-swap, ite, if-pos, if-neg}
+use Prim.Native.Nat.{ℕ}
+use mathlib.Core.Path.{_≡_, refl, sym, _∙_}
+use mathlib.Core.Logic.{_≢_, _⊎_, inl, inr, ⊎-map, ⊎-elim, ⊎-swap, ite, if-pos, if-neg}
 use native.Mathlib.Decide.{ℕ-discrete}
-use Rattle.rules.specs.Grid.{Cell, blank, clue}
+use Rattle.rules.specs.Grid.{Cell, blank}
 use Rattle.rules.specs.Drawing.{Relation, Joined, here, more, NoLine, Loop, Wired}
 use Rattle.shortest.specs.Chains.{join-trans, join-sym, Symmetric, ClueAt, JoinSame, not-blank, two-lines-blank, two-lines-only, LinesRenamed, carry-none, carry-one, carry-two, still-apart}
 use Rattle.shortest.specs.Exchange.{by-pad, swap, swap-first, swap-second, swap-else, swap-twice}

@@ -1,18 +1,18 @@
 -- Looking at one unit square: its lines are at most two and its two corners obey the corner rule, or one of the moves makes the drawing
 -- better. Better means: as good, no more lines, and a number falls: the sum over the lines of the number of pads from the first pad of
 -- the edge on. It rests on Moves.antt and Weight.antt.
-use Prim.Native.Nat.{ℕ, zero, suc, _+_, _-_, _%_, _≤_, _<_}
-use mathlib.Core.Path.{_≡_, refl, sym, _∙_, ap}
-use mathlib.Core.Logic.{_≢_, _⊎_, inl, inr, ⊎-elim, Dec·and}
+use Prim.Native.Nat.{ℕ, _+_, _-_, _%_, _≤_, _<_}
+use mathlib.Core.Path.{_≡_, refl, sym, _∙_}
+use mathlib.Core.Logic.{_⊎_, inl, inr, ⊎-elim, Dec·and}
 use mathlib.Core.Bool.{Bool, true, false}
 use native.Mathlib.Decide.{decLt}
 use native.Mathlib.Omega.{arith}
-use Rattle.rules.specs.Grid.{right, down, Cell, blank, clue, first, Grid, pads, UnitSquare, OnBoard}
+use Rattle.rules.specs.Grid.{right, down, Cell, blank, clue, Grid, pads, UnitSquare, OnBoard}
 use Rattle.rules.specs.Drawing.{Drawing, drawn, Line, rightward, leftward, downward, upward, NoLine, TwoLines, num, square-lines, Side, on-left, on-right, LineBeside, DiagonallyBelow, Corner, IsClue, Ordinary, number-of-lines}
-use Rattle.shortest.specs.Chains.{impossible}
-use Rattle.shortest.specs.Edges.{Joins, forth, back, lower-first}
-use Rattle.shortest.specs.Ring.{Ring, turn, ring-at, redraw}
-use Rattle.shortest.specs.Moves.{AsGood, three-lines-give-way, not-four-lines, corner-flips}
+use Rattle.rules.specs.Places.{zero≢one}
+use Rattle.shortest.specs.Edges.{Joins, forth, back, joins-back, first-is-lower}
+use Rattle.shortest.specs.Ring.{Ring, turn, ring-at, RingLines, ring-lines, redraw}
+use Rattle.shortest.specs.Moves.{AsGood, fourth-alone, corner-opposite, three-lines-give-way, not-four-lines, corner-flips}
 use Rattle.shortest.specs.Weight.{weigh, weigh-one, weigh-redraw, ring-worth, first-inside}
 
 -- a line counts for more the earlier the first pad of its edge is
@@ -25,6 +25,13 @@ pub record Better (g : Grid) (D : Drawing) : Type 1 where
   pub lighter : weigh (pads-from g) (pads g) next < weigh (pads-from g) (pads g) D
   pub no-more-lines : number-of-lines g next ≤ number-of-lines g D
 
+-- the lines of a ring before each of the moves
+abbrev all-but-fourth : RingLines
+all-but-fourth = record { on-ab = true; on-bc = true; on-cd = true; on-da = false }
+
+abbrev corner-alone : RingLines
+corner-alone = record { on-ab = true; on-bc = false; on-cd = false; on-da = true }
+
 -- the upper pad of the unit square of v whose corner on that side lies in the square
 abbrev pub corner-pad : Side → ℕ → ℕ
 corner-pad on-right v = v
@@ -36,26 +43,20 @@ pub record Fine (g : Grid) (D : Drawing) (v : ℕ) : Type 0 where
   pub corner : (side : Side) (q : ℕ) → DiagonallyBelow side (g .width) (corner-pad side v) q → Corner side D (corner-pad side v)
       → IsClue g q ⊎ Corner side D q
 
-module _ (g : Grid) (big : 2 ≤ g .width) (D : Drawing) (ord : Ordinary g D) where
-  -- a move on a ring whose lines are known
-  move : (R : Ring g) {ab bc cd da : Bool}
-      → drawn D (R .ab) ≡ ab → drawn D (R .bc) ≡ bc → drawn D (R .cd) ≡ cd → drawn D (R .da) ≡ da
-      → (on-ab on-bc on-cd on-da : Bool) → AsGood g D (redraw R D on-ab on-bc on-cd on-da)
-      → ring-worth (pads-from g) R on-ab on-bc on-cd on-da < ring-worth (pads-from g) R ab bc cd da
-      → ring-worth (λ v. 1) R on-ab on-bc on-cd on-da ≤ ring-worth (λ v. 1) R ab bc cd da → Better g D
-  move R {ab} {bc} {cd} {da} is-ab is-bc is-cd is-da on-ab on-bc on-cd on-da as-good lighter fewer = record {
+module _ (g : Grid) (wide : 2 ≤ g .width) (D : Drawing) (ordinary : Ordinary g D) where
+  -- a move on a ring
+  move : (R : Ring g) (new : RingLines) → AsGood g D (redraw R D new)
+      → ring-worth (pads-from g) R new < ring-worth (pads-from g) R (ring-lines R D)
+      → ring-worth (λ v. 1) R new ≤ ring-worth (λ v. 1) R (ring-lines R D) → Better g D
+  move R new as-good lighter fewer = record {
     next = E;
     as-good = as-good;
-    lighter = less (change (pads-from g)) lighter;
-    no-more-lines = rw (weigh-one g E, weigh-one g D) at (at-most (change (λ v. 1)) fewer);
+    lighter = less (weigh-redraw (pads-from g) R D new) lighter;
+    no-more-lines = rw (weigh-one g E, weigh-one g D) at (at-most (weigh-redraw (λ v. 1) R D new) fewer);
   }
     where
       E : Drawing
-      E = redraw R D on-ab on-bc on-cd on-da
-
-      change : (weight : ℕ → ℕ) → weigh weight (pads g) E + ring-worth weight R ab bc cd da
-          ≡ weigh weight (pads g) D + ring-worth weight R on-ab on-bc on-cd on-da
-      change weight = rw (is-ab, is-bc, is-cd, is-da) at (weigh-redraw weight R D on-ab on-bc on-cd on-da)
+      E = redraw R D new
 
       less : {x y z w : ℕ} → x + y ≡ z + w → w < y → x < z
       less e h = omega arith
@@ -65,22 +66,22 @@ module _ (g : Grid) (big : 2 ≤ g .width) (D : Drawing) (ord : Ordinary g D) wh
 
   -- three lines in a ring
   shrink : (R : Ring g) → drawn D (R .ab) ≡ true → drawn D (R .bc) ≡ true → drawn D (R .cd) ≡ true → drawn D (R .da) ≡ false → Better g D
-  shrink R ab bc cd da = move R ab bc cd da false false false true (three-lines-give-way big R D ord ab bc cd da) (lighter (R .joins-da)) (omega arith)
+  shrink R ab bc cd da = move R fourth-alone (three-lines-give-way wide R D ordinary ab bc cd da)
+      (rw (ab, bc, cd, da) (lighter (R .joins-da))) (rw (ab, bc, cd, da) (omega arith))
     where
-      lighter : Joins (g .width) (R .da) (R .d) (R .a)
-          → ring-worth (pads-from g) R false false false true < ring-worth (pads-from g) R true true true false
+      lighter : Joins (g .width) (R .da) (R .d) (R .a) → ring-worth (pads-from g) R fourth-alone < ring-worth (pads-from g) R all-but-fourth
       lighter (forth d-first a-second) =
-          let below : first (R .cd) ≤ R .d = omega (arith, lower-first (g .width) (R .cd) (R .joins-cd) .0) in
+          let below = first-is-lower (g .width) (R .cd) (joins-back (R .joins-cd)) in
           omega (arith, first-inside g (R .ab) (R .on-board-ab))
       lighter (back d-second a-first) =
-          let below : first (R .ab) ≤ R .a = omega (arith, lower-first (g .width) (R .ab) (R .joins-ab) .0) in
+          let below = first-is-lower (g .width) (R .ab) (R .joins-ab) in
           omega (arith, first-inside g (R .cd) (R .on-board-cd))
 
   -- how many lines a ring has: at most two, or the drawing can be bettered
   few-or-better : (R : Ring g) (ab bc cd da : Bool)
       → drawn D (R .ab) ≡ ab → drawn D (R .bc) ≡ bc → drawn D (R .cd) ≡ cd → drawn D (R .da) ≡ da
       → (num ab + num da + num bc + num cd ≤ 2) ⊎ Better g D
-  few-or-better R true true true true p q r s = absurd (not-four-lines big R D ord p q r s)
+  few-or-better R true true true true p q r s = absurd (not-four-lines wide R D ordinary p q r s)
   few-or-better R true true true false p q r s = inr (shrink R p q r s)
   few-or-better R false true true true p q r s = inr (shrink (turn R) q r s p)
   few-or-better R true false true true p q r s = inr (shrink (turn (turn R)) r s p q)
@@ -100,8 +101,8 @@ module _ (g : Grid) (big : 2 ≤ g .width) (D : Drawing) (ord : Ordinary g D) wh
   module _ (v : ℕ) (u : UnitSquare g v) where
     -- the ring of the unit square, beginning with the upper pad whose corner lies in it
     ring-of : Side → Ring g
-    ring-of on-right = ring-at g big v u
-    ring-of on-left = turn (ring-at g big v u)
+    ring-of on-right = ring-at g wide v u
+    ring-of on-left = turn (ring-at g wide v u)
 
     -- the corner's two lines are the ring's at its first pad, and the pad diagonally below is the one opposite
     corner-lines : (side : Side) → Corner side D (corner-pad side v)
@@ -127,12 +128,12 @@ module _ (g : Grid) (big : 2 ≤ g .width) (D : Drawing) (ord : Ordinary g D) wh
     unfolding ring-of ring-at
     outer-line on-right bc cd y (rightward e h) = inl (e, h)
     outer-line on-right bc cd y (downward e h) = inr (e, h)
-    outer-line on-right bc cd y (leftward e h) = let q : y ≡ v + g .width = omega arith in impossible (cc)
-    outer-line on-right bc cd y (upward e h) = let q : y ≡ v + 1 = omega arith in impossible (cc)
+    outer-line on-right bc cd y (leftward e h) = let q : y ≡ v + g .width = omega arith in zero≢one (cc)
+    outer-line on-right bc cd y (upward e h) = let q : y ≡ v + 1 = omega arith in zero≢one (cc)
     outer-line on-left bc cd y (leftward e h) = inl (sym e, (y, sym e, h))
     outer-line on-left bc cd y (downward e h) = inr (e, h)
-    outer-line on-left bc cd y (rightward e h) = impossible (cc)
-    outer-line on-left bc cd y (upward e h) = let q : y ≡ v = omega arith in impossible (cc)
+    outer-line on-left bc cd y (rightward e h) = zero≢one (cc)
+    outer-line on-left bc cd y (upward e h) = let q : y ≡ v = omega arith in zero≢one (cc)
 
     one-beside : (side : Side) (p x y : ℕ) → Beside side p x → Beside side p y → x ≡ y
     one-beside on-right p x y e f = omega arith
@@ -154,8 +155,7 @@ module _ (g : Grid) (big : 2 ≤ g .width) (D : Drawing) (ord : Ordinary g D) wh
         go (inr (p, h)) (inr (q, k)) = absurd (o .apart (p ∙ sym q))
 
     -- a flip makes the weight fall
-    flip-lighter : (side : Side) → ring-worth (pads-from g) (ring-of side) false true true false
-        < ring-worth (pads-from g) (ring-of side) true false false true
+    flip-lighter : (side : Side) → ring-worth (pads-from g) (ring-of side) corner-opposite < ring-worth (pads-from g) (ring-of side) corner-alone
     unfolding ring-of ring-at
     flip-lighter on-right = omega arith
     flip-lighter on-left = omega arith
@@ -173,12 +173,13 @@ module _ (g : Grid) (big : 2 ≤ g .width) (D : Drawing) (ord : Ordinary g D) wh
         R = ring-of side
 
         flip : g .cell (R .c) ≡ blank → NoLine (Line (g .width) D) (R .c) → Better g D
-        flip e none = move R ab bc cd da false true true false (corner-flips big R D ord ab da none e) (flip-lighter side) (omega arith)
+        flip e none = move R corner-opposite (corner-flips wide R D ordinary ab da none e)
+            (rw (ab, bc, cd, da) (flip-lighter side)) (rw (ab, bc, cd, da) (omega arith))
 
         go : (C : Cell) → g .cell (R .c) ≡ C → CornerRule side ⊎ Better g D
         go (clue code) e = inl (λ q below corner. inl (code, rw (opposite side q below) e))
         go blank e = ⊎-elim (λ none. inr (flip e none))
-            (λ two. inl (λ q below corner. inr (rw (opposite side q below) (same-corner side bc cd two)))) (ord .wired .blank-none-or-two (R .c) e)
+            (λ two. inl (λ q below corner. inr (rw (opposite side q below) (same-corner side bc cd two)))) (ordinary .wired .blank-none-or-two (R .c) e)
 
     -- two lines at the ring's first pad leave none for the other two edges
     no-other : (side : Side) → square-lines g D v ≤ 2 → drawn D (ring-of side .ab) ≡ true → drawn D (ring-of side .da) ≡ true
@@ -199,8 +200,8 @@ module _ (g : Grid) (big : 2 ≤ g .width) (D : Drawing) (ord : Ordinary g D) wh
 
         go : (ab bc cd da : Bool) → drawn D (R .ab) ≡ ab → drawn D (R .bc) ≡ bc → drawn D (R .cd) ≡ cd → drawn D (R .da) ≡ da
             → CornerRule side ⊎ Better g D
-        go false bc cd da p q r s = inl (λ x below corner. let h = corner-lines side corner .0 in impossible (cc))
-        go true bc cd false p q r s = inl (λ x below corner. let h = corner-lines side corner .1 in impossible (cc))
+        go false bc cd da p q r s = inl (λ x below corner. let h = corner-lines side corner .0 in zero≢one (cc))
+        go true bc cd false p q r s = inl (λ x below corner. let h = corner-lines side corner .1 in zero≢one (cc))
         go true false false true p q r s = corner-at side p q r s
         go true true cd true p q r s = absurd (omega (arith, none-of true true cd true p q r s refl refl))
         go true false true true p q r s = absurd (omega (arith, none-of true false true true p q r s refl refl))
@@ -211,7 +212,7 @@ module _ (g : Grid) (big : 2 ≤ g .width) (D : Drawing) (ord : Ordinary g D) wh
         (few-or-better R (drawn D (R .ab)) (drawn D (R .bc)) (drawn D (R .cd)) (drawn D (R .da)) refl refl refl refl)
       where
         R : Ring g
-        R = ring-at g big v u
+        R = ring-at g wide v u
 
         corners : square-lines g D v ≤ 2 → Fine g D v ⊎ Better g D
         corners few = ⊎-elim (λ l. ⊎-elim (λ r. inl (record { few = λ h. few; corner = by-side l r })) (λ b. inr b) (corner-or-better on-right few))
@@ -224,10 +225,10 @@ module _ (g : Grid) (big : 2 ≤ g .width) (D : Drawing) (ord : Ordinary g D) wh
   -- a corner lies in a unit square
   corner-in-square : (side : Side) (v : ℕ) → Corner side D (corner-pad side v) → UnitSquare g v
   unfolding OnBoard
-  corner-in-square on-right v (h, k) = (ord .placed (right v) h, ord .placed (down v) k)
+  corner-in-square on-right v (h, k) = (ordinary .placed (right v) h, ordinary .placed (down v) k)
   corner-in-square on-left v ((w, e, h), k) = let q : w ≡ v = omega arith in
-      let below : v + 1 + g .width < pads g = ord .placed (down (v + 1)) k in
-      (ord .placed (right v) (rw q at h), omega arith)
+      let below : v + 1 + g .width < pads g = ordinary .placed (down (v + 1)) k in
+      (ordinary .placed (right v) (rw q at h), omega arith)
 
   pub look : (v : ℕ) → Fine g D v ⊎ Better g D
   look v = go (in-square v)

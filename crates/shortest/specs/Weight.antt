@@ -1,16 +1,16 @@
 -- The lines of a drawing, each with a weight that goes by the first pad of its edge: redrawing a ring changes the weight by its four
 -- edges. With weight 1 for each line this is the rules' number of lines. It rests on Ring.antt.
-use Prim.Native.Nat.{ℕ, zero, suc, _+_, _≤_, _<_}
-use mathlib.Core.Path.{_≡_, refl, sym, _∙_, ap}
+use Prim.Native.Nat.{ℕ, zero, suc, _+_, _<_}
+use mathlib.Core.Path.{_≡_, refl, sym, _∙_}
 use mathlib.Core.Logic.{_≢_}
 use mathlib.Core.Bool.{Bool, true, false}
 use native.Mathlib.Decide.{ℕ-discrete}
 use native.Mathlib.Omega.{arith}
 use Rattle.rules.specs.Grid.{Edge, right, down, first, Grid, pads, OnBoard}
 use Rattle.rules.specs.Drawing.{Drawing, drawn, num, count, number-of-lines}
-use Rattle.shortest.specs.Chains.{impossible}
+use Rattle.rules.specs.Places.{zero≢one}
 use Rattle.shortest.specs.Edges.{joins-back, other-edge, set-edge, set-same, set-other}
-use Rattle.shortest.specs.Ring.{Ring, redraw}
+use Rattle.shortest.specs.Ring.{Ring, RingLines, ring-lines, redraw}
 
 -- what a line of weight k counts for, and a missing one
 abbrev pub worth : ℕ → Bool → ℕ
@@ -52,13 +52,13 @@ unfolding weigh
 weigh-set weight n D (right i) line inside =
     let E = set-edge D (right i) line in
     let changed = total-change weight (D .right) (E .right) i (λ x ne. set-other D (right i) line (right x) (λ q. ne (cc))) n inside in
-    let kept = total-same weight (E .down) (D .down) n (λ x l. set-other D (right i) line (down x) (λ q. impossible (cc))) in
+    let kept = total-same weight (E .down) (D .down) n (λ x l. set-other D (right i) line (down x) (λ q. zero≢one (cc))) in
     let now = rw (set-same D (right i) line) at changed in
     omega (arith, now, kept)
 weigh-set weight n D (down i) line inside =
     let E = set-edge D (down i) line in
     let changed = total-change weight (D .down) (E .down) i (λ x ne. set-other D (down i) line (down x) (λ q. ne (cc))) n inside in
-    let kept = total-same weight (E .right) (D .right) n (λ x l. set-other D (down i) line (right x) (λ q. impossible (cc))) in
+    let kept = total-same weight (E .right) (D .right) n (λ x l. set-other D (down i) line (right x) (λ q. zero≢one (cc))) in
     let now = rw (set-same D (down i) line) at changed in
     omega (arith, now, kept)
 
@@ -68,28 +68,26 @@ first-inside g (right v) h = h .0
 first-inside g (down v) h = omega arith
 
 -- what the ring's edges count for
-abbrev pub ring-worth : {g : Grid} → (ℕ → ℕ) → Ring g → Bool → Bool → Bool → Bool → ℕ
-ring-worth weight R on-ab on-bc on-cd on-da =
-    worth (weight (first (R .ab))) on-ab + worth (weight (first (R .bc))) on-bc + worth (weight (first (R .cd))) on-cd
-    + worth (weight (first (R .da))) on-da
+abbrev pub ring-worth : {g : Grid} → (ℕ → ℕ) → Ring g → RingLines → ℕ
+ring-worth weight R lines =
+    worth (weight (first (R .ab))) (lines .on-ab) + worth (weight (first (R .bc))) (lines .on-bc)
+    + worth (weight (first (R .cd))) (lines .on-cd) + worth (weight (first (R .da))) (lines .on-da)
 
-pub weigh-redraw : {g : Grid} (weight : ℕ → ℕ) (R : Ring g) (D : Drawing) (on-ab on-bc on-cd on-da : Bool)
-    → weigh weight (pads g) (redraw R D on-ab on-bc on-cd on-da)
-    + ring-worth weight R (drawn D (R .ab)) (drawn D (R .bc)) (drawn D (R .cd)) (drawn D (R .da))
-    ≡ weigh weight (pads g) D + ring-worth weight R on-ab on-bc on-cd on-da
+pub weigh-redraw : {g : Grid} (weight : ℕ → ℕ) (R : Ring g) (D : Drawing) (new : RingLines)
+    → weigh weight (pads g) (redraw R D new) + ring-worth weight R (ring-lines R D) ≡ weigh weight (pads g) D + ring-worth weight R new
 unfolding redraw
-weigh-redraw {g} weight R D on-ab on-bc on-cd on-da =
-    let with-ab = set-edge D (R .ab) on-ab in
-    let with-bc = set-edge with-ab (R .bc) on-bc in
-    let with-cd = set-edge with-bc (R .cd) on-cd in
-    let e1 = weigh-set weight (pads g) D (R .ab) on-ab (first-inside g (R .ab) (R .on-board-ab)) in
-    let e2 = rw (set-other D (R .ab) on-ab (R .bc) bc≢ab) at
-    (weigh-set weight (pads g) with-ab (R .bc) on-bc (first-inside g (R .bc) (R .on-board-bc))) in
-    let e3 = rw (set-other with-ab (R .bc) on-bc (R .cd) cd≢bc ∙ set-other D (R .ab) on-ab (R .cd) cd≢ab) at
-    (weigh-set weight (pads g) with-bc (R .cd) on-cd (first-inside g (R .cd) (R .on-board-cd))) in
-    let e4 = rw (set-other with-bc (R .cd) on-cd (R .da) da≢cd ∙ set-other with-ab (R .bc) on-bc (R .da) da≢bc
-    ∙ set-other D (R .ab) on-ab (R .da) da≢ab) at
-    (weigh-set weight (pads g) with-cd (R .da) on-da (first-inside g (R .da) (R .on-board-da))) in
+weigh-redraw {g} weight R D new =
+    let with-ab = set-edge D (R .ab) (new .on-ab) in
+    let with-bc = set-edge with-ab (R .bc) (new .on-bc) in
+    let with-cd = set-edge with-bc (R .cd) (new .on-cd) in
+    let e1 = weigh-set weight (pads g) D (R .ab) (new .on-ab) (first-inside g (R .ab) (R .on-board-ab)) in
+    let e2 = rw (set-other D (R .ab) (new .on-ab) (R .bc) bc≢ab) at
+    (weigh-set weight (pads g) with-ab (R .bc) (new .on-bc) (first-inside g (R .bc) (R .on-board-bc))) in
+    let e3 = rw (set-other with-ab (R .bc) (new .on-bc) (R .cd) cd≢bc ∙ set-other D (R .ab) (new .on-ab) (R .cd) cd≢ab) at
+    (weigh-set weight (pads g) with-bc (R .cd) (new .on-cd) (first-inside g (R .cd) (R .on-board-cd))) in
+    let e4 = rw (set-other with-bc (R .cd) (new .on-cd) (R .da) da≢cd ∙ set-other with-ab (R .bc) (new .on-bc) (R .da) da≢bc
+    ∙ set-other D (R .ab) (new .on-ab) (R .da) da≢ab) at
+    (weigh-set weight (pads g) with-cd (R .da) (new .on-da) (first-inside g (R .da) (R .on-board-da))) in
     omega (arith, e1, e2, e3, e4)
   where
     bc≢ab : R .bc ≢ R .ab
