@@ -10,7 +10,7 @@ use Rattle.model.specs.Bounds.{is-size, most-digits}
 use Rattle.model.specs.Text.{bytes}
 use Rattle.model.specs.GridFile.{Reading, is-digit, is-comma, is-line-end, is-allowed, blank, no-cells, start, in-header, fields-due, is-complete, field-cell, bad-size, refusal, with-digit, begun, after, accepted, declined, read-from, read}
 use Rattle.rules.specs.Record.{record-lines}
-use Rattle.model.specs.Printed.{digit-byte, digits-before, decimal, line-at, code-of-pad, code-digits-from, code-digits, comma, line-end, summary-line, layout-line, refusal-line, Found, layout-lines, found-text, reading-text, printed}
+use Rattle.model.specs.Printed.{digit-byte, digits-before, decimal, line-at, right-line, down-line, code-of-pad, code-digits-from, code-digits, comma, line-end, summary-line, layout-line, refusal-line, Found, layout-lines, found-text, reading-text, printed}
 
 -- number, line and field of a file's answer
 pub record Answer : Type 0 where
@@ -189,5 +189,5 @@ Decimals =
     × (decimal 18446744073709551615 ≡ bytes "18446744073709551615")
 
 pub known-texts : Example-printed × Refused-printed × Decimals
-unfolding example-found is-size most-digits bytes is-digit is-comma is-line-end is-allowed blank no-cells start in-header fields-due is-complete field-cell bad-size refusal with-digit begun after accepted declined read-from read record-lines digit-byte digits-before decimal line-at code-of-pad code-digits-from code-digits comma line-end summary-line layout-line refusal-line layout-lines found-text reading-text printed
+unfolding example-found is-size most-digits bytes is-digit is-comma is-line-end is-allowed blank no-cells start in-header fields-due is-complete field-cell bad-size refusal with-digit begun after accepted declined read-from read record-lines digit-byte digits-before decimal line-at right-line down-line code-of-pad code-digits-from code-digits comma line-end summary-line layout-line refusal-line layout-lines found-text reading-text printed
 known-texts = (refl, refl, (refl, refl, refl, refl, refl, refl))

@@ -38,11 +38,17 @@ decimal number = digits-before (suc number) number []
 unfoldable pub line-at : ℕ → List ℕ → ℕ → ℕ → ℕ
 line-at width layout row column = if eqb (getD layout (row * field-side width + column) undecided-byte) line-byte then 1 else 0
 
--- the code of pad (y, x) is right + 2 × down: place (2y, 2x+1) joins it to the right, (2y+1, 2x) downward
+-- 1 if pad (y, x) has a line to the right, at place (2y, 2x+1)
+unfoldable pub right-line : ℕ → List ℕ → ℕ → ℕ → ℕ
+right-line width layout y x = if ltb (x + 1) width then line-at width layout (2 * y) (2 * x + 1) else 0
+
+-- 1 if it has a line downward, at place (2y+1, 2x)
+unfoldable pub down-line : ℕ → ℕ → List ℕ → ℕ → ℕ → ℕ
+down-line height width layout y x = if ltb (y + 1) height then line-at width layout (2 * y + 1) (2 * x) else 0
+
+-- the code of a pad is right + 2 × down
 unfoldable pub code-of-pad : ℕ → ℕ → List ℕ → ℕ → ℕ → ℕ
-code-of-pad height width layout y x =
-    (if ltb (x + 1) width then line-at width layout (2 * y) (2 * x + 1) else 0)
-    + 2 * (if ltb (y + 1) height then line-at width layout (2 * y + 1) (2 * x) else 0)
+code-of-pad height width layout y x = right-line width layout y x + 2 * down-line height width layout y x
 
 -- the codes of so many pads from an index on, one digit each
 unfoldable pub code-digits-from : ℕ → ℕ → List ℕ → ℕ → ℕ → List ℕ

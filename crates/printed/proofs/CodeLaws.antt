@@ -1,0 +1,121 @@
+-- Laws of a layout's codes: the lines at a pad, and the codes one after the other. Assumes nothing.
+use mathlib.Core.Path.{_≡_, refl, sym, ap, _∙_}
+use mathlib.Core.Bool.{Bool, true, false}
+use mathlib.Core.List.{List, [], _∷_, _++_}
+use Prim.Native.Nat.{ℕ, zero, suc, _+_, _*_, _-_, _/_, _%_, _≤_, _<_}
+use native.Mathlib.Nat.{mul-le-mul, mod-lt, div-lt-iff-lt-mul, add-zero, zero-add, add-suc}
+use native.Mathlib.Numerals.{add-one}
+use native.Mathlib.Omega.{arith}
+use lib.ListN.{length, getD, set, List·getD-eq-default}
+use lib.Dec.{eqb, ltb}
+use borrow.Author.Tests.{lt-ltb, le-ltb, eq-eqb, ne-eqb}
+use Rattle.model.specs.Choice.{if_then_else_}
+use Rattle.rules.specs.Grid.{least-size, largest-size}
+use Rattle.model.specs.Bounds.{is-size}
+use Rattle.model.specs.RefusalLaws.{size-of-test}
+use Rattle.model.specs.Printed.{digit-byte, line-at, right-line, down-line, code-of-pad, code-digits-from, code-digits}
+use Rattle.printed.specs.Written.{Put}
+use Rattle.printed.proofs.PutLaws.{put-both, put-one, put-same}
+
+-- ## A place of a record
+
+module _ (width : ℕ) (layout : List ℕ) (row column : ℕ) where
+  pub past-the-end : length layout ≤ row * (2 * width - 1) + column → 0 ≡ line-at width layout row column
+  unfolding line-at
+  past-the-end h = rw (List·getD-eq-default layout 0 h)
+
+  pub a-line : getD layout (row * (2 * width - 1) + column) 0 ≡ 1 → 1 ≡ line-at width layout row column
+  unfolding line-at
+  a-line e = simp (eq-eqb _ _ e)
+
+  pub no-line : (getD layout (row * (2 * width - 1) + column) 0 ≡ 1 → ⊥) → 0 ≡ line-at width layout row column
+  unfolding line-at
+  no-line e = simp (ne-eqb _ _ e)
+
+  pub at-most-1 : line-at width layout row column ≤ 1
+  unfolding line-at
+  at-most-1 = go (eqb (getD layout (row * (2 * width - 1) + column) 0) 1)
+    where
+      go : (t : Bool) → (if t then 1 else 0) ≤ 1
+      go true = omega arith
+      go false = omega arith
+
+pub place-small : (width row : ℕ) → is-size width ≡ true → row < 32 → row * (2 * width - 1) ≤ 1024
+place-small width row w r =
+    let a : row ≤ 32 = omega arith in
+    let b : 2 * width - 1 ≤ 32 = omega (arith, size-of-test width w .1) in
+    mul-le-mul a b
+
+-- ## The lines of a pad
+
+module _ (height width : ℕ) (layout : List ℕ) (y x : ℕ) where
+  pub right-there : x + 1 < width → line-at width layout (2 * y) (2 * x + 1) ≡ right-line width layout y x
+  unfolding right-line
+  right-there h = rw (lt-ltb _ _ h)
+
+  pub no-right : width ≤ x + 1 → 0 ≡ right-line width layout y x
+  unfolding right-line
+  no-right h = rw (le-ltb _ _ h)
+
+  pub down-there : y + 1 < height → line-at width layout (2 * y + 1) (2 * x) ≡ down-line height width layout y x
+  unfolding down-line
+  down-there h = rw (lt-ltb _ _ h)
+
+  pub no-down : height ≤ y + 1 → 0 ≡ down-line height width layout y x
+  unfolding down-line
+  no-down h = rw (le-ltb _ _ h)
+
+  either : (t : Bool) (n : ℕ) → n ≤ 1 → (if t then n else 0) ≤ 1
+  either true n h = h
+  either false n h = omega arith
+
+  pub right-at-most-1 : right-line width layout y x ≤ 1
+  unfolding right-line
+  right-at-most-1 = either (ltb (x + 1) width) _ (at-most-1 width layout (2 * y) (2 * x + 1))
+
+  pub down-at-most-1 : down-line height width layout y x ≤ 1
+  unfolding down-line
+  down-at-most-1 = either (ltb (y + 1) height) _ (at-most-1 width layout (2 * y + 1) (2 * x))
+
+-- ## The codes in index order
+
+module _ (height width : ℕ) (layout : List ℕ) where
+  pub code-after : (more index : ℕ) → code-digits-from height width layout (suc more) index ≡ code-digits-from height width layout more index ++ (digit-byte (code-of-pad height width layout ((index + more) / width) ((index + more) % width)) ∷ [])
+  unfolding code-digits-from
+  code-after zero index = rw add-zero refl
+  code-after (suc more) index = ap (λ (l : List ℕ). digit-byte (code-of-pad height width layout (index / width) (index % width)) ∷ l) (code-after more (index + 1) ∙ ap (λ (n : ℕ). code-digits-from height width layout more (index + 1) ++ (digit-byte (code-of-pad height width layout (n / width) (n % width)) ∷ [])) next)
+    where
+      next : index + 1 + more ≡ index + suc more
+      next = omega arith
+
+  pub codes-length : (more index : ℕ) → length (code-digits-from height width layout more index) ≡ more
+  unfolding code-digits-from
+  codes-length zero index = refl
+  codes-length (suc more) index = ap suc (codes-length more (index + 1))
+
+module _ (height width index : ℕ) (h : is-size height ≡ true) (w : is-size width ≡ true) where
+  pub some-columns : 0 < width
+  some-columns = omega (arith, size-of-test width w .0)
+
+  pub all-pads : height * width ≤ 256
+  all-pads = mul-le-mul (size-of-test height h .1) (size-of-test width w .1)
+
+  pub row-below-16 : index < height * width → index / width < 16
+  row-below-16 i = let r : index / width < height = div-lt-iff-lt-mul some-columns .1 i in omega (arith, size-of-test height h .1)
+
+  pub column-below-16 : index % width < 16
+  column-below-16 = omega (arith, mod-lt index some-columns, size-of-test width w .1)
+
+-- ## The loop of `put_codes`
+
+module _ (height width : ℕ) (layout first out : List ℕ) (at index : ℕ) (p : Put first out at (code-digits-from height width layout index 0) (at + index)) where
+  pub code-put : (code : ℕ) → code ≡ code-of-pad height width layout (index / width) (index % width) → Put first (set out (at + index) (48 + code)) at (code-digits-from height width layout (index + 1) 0) (at + (index + 1))
+  unfolding digit-byte
+  code-put code e = rw (add-one index, code-after height width layout index 0, zero-add, ← e, add-suc, ← (add-one (at + index))) (put-both p (put-one out (at + index) (48 + code)))
+
+  pub all-put : index ≤ height * width → height * width ≤ index → Put first out at (code-digits height width layout) (at + index)
+  unfolding code-digits
+  all-put a b = put-same (ap (λ (n : ℕ). code-digits-from height width layout n 0) there) p
+    where
+      there : index ≡ height * width
+      there = omega arith

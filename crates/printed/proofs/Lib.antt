@@ -1,0 +1,5 @@
+-- Laws that the proofs of the crate cite.
+mod DecimalLaws
+mod PutLaws
+mod CodeLaws
+mod LineLaws

@@ -1,0 +1,82 @@
+-- Laws of whole lines: an array of zeros that is filled part by part, how long the parts are at most, and that the parts make
+-- the lines of the model. Assumes nothing.
+use mathlib.Core.Path.{_≡_, refl, sym, ap, _∙_}
+use mathlib.Core.Bool.{true, false}
+use mathlib.Core.List.{List, [], _∷_, _++_, append-assoc}
+use Prim.Native.Nat.{ℕ, suc, _+_, _*_, _≤_, _<_}
+use native.Mathlib.Nat.{zero-add}
+use native.Mathlib.Omega.{arith}
+use lib.ListN.{length, length-append, length-replicate}
+use mir.Syntax.{w8, w64}
+use mir.Val.{Fits}
+use Rattle.model.specs.Bounds.{is-size}
+use Rattle.model.specs.Text.{bytes}
+use Rattle.rules.specs.Record.{record-lines}
+use Rattle.model.specs.Printed.{decimal, code-digits, comma, line-end, summary-line, layout-line, refusal-line}
+use Rattle.printed.specs.Written.{zeros, Put, Written, layout-text}
+use Rattle.printed.proofs.DecimalLaws.{decimal-length}
+use Rattle.printed.proofs.CodeLaws.{codes-length, all-pads}
+use Rattle.printed.proofs.PutLaws.{put-both, put-length, put-same, put-written}
+
+-- ## An array that is filled part by part
+
+-- the array begins with the text, which has at most so many bytes, and goes on with zeros
+pub record Filled (size most : ℕ) (text array : List ℕ) (next : ℕ) : Type 0 where
+  pub put : Put (zeros size) array 0 text next
+  pub short : length text ≤ most
+
+pub filled-more : {size most more : ℕ} {text array second part : List ℕ} {next last : ℕ} → Filled size most text array next → Put array second next part last → length part ≤ more → Filled size (most + more) (text ++ part) second last
+filled-more {text = text} {part = part} f p h = record { put = put-both (f .put) p; short = rw length-append (omega (arith, f .short)) }
+
+pub filled-room : {size most : ℕ} {text array : List ℕ} {next : ℕ} → Filled size most text array next → (more : ℕ) → most + more ≤ size → next + more ≤ length array
+filled-room {size} f more h = rw (put-length (f .put), length-replicate, f .put .place) (omega (arith, f .short))
+
+pub filled-written : {size most : ℕ} {text array : List ℕ} {next : ℕ} (other : List ℕ) → text ≡ other → most ≤ size → Filled size most text array next → Written size other array next
+filled-written {size} other e h f = put-written size (put-same e (f .put)) (rw (← e) (omega (arith, f .short)))
+
+pub filled-first : (size most : ℕ) {text array : List ℕ} {next : ℕ} → Put (zeros size) array 0 text next → length text ≤ most → Filled size most text array next
+filled-first size most p h = record { put = p; short = h }
+
+-- ## How long the parts are
+
+pub digits-20 : (number : ℕ) → Fits w64 number → length (decimal number) ≤ 20
+digits-20 number h = decimal-length 19 number (omega arith)
+
+pub digits-3 : (number : ℕ) → Fits w8 number → length (decimal number) ≤ 3
+digits-3 number h = decimal-length 2 number (omega arith)
+
+pub field-21 : (number byte : ℕ) → Fits w64 number → length (decimal number ++ (byte ∷ [])) ≤ 21
+field-21 number byte h = rw length-append (omega (arith, digits-20 number h))
+
+pub field-4 : (number byte : ℕ) → Fits w8 number → length (decimal number ++ (byte ∷ [])) ≤ 4
+field-4 number byte h = rw length-append (omega (arith, digits-3 number h))
+
+pub codes-256 : (height width : ℕ) (layout : List ℕ) → is-size height ≡ true → is-size width ≡ true → length (code-digits height width layout) ≤ 256
+unfolding code-digits
+codes-256 height width layout h w = rw (codes-length height width layout (height * width) 0) (all-pads height width 0 h w)
+
+-- ## The lines
+
+pub summary-parts : (layouts visited fewest outcome : ℕ) → (decimal layouts ++ (44 ∷ [])) ++ (decimal visited ++ (44 ∷ [])) ++ (decimal fewest ++ (44 ∷ [])) ++ (decimal outcome ++ (10 ∷ [])) ≡ summary-line layouts visited fewest outcome
+unfolding summary-line comma line-end bytes
+summary-parts layouts visited fewest outcome = simp append-assoc
+
+pub refusal-parts : (number line field : ℕ) → bytes "refused," ++ (decimal number ++ (44 ∷ [])) ++ (decimal line ++ (44 ∷ [])) ++ (decimal field ++ (10 ∷ [])) ≡ refusal-line number line field
+unfolding refusal-line comma line-end bytes
+refusal-parts number line field = simp append-assoc
+
+module _ (height width number : ℕ) (layout : List ℕ) where
+  pub layout-parts : is-size height ≡ true → is-size width ≡ true → (long : ℕ) → long ≡ record-lines layout → (decimal number ++ (44 ∷ [])) ++ (decimal long ++ (44 ∷ [])) ++ code-digits height width layout ++ (10 ∷ []) ≡ layout-text height width number layout
+  unfolding layout-text layout-line comma line-end bytes
+  layout-parts h w long e = rw (h, w, e) (simp append-assoc)
+
+  pub no-height : is-size height ≡ false → layout-text height width number layout ≡ []
+  unfolding layout-text
+  no-height h = simp h
+
+  pub no-width : is-size height ≡ true → is-size width ≡ false → layout-text height width number layout ≡ []
+  unfolding layout-text
+  no-width h w = simp (h, w)
+
+pub nothing-written : (text : List ℕ) → text ≡ [] → Written 299 text (zeros 299) 0
+nothing-written text e = rw e (record { all-bytes = refl; its-length = refl; fits = omega arith })

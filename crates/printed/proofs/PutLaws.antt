@@ -1,0 +1,62 @@
+-- Laws of texts that are put into a buffer one after the other, and of the array that then holds them. Assumes nothing.
+use mathlib.Core.Path.{_≡_, refl, sym, ap, _∙_}
+use mathlib.Core.List.{List, [], _∷_, _++_, append-assoc, append-nil}
+use Prim.Native.Nat.{ℕ, zero, suc, _+_, _-_, _≤_, _<_}
+use native.Mathlib.Nat.{add-zero, add-suc, suc-add, zero-add, sub-zero, zero-sub, suc-sub-suc}
+use native.Mathlib.Numerals.{add-one}
+use native.Mathlib.Omega.{arith}
+use lib.ListN.{length, getD, take, drop, set, length-append, length-replicate}
+use lib.Seq.{sets, sets-eq, length-sets, take-suc, take-all}
+use Rattle.printed.specs.Written.{zeros, Put, Written}
+
+sets-append : (text more buffer : List ℕ) (at : ℕ) → sets (sets buffer at text) (at + length text) more ≡ sets buffer at (text ++ more)
+sets-append [] more buffer at = ap (λ (n : ℕ). sets buffer n more) (add-zero at)
+sets-append (byte ∷ text) more buffer at = ap (λ (n : ℕ). sets (sets buffer at (byte ∷ text)) n more) (add-suc at (length text) ∙ sym (suc-add at (length text))) ∙ sets-append text more _ (suc at)
+
+-- one text after the other
+pub put-both : {first second third text more : List ℕ} {at next last : ℕ} → Put first second at text next → Put second third next more last → Put first third at (text ++ more) last
+put-both {first} {second} {third} {text} {more} {at} {next} {last} p q =
+    record {
+      stored = q .stored ∙ rw (p .stored, p .place) (sets-append text more first at);
+      place = q .place ∙ rw (p .place, length-append) (omega arith);
+    }
+
+pub put-length : {first second text : List ℕ} {at next : ℕ} → Put first second at text next → length second ≡ length first
+put-length {first} {text = text} {at} p = ap (λ (l : List ℕ). length l) (p .stored) ∙ length-sets first at text
+
+-- the same text in other words
+pub put-same : {first second text other : List ℕ} {at next : ℕ} → text ≡ other → Put first second at text next → Put first second at other next
+put-same e p = rw e at p
+
+drop-zeros : (n size : ℕ) → drop n (zeros size) ≡ zeros (size - n)
+drop-zeros zero size = ap (λ (k : ℕ). zeros k) (sym (sub-zero size))
+drop-zeros (suc n) zero = ap (λ (k : ℕ). zeros k) (sym (zero-sub (suc n)))
+drop-zeros (suc n) (suc size) = drop-zeros n size ∙ ap (λ (k : ℕ). zeros k) (sym (suc-sub-suc size n))
+
+-- an array of zeros into which a text was put from its start on
+pub put-written : (size : ℕ) {bytes text : List ℕ} {long : ℕ} → Put (zeros size) bytes 0 text long → length text ≤ size → Written size text bytes long
+put-written size {bytes} {text} {long} p h =
+    record {
+      all-bytes = p .stored ∙ sets-eq text (zeros size) 0 room ∙ ap (λ (l : List ℕ). text ++ l) (ap (λ (n : ℕ). drop n (zeros size)) (zero-add (length text)) ∙ drop-zeros (length text) size);
+      its-length = p .place ∙ zero-add (length text);
+      fits = rw (put-length p, length-replicate, p .place, zero-add) h;
+    }
+  where
+    room : 0 + length text ≤ length (zeros size)
+    room = rw length-replicate (omega arith)
+
+-- one byte
+pub put-one : (buffer : List ℕ) (at byte : ℕ) → Put buffer (set buffer at byte) at (byte ∷ []) (at + 1)
+put-one buffer at byte = record { stored = refl; place = omega arith }
+
+-- no text
+pub put-none : (buffer : List ℕ) (at next : ℕ) → next ≡ at → Put buffer buffer at [] next
+put-none buffer at next e = record { stored = refl; place = omega arith }
+
+-- a word, byte by byte
+module _ (first out word : List ℕ) (at : ℕ) where
+  pub byte-put : at < length word → Put first out 0 (take at word) at → Put first (set out at (getD word at 0)) 0 (take (at + 1) word) (at + 1)
+  byte-put h p = rw (add-one, take-suc word at 0 h, ← (add-one at)) (put-both p (put-one out at (getD word at 0)))
+
+  pub word-put : length word ≤ at → Put first out 0 (take at word) at → Put first out 0 word at
+  word-put h p = put-same (take-all at word h) p

@@ -1,0 +1,29 @@
+-- What it means that a text was put into a buffer, and that an array holds a text and nothing else. Assumes nothing.
+use Prim.Native.Nat.{ℕ, _+_, _-_, _≤_}
+use mathlib.Core.Path.{_≡_}
+use mathlib.Core.Bool.{Bool, true, false, _&&_}
+use mathlib.Core.List.{List, [], _∷_, _++_}
+use lib.ListN.{length, replicate}
+use lib.Seq.{sets}
+use Rattle.model.specs.Choice.{if_then_else_}
+use Rattle.model.specs.Bounds.{is-size}
+use Rattle.model.specs.Printed.{layout-line}
+
+abbrev pub zeros : ℕ → List ℕ
+zeros size = replicate size 0
+
+-- the text stands in the buffer from a place on, all other bytes are as before, and `next` is the place after it
+pub record Put (before after : List ℕ) (at : ℕ) (text : List ℕ) (next : ℕ) : Type 0 where
+  pub stored : after ≡ sets before at text
+  pub place : next ≡ at + length text
+
+-- an array of `size` bytes begins with the text and goes on with zeros; `long` is the text's length, and the text fits
+pub record Written (size : ℕ) (text bytes : List ℕ) (long : ℕ) : Type 0 where
+  pub all-bytes : bytes ≡ text ++ zeros (size - length text)
+  pub its-length : long ≡ length text
+  pub fits : long ≤ length bytes
+
+-- a layout's line; nothing where H or W is out of bounds
+unfoldable pub layout-text : ℕ → ℕ → ℕ → List ℕ → List ℕ
+layout-text height width number layout =
+    if is-size height && is-size width then layout-line height width number layout else []
