@@ -16,3 +16,4 @@ pub mod KnownCalls
 pub mod Known
 pub mod KnownRoutes
 pub mod Sequences
+pub mod SmallGrids

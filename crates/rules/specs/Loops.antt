@@ -8,6 +8,7 @@ use mathlib.Core.List.{List}
 use native.Mathlib.Omega.{arith}
 use native.Mathlib.Decide.{ℕ-discrete, decLt}
 use lib.ListN.{getD, length}
+use Rattle.rules.specs.Chains.{line-back}
 use Rattle.rules.specs.Grid.{right, down, Grid, pads, OnBoard}
 use Rattle.rules.specs.Drawing.{Drawing, Placed, Relation, Line, rightward, leftward, downward, upward, Loop}
 use Rattle.rules.specs.Record.{tabulate}
@@ -202,13 +203,7 @@ module _ {L : Relation} {Family : ℕ → Type 0} (loop : Loop L Family) where
             let begins : found .start + 0 ≡ found .start = omega arith in
             rw (at (n - 1) (omega arith), at 0 (omega arith), begins, found .same) (rw ends at (visit-line (found .start + (n - 1))))
 
--- THE LINES OF A DRAWING lead both ways, never from a pad to itself, and stay on the board
-pub line-back : (width : ℕ) (D : Drawing) (a b : ℕ) → Line width D a b → Line width D b a
-line-back width D a b (rightward e h) = leftward e h
-line-back width D a b (leftward e h) = rightward e h
-line-back width D a b (downward e h) = upward e h
-line-back width D a b (upward e h) = downward e h
-
+-- THE LINES OF A DRAWING lead both ways (Chains.antt), never from a pad to itself, and stay on the board
 line-not-itself : (width : ℕ) (D : Drawing) → 1 ≤ width → (a : ℕ) → Line width D a a → ⊥
 line-not-itself width D wide a (rightward e h) = omega arith
 line-not-itself width D wide a (leftward e h) = omega arith

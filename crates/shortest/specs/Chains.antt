@@ -1,23 +1,11 @@
--- Laws of lines and chains that hold whatever the lines are: chains set end to end and turned round, what is known of a pad with two
--- lines, and the lines of a pad carried over to other lines. It rests on the rules' Drawing.antt alone.
+-- Laws of lines and chains that hold whatever the lines are: joining the same clue pads, what is known of a pad with two lines, and the
+-- lines of a pad carried over to other lines. It rests on the rules' Drawing.antt alone.
 use Prim.Native.Nat.{ℕ}
 use mathlib.Core.Path.{_≡_, refl, sym, _∙_, ap}
 use mathlib.Core.Logic.{_≢_, _⊎_, inl, inr, _↔_, ⊎-map, ⊎-elim}
 use Rattle.rules.specs.Grid.{Cell, blank, clue}
 use Rattle.rules.specs.Places.{zero≢one}
 use Rattle.rules.specs.Drawing.{Relation, Joined, here, more, NoLine, OneLine, TwoLines, Wired}
-
--- lines lead both ways
-abbrev pub Symmetric : Relation → Type 0
-Symmetric L = (a b : ℕ) → L a b → L b a
-
-pub join-trans : {L : Relation} {a b c : ℕ} → Joined L a b → Joined L b c → Joined L a c
-join-trans here q = q
-join-trans (more l p) q = more l (join-trans p q)
-
-pub join-sym : {L : Relation} {a b : ℕ} → Symmetric L → Joined L a b → Joined L b a
-join-sym s here = here
-join-sym s (more {a = a} {b = b} l p) = join-trans (join-sym s p) (more (s a b l) here)
 
 -- the lines L and M join the same clue pads pair by pair (for the lines of two drawings of one grid this is the rules' SamePairs)
 abbrev pub ClueAt : (ℕ → Cell) → ℕ → Type 0

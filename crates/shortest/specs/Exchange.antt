@@ -6,7 +6,8 @@ use mathlib.Core.Logic.{_≢_, ⊎-map, ite, if-pos, if-neg}
 use native.Mathlib.Decide.{ℕ-discrete}
 use Rattle.rules.specs.Grid.{Cell, blank}
 use Rattle.rules.specs.Drawing.{Relation, Joined, here, more, NoLine, Loop, Wired}
-use Rattle.shortest.specs.Chains.{Symmetric, ClueAt, JoinSame, not-blank, carry-none, carry-one, carry-two, still-apart, LinesRenamed}
+use Rattle.rules.specs.Chains.{Symmetric}
+use Rattle.shortest.specs.Chains.{ClueAt, JoinSame, not-blank, carry-none, carry-one, carry-two, still-apart, LinesRenamed}
 
 -- by cases: is x the pad p, the pad q, or neither
 pub by-pad : {X : Type 0} (p q x : ℕ) → (x ≡ p → X) → (x ≡ q → X) → (x ≢ p → x ≢ q → X) → X

@@ -7,7 +7,7 @@ use mathlib.Core.Logic.{_≢_, _⊎_, inl, inr, ⊎-elim}
 use mathlib.Core.Bool.{true, false}
 use Rattle.rules.specs.Grid.{Edge, Grid, blank}
 use Rattle.rules.specs.Drawing.{Drawing, drawn, Relation, Line, NoLine, Ordinary, SamePairs}
-use Rattle.rules.specs.Loops.{line-back}
+use Rattle.rules.specs.Chains.{line-back}
 use Rattle.rules.specs.Places.{zero≢one}
 use Rattle.shortest.specs.Chains.{two-lines-blank, two-lines-only}
 use Rattle.shortest.specs.Exchange.{Exchange, exchanged, exchanged-join-same}

@@ -1,0 +1,1 @@
+// The search lists exactly the listed layouts: theory only, in specs/.

@@ -1,0 +1,26 @@
+-- What a decision keeps and makes, and that it loses no listed layout; bottom up.
+pub mod Tests
+pub mod Undecided
+pub mod Ends
+pub mod EndsKept
+pub mod Storing
+pub mod Refutation
+pub mod Edges
+pub mod Objects
+pub mod Items
+pub mod Settling
+pub mod StoredState
+pub mod Deciding
+pub mod Kept
+pub mod Squares
+pub mod Counting
+pub mod Bars
+pub mod BoardAtRest
+pub mod Agreement
+pub mod ListedDrawing
+pub mod Sound
+pub mod ProperGrid
+pub mod FreshBoard
+pub mod Decisions
+pub mod BoardCalls
+pub mod Fuel

@@ -1,0 +1,147 @@
+-- Step b and step c on a board: storing a none changes no line and no end; storing a line, where step c finds nothing against it, adds one
+-- line and joins the ends, and the ends still say what they should.
+use Prim.Native.Nat.{ℕ}
+use mathlib.Core.Path.{_≡_, refl, sym, _∙_, ap}
+use mathlib.Core.Logic.{_≢_, inl, inr, ⊎-elim}
+use mathlib.Core.Bool.{Bool, true, false, not}
+use borrow.Author.Tests.{eqb-false, eqb-true}
+use lib.Dec.{eqb}
+use Rattle.rules.specs.Grid.{Edge, first, second, Grid}
+use Rattle.rules.specs.Places.{zero≢one}
+use Rattle.model.specs.Board.{EdgeState, isLine, isUndecided, End, isThrough, unequal-negative, isPad, State, set-edge, joined-ends, on-board, cannot-join, join-ends, line, none, through, at-pad, at-clue}
+use Rattle.model.specs.Calls.{undo}
+use Rattle.propagation.specs.Tests.{or-false, conflict}
+use Rattle.propagation.specs.Undecided.{DecidedStay}
+use Rattle.rules.specs.Chains.{line-back}
+use Rattle.propagation.specs.Ends.{Added, same-pad}
+use Rattle.propagation.specs.EndsKept.{stored-ends}
+use Rattle.propagation.specs.Storing.{stored}
+use Rattle.propagation.specs.Edges.{same-or-not, set-here, set-elsewhere, decided-elsewhere, is-line, is-undecided, drawing, same-drawing, board-lines, edge-of, forward, line-of}
+use Rattle.propagation.specs.Objects.{Holds, Geometry, chains, board}
+
+module _ (g : Grid) (S : State) (e : Edge) (undecided-before : isUndecided (S .edge e) ≡ true) where
+  not-a-line : (x : Edge) → x ≡ e → isLine (S .edge x) ≡ false
+  not-a-line x p = ap (λ y. isLine (S .edge y)) p ∙ ap isLine (is-undecided (S .edge e) undecided-before)
+
+  pub flag-kept : (m : EdgeState) → (set-edge S e m) .flag ≡ S .flag
+  unfolding set-edge
+  flag-kept m = refl
+
+  end-kept : (m : EdgeState) → (set-edge S e m) .end ≡ S .end
+  unfolding set-edge
+  end-kept m = refl
+
+  -- NONE
+  none-lines : (x : Edge) → isLine ((set-edge S e none) .edge x) ≡ isLine (S .edge x)
+  none-lines x = ⊎-elim
+      (λ p. ap (λ y. isLine ((set-edge S e none) .edge y)) p ∙ ap isLine (set-here S e none) ∙ sym (not-a-line x p))
+      (λ n. ap isLine (set-elsewhere S e none x n)) (same-or-not x e)
+
+  pub line-before : (x : Edge) → (set-edge S e none) .edge x ≡ line → S .edge x ≡ line
+  line-before x h = is-line (S .edge x) (sym (none-lines x) ∙ ap isLine h)
+
+  pub none-chains : Holds g S chains → Holds g (set-edge S e none) chains
+  unfolding Holds
+  none-chains h = rw (same-drawing S (set-edge S e none) none-lines, end-kept none) h
+
+  pub none-board : Holds g S board → Holds g (set-edge S e none) board
+  unfolding Holds
+  none-board h x k = h x (line-before x k)
+
+  -- LINE: the state after step c
+  unfoldable pub with-line : State
+  with-line = join-ends g e (set-edge S e line)
+
+  pub line-elsewhere : (x : Edge) → x ≢ e → with-line .edge x ≡ S .edge x
+  unfolding with-line join-ends
+  line-elsewhere x n = set-elsewhere S e line x n
+
+  pub line-here : with-line .edge e ≡ line
+  unfolding with-line join-ends
+  line-here = set-here S e line
+
+  pub line-flag : with-line .flag ≡ S .flag
+  unfolding with-line join-ends
+  line-flag = flag-kept line
+
+  pub line-stays : DecidedStay S with-line
+  line-stays x h = line-elsewhere x (decided-elsewhere S e x undecided-before h)
+
+  -- A and B of step c
+  abbrev pub end-A : End
+  end-A = S .end (first e)
+
+  abbrev pub end-B : End
+  end-B = S .end (second (g .width) e)
+
+  line-ends : with-line .end ≡ joined-ends (S .end) (first e) (second (g .width) e) end-A end-B
+  unfolding with-line join-ends set-edge
+  line-ends = refl
+
+  pub line-board : on-board g e ≡ true → Holds g S board → Holds g with-line board
+  unfolding Holds
+  line-board on h x k = ⊎-elim (λ p. rw p on) (λ n. h x (sym (line-elsewhere x n) ∙ k)) (same-or-not x e)
+
+  -- where step c finds nothing against the line
+  module _ (geo : Geometry g) (can-join : cannot-join g e (set-edge S e line) ≡ false) where
+    record Joinable : Type 0 where
+      not-through-A : isThrough end-A ≡ false
+      not-through-B : isThrough end-B ≡ false
+      equal-codes : unequal-negative end-A end-B ≡ false
+      not-closing : isPad end-A (second (g .width) e) ≡ false
+
+    joinable : Joinable
+    unfolding cannot-join set-edge
+    joinable = let (a, b) = or-false _ _ can-join in let (c, d) = or-false _ _ b in let (x, y) = or-false _ _ d in
+        record { not-through-A = a; not-through-B = c; equal-codes = x; not-closing = y }
+
+    not-through : (X : End) → isThrough X ≡ false → X ≢ through
+    not-through X h p = let k = ap isThrough p in zero≢one (cc)
+
+    not-that-pad : (X : End) (v : ℕ) → isPad X v ≡ false → X ≢ at-pad v
+    not-that-pad X v h p = let k : eqb v v ≡ false = sym (ap (λ Y. isPad Y v) p) ∙ h in eqb-false v v k refl
+
+    one-code : (X Y : End) → unequal-negative X Y ≡ false → (c d : ℕ) → X ≡ at-clue c → Y ≡ at-clue d → c ≡ d
+    one-code X Y h c d p q = let k : not (eqb c d) ≡ false = rw (p, q) at h in eqb-true c d (undo (eqb c d) k)
+      where
+        undo : (b : Bool) → not b ≡ false → b ≡ true
+        undo true k = refl
+        undo false k = zero≢one (cc)
+
+    line-added : Added (board-lines g S) (board-lines g with-line) (first e) (second (g .width) e)
+    line-added = record {
+      keep = λ x y l. let t = edge-of g S x y l in line-of g with-line x y (record {
+        edge = t .edge;
+        is = line-elsewhere (t .edge) (λ p. conflict (ap isLine (t .is)) (not-a-line (t .edge) p)) ∙ t .is;
+        ends = t .ends;
+      });
+      there = forward g with-line e line-here;
+      back = line-back (g .width) (drawing with-line) _ _ (forward g with-line e line-here);
+      only = λ x y l. let t = edge-of g with-line x y l in ⊎-elim
+          (λ p. inr (rw p at (t .ends)))
+          (λ n. inl (line-of g S x y (record { edge = t .edge; is = sym (line-elsewhere (t .edge) n) ∙ t .is; ends = t .ends }))) (same-or-not (t .edge) e);
+    }
+
+    no-line-before : board-lines g S (first e) (second (g .width) e) → ⊥
+    no-line-before l = let t = edge-of g S _ _ l in conflict (ap isLine (t .is)) (not-a-line (t .edge) (geo .one-edge (t .edge) e (t .ends)))
+
+    pub line-chains : Holds g S chains → Holds g with-line chains
+    unfolding Holds with-line join-ends set-edge
+    line-chains h = rw line-ends (stored-ends (record {
+      both-ways = line-back (g .width) (drawing S);
+      ends = h;
+      added = line-added;
+      stored = stored (S .end) (first e) (second (g .width) e) end-A end-B (geo .apart e) not-B
+          (λ p. not-B (h .pad-end _ _ p .back)) (λ x p q. geo .apart e (same-pad (sym (h .pad-end _ _ p .back) ∙ h .pad-end _ _ q .back)));
+      at-u = refl;
+      at-v = refl;
+      A-not-through = not-through end-A (joinable .not-through-A);
+      B-not-through = not-through end-B (joinable .not-through-B);
+      apart = geo .apart e;
+      no-line-yet = no-line-before;
+      not-closing = not-B;
+      one-code = one-code end-A end-B (joinable .equal-codes);
+    }))
+      where
+        not-B : end-A ≢ at-pad (second (g .width) e)
+        not-B = not-that-pad end-A (second (g .width) e) (joinable .not-closing)

@@ -1,0 +1,1 @@
+// What the board's calls keep and lose: theory only, in specs/.

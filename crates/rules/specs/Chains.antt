@@ -1,0 +1,26 @@
+-- Chains of lines, whatever the lines are: set end to end, turned round, carried over to more lines; and the lines of a drawing, which
+-- lead both ways. Small laws that the definitions of Drawing.antt leave unsaid.
+use Prim.Native.Nat.{ℕ}
+use Rattle.rules.specs.Drawing.{Drawing, Relation, Line, Joined, rightward, leftward, downward, upward, here, more}
+
+-- lines lead both ways
+abbrev pub Symmetric : Relation → Type 0
+Symmetric L = (a b : ℕ) → L a b → L b a
+
+pub join-trans : {L : Relation} {a b c : ℕ} → Joined L a b → Joined L b c → Joined L a c
+join-trans here q = q
+join-trans (more l p) q = more l (join-trans p q)
+
+pub join-sym : {L : Relation} {a b : ℕ} → Symmetric L → Joined L a b → Joined L b a
+join-sym s here = here
+join-sym s (more {a = a} {b = b} l p) = join-trans (join-sym s p) (more (s a b l) here)
+
+pub join-mono : {L M : Relation} {a b : ℕ} → ((x y : ℕ) → L x y → M x y) → Joined L a b → Joined M a b
+join-mono f here = here
+join-mono f (more {a = a} {b = b} l p) = more (f a b l) (join-mono f p)
+
+pub line-back : (width : ℕ) (D : Drawing) → Symmetric (Line width D)
+line-back width D a b (rightward e h) = leftward e h
+line-back width D a b (leftward e h) = rightward e h
+line-back width D a b (downward e h) = upward e h
+line-back width D a b (upward e h) = downward e h
