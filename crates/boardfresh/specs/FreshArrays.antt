@@ -1,0 +1,87 @@
+-- What the arrays of a fresh board hold at each index: a byte for each edge, an end number for each pad, and the kinds of the pads. The
+-- contracts of the code cite these definitions; FreshView.antt shows what they mean. It rests on boardview's View.antt.
+use Prim.Native.Nat.{ℕ, suc, _+_, _*_, _-_, _/_, _%_, _≤_, _<_}
+use mathlib.Core.Path.{_≡_}
+use mathlib.Core.Bool.{Bool, true, false, _&&_, not}
+use mathlib.Core.List.{List}
+use lib.Dec.{eqb, ltb}
+use lib.ListN.{getD, length}
+use lib.IntN.{ℤ, pos, negsuc}
+use Rattle.rules.specs.Grid.{CellInRange, blank-cell, cell-of, Grid, grid-of}
+use Rattle.rules.specs.Drawing.{num, on-left, on-right}
+use Rattle.model.specs.Board.{isBlank, has-down, has-side, barred}
+use Rattle.boardview.specs.View.{pick, has-bit, clue-bit}
+
+-- FILLED: a list of this length, which from `start` up to `size` holds what f says. The loops fill from the last index down to 0.
+pub record Filled {A : Type 0} (f : ℕ → A) (rest : A) (long size start : ℕ) (l : List A) : Type 0 where
+  pub as-long : length l ≡ long
+  pub holds : (i : ℕ) → start ≤ i → i < size → getD l i rest ≡ f i
+
+-- EDGES: undecided, or none off the board
+unfoldable pub right-byte : ℕ → ℕ → ℕ → ℕ
+right-byte width pads v = pick (ltb (v % width + 1) width && ltb v pads) 0 2
+
+unfoldable pub down-byte : ℕ → ℕ → ℕ → ℕ
+down-byte width pads v = pick (ltb (v + width) pads) 0 2
+
+-- the byte of a slot: 32 bytes before the first edge, then the edge to the right and the edge downward of each pad
+unfoldable pub edge-byte : ℕ → ℕ → ℕ → ℕ
+edge-byte width pads s = pick (ltb s 32) 2 (pick (eqb (s % 2) 0) (right-byte width pads (s / 2 - 16)) (down-byte width pads (s / 2 - 16)))
+
+abbrev pub EdgesFrom : ℕ → ℕ → ℕ → List ℕ → Type 0
+EdgesFrom width pads start edges = Filled (edge-byte width pads) 2 1024 1024 start edges
+
+-- ENDS: a pad's own index where it is blank, -v - 2 for a clue of value v
+unfoldable pub fresh-end-number : ℤ → ℕ → ℤ
+fresh-end-number (pos code) v = negsuc (suc code)
+fresh-end-number (negsuc n) v = pos v
+
+unfoldable pub end-number-at : List ℤ → ℕ → ℤ
+end-number-at cells v = fresh-end-number (getD cells v blank-cell) v
+
+abbrev pub EndsFrom : List ℤ → ℕ → List ℤ → Type 0
+EndsFrom cells start ends = Filled (end-number-at cells) (pos 0) 512 512 start ends
+
+abbrev pub CellsInRange : List ℤ → Type 0
+CellsInRange cells = (v : ℕ) → v < length cells → CellInRange (getD cells v blank-cell)
+
+-- KINDS: a byte of five facts of a pad: a clue, barred to the right, barred to the left, a corner to the right, a corner to the left
+unfoldable pub kind-byte : Bool → Bool → Bool → Bool → Bool → ℕ
+kind-byte clue bar-right bar-left corner-right corner-left = num clue + 2 * num bar-right + 4 * num bar-left + 8 * num corner-right + 16 * num corner-left
+
+unfoldable pub is-clue : List ℤ → ℕ → Bool
+is-clue cells v = not (isBlank (cell-of (getD cells v blank-cell)))
+
+-- the pad has an edge downward and one to that side
+unfoldable pub corner-test : ℕ → ℕ → Bool → ℕ → Bool
+corner-test width pads on-the-right v = ltb (v + width) pads && pick on-the-right (ltb (v % width + 1) width) (ltb 0 (v % width))
+
+-- barred, as the byte of a pad tells it: where the pad has no corner, every blank pad is
+unfoldable pub barred-in : List ℕ → ℕ → ℕ → ℕ → Bool
+barred-in kind v corner bar = pick (has-bit kind v corner) (has-bit kind v bar) (not (has-bit kind v clue-bit))
+
+unfoldable pub barred-below : List ℕ → ℕ → Bool → ℕ → Bool
+barred-below kind width on-the-right v = pick on-the-right (barred-in kind (v + width + 1) 8 2) (barred-in kind (v + width - 1) 16 4)
+
+unfoldable pub bar-test : List ℕ → ℕ → ℕ → Bool → Bool → ℕ → Bool
+bar-test kind width pads clue on-the-right v = corner-test width pads on-the-right v && (not clue && barred-below kind width on-the-right v)
+
+-- the byte of pad v, from the bytes of the pads below it
+unfoldable pub kind-from : List ℕ → ℕ → ℕ → List ℤ → ℕ → ℕ
+kind-from kind width pads cells v = kind-byte (is-clue cells v) (bar-test kind width pads (is-clue cells v) true v) (bar-test kind width pads (is-clue cells v) false v)
+    (corner-test width pads true v) (corner-test width pads false v)
+
+-- the byte of pad v, by the model
+unfoldable pub kind-of : Grid → ℕ → ℕ
+kind-of g v = kind-byte (not (isBlank (g .cell v)))
+    ((has-down g v && has-side g on-right v) && barred g on-right (g .height) v) ((has-down g v && has-side g on-left v) && barred g on-left (g .height) v)
+    (has-down g v && has-side g on-right v) (has-down g v && has-side g on-left v)
+
+abbrev pub KindsFrom : ℕ → ℕ → List ℤ → ℕ → List ℕ → Type 0
+KindsFrom height width cells start kind = Filled (kind-of (grid-of height width cells)) 0 1024 256 start kind
+
+-- the kinds of all pads, and the sizes
+pub record FreshKinds (height width : ℕ) (cells : List ℤ) (kind : List ℕ) : Type 0 where
+  pub filled : KindsFrom height width cells 0 kind
+  pub height-held : getD kind 510 0 ≡ height
+  pub width-held : getD kind 511 0 ≡ width

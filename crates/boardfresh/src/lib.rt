@@ -1,0 +1,240 @@
+// The arrays of a fresh board, from the sizes and a lent list of cells: a byte for each edge, an end number for each pad, and the kinds
+// of the pads. What they hold is said in specs/FreshArrays.antt; that they show the model's fresh board is proved in specs/FreshView.antt.
+ghost use mathlib.Core.Path.{_≡_};
+ghost use mathlib.Core.Bool.{Bool, true, false};
+ghost use Prim.Native.Nat.{ℕ, _+_, _*_, _≤_, _<_};
+ghost use lib.ListN.{length, set, getD};
+ghost use Rattle.rules.specs.Grid.{Size, Accepted, grid-of};
+ghost use Rattle.rules.specs.Drawing.{num};
+ghost use Rattle.boardview.specs.View.{has-bit};
+ghost use Rattle.boardfresh.specs.FreshArrays.{right-byte, down-byte, edge-byte, EdgesFrom, end-number-at, EndsFrom, CellsInRange, kind-byte, is-clue, corner-test, barred-in, barred-below, bar-test, kind-from, FreshKinds};
+ghost use Rattle.boardfresh.specs.FreshView.{FreshBoard};
+
+// The byte of the edge to the right of a pad: undecided, or none in the last column and past the last pad.
+fn right_byte(width: usize, pads: usize, v: usize) -> u8
+    requires { ⌜ (0 < width) × (width ≤ 16) ⌝ }
+    ensures { λ r. ⌜ r ≡ right-byte width pads v ⌝ }
+{
+    if v < pads {
+        if v % width + 1 < width {
+            return 0;
+        }
+    }
+    2
+}
+
+// The byte of the edge downward: undecided, or none in the last row and past the last pad.
+fn down_byte(width: usize, pads: usize, v: usize) -> u8
+    requires { ⌜ (width ≤ 16) × (v < 512) ⌝ }
+    ensures { λ r. ⌜ r ≡ down-byte width pads v ⌝ }
+{
+    if v + width < pads {
+        return 0;
+    }
+    2
+}
+
+// The byte of a slot; 32 slots before the first edge hold none.
+fn edge_byte(width: usize, pads: usize, slot: usize) -> u8
+    requires { ⌜ (0 < width) × (width ≤ 16) × (slot < 1024) ⌝ }
+    ensures { λ r. ⌜ r ≡ edge-byte width pads slot ⌝ }
+{
+    if slot < 32 {
+        return 2;
+    }
+    if slot % 2 == 0 {
+        return right_byte(width, pads, slot / 2 - 16);
+    }
+    down_byte(width, pads, slot / 2 - 16)
+}
+
+// The bytes of all edges; slots that are no edge of the board hold none.
+pub fn fresh_edges(height: usize, width: usize) -> [u8; 1024]
+    requires { ⌜ Size height × Size width ⌝ }
+    ensures { λ r. ⌜ EdgesFrom width (height * width) 0 r ⌝ }
+{
+    let mut edges = [2u8; 1024];
+    let pads = height * width;
+    let mut slot = 32 + 2 * pads;
+    while 0 < slot {
+        slot -= 1;
+        edges[slot] = edge_byte(width, pads, slot);
+    }
+    edges
+}
+
+// The end number of one pad is stored: its own index, or -v - 2 for a clue of value v.
+fn put_fresh_end(ends: &mut [i32; 512], cells: &[i32], v: usize)
+    requires { ⌜ (v < 512) × CellsInRange (now cells) ⌝ }
+    ensures { λ _. ⌜ now (ends .exit) ≡ set (now (ends .entry)) v (end-number-at (now (cells .entry)) v) ⌝ }
+{
+    if v >= cells.len() {
+        ends[v] = v as i32;
+        return;
+    }
+    let code = cells[v];
+    if code < 0 {
+        ends[v] = v as i32;
+        return;
+    }
+    ends[v] = -code - 2;
+}
+
+// The ends of all pads.
+pub fn fresh_ends(cells: &[i32]) -> [i32; 512]
+    requires { ⌜ CellsInRange (now cells) ⌝ }
+    ensures { λ r. ⌜ EndsFrom (now (cells .entry)) 0 r ⌝ }
+{
+    let mut ends = [0i32; 512];
+    let mut v = 512;
+    while 0 < v {
+        v -= 1;
+        put_fresh_end(&mut ends, cells, v);
+    }
+    ends
+}
+
+// Whether the byte of a pad has this bit.
+fn has(kind: &[u8; 1024], v: usize, bit: u8) -> bool
+    requires { ⌜ v < 1024 ⌝ }
+    ensures { λ r. ⌜ r ≡ has-bit (now (kind .entry)) v bit ⌝ }
+{
+    kind[v] & bit != 0
+}
+
+// Whether a pad is a clue.
+fn clue_at(cells: &[i32], v: usize) -> bool
+    requires { ⌜ v < length (now cells) ⌝ }
+    ensures { λ r. ⌜ r ≡ is-clue (now (cells .entry)) v ⌝ }
+{
+    let code = cells[v];
+    if code < 0 {
+        return false;
+    }
+    true
+}
+
+// Whether a pad has an edge downward and one to that side.
+fn has_corner(width: usize, pads: usize, right: bool, v: usize) -> bool
+    requires { ⌜ (0 < width) × (width ≤ 16) × (v < 256) ⌝ }
+    ensures { λ r. ⌜ r ≡ corner-test width pads right v ⌝ }
+{
+    if v + width >= pads {
+        return false;
+    }
+    if right {
+        return v % width + 1 < width;
+    }
+    0 < v % width
+}
+
+// Whether a pad is barred, by its byte.
+fn is_barred(kind: &[u8; 1024], v: usize, corner: u8, bar: u8) -> bool
+    requires { ⌜ v < 1024 ⌝ }
+    ensures { λ r. ⌜ r ≡ barred-in (now (kind .entry)) v corner bar ⌝ }
+{
+    if has(kind, v, corner) {
+        return has(kind, v, bar);
+    }
+    !has(kind, v, 1)
+}
+
+// Whether the pad diagonally below on that side is barred.
+fn is_barred_below(kind: &[u8; 1024], width: usize, right: bool, v: usize) -> bool
+    requires { ⌜ (0 < width) × (width ≤ 16) × (v < 256) ⌝ }
+    ensures { λ r. ⌜ r ≡ barred-below (now (kind .entry)) width right v ⌝ }
+{
+    if right {
+        return is_barred(kind, v + width + 1, 8, 2);
+    }
+    is_barred(kind, v + width - 1, 16, 4)
+}
+
+// Whether a pad with a corner on that side is barred there.
+fn has_bar(kind: &[u8; 1024], width: usize, pads: usize, clue: bool, right: bool, v: usize) -> bool
+    requires { ⌜ (0 < width) × (width ≤ 16) × (v < 256) ⌝ }
+    ensures { λ r. ⌜ r ≡ bar-test (now (kind .entry)) width pads clue right v ⌝ }
+{
+    if !has_corner(width, pads, right, v) {
+        return false;
+    }
+    if clue {
+        return false;
+    }
+    is_barred_below(kind, width, right, v)
+}
+
+// 1 or 0.
+fn number(fact: bool) -> u8
+    ensures { λ r. ⌜ r ≡ num fact ⌝ }
+{
+    if fact {
+        return 1;
+    }
+    0
+}
+
+// The byte of five facts.
+fn kind_byte(
+    clue: bool,
+    bar_right: bool,
+    bar_left: bool,
+    corner_right: bool,
+    corner_left: bool,
+) -> u8
+    ensures { λ r. ⌜ r ≡ kind-byte clue «bar_right» «bar_left» «corner_right» «corner_left» ⌝ }
+{
+    number(clue)
+        + 2 * number(bar_right)
+        + 4 * number(bar_left)
+        + 8 * number(corner_right)
+        + 16 * number(corner_left)
+}
+
+// The byte of a pad, from the bytes of the pads below it.
+fn pad_kind(kind: &[u8; 1024], width: usize, pads: usize, cells: &[i32], v: usize) -> u8
+    requires { ⌜ (0 < width) × (width ≤ 16) × (v < 256) × (v < length (now cells)) ⌝ }
+    ensures { λ r. ⌜ r ≡ kind-from (now (kind .entry)) width pads (now (cells .entry)) v ⌝ }
+{
+    let clue = clue_at(cells, v);
+    let bar_right = has_bar(kind, width, pads, clue, true, v);
+    let bar_left = has_bar(kind, width, pads, clue, false, v);
+    let corner_right = has_corner(width, pads, true, v);
+    let corner_left = has_corner(width, pads, false, v);
+    kind_byte(clue, bar_right, bar_left, corner_right, corner_left)
+}
+
+// The kinds of all pads, from the last one up, and the sizes.
+pub fn fresh_kind(height: usize, width: usize, cells: &[i32]) -> [u8; 1024]
+    requires { ⌜ Accepted height width (now cells) ⌝ }
+    ensures { λ r. ⌜ FreshKinds height width (now (cells .entry)) r ⌝ }
+{
+    let mut kind = [0u8; 1024];
+    let pads = height * width;
+    let mut v = pads;
+    while 0 < v {
+        v -= 1;
+        kind[v] = pad_kind(&kind, width, pads, cells, v);
+    }
+    kind[510] = height as u8;
+    kind[511] = width as u8;
+    kind
+}
+
+// The arrays of a fresh board.
+pub struct Fresh {
+    pub edges: [u8; 1024],
+    pub ends: [i32; 512],
+    pub kind: [u8; 1024],
+}
+
+// The arrays of the fresh board of an accepted grid.
+pub fn fresh_board(height: usize, width: usize, cells: &[i32]) -> Fresh
+    requires { ⌜ Accepted height width (now cells) ⌝ }
+    ensures { λ r. ⌜ FreshBoard (grid-of height width (now (cells .entry))) (r .edges) (r .ends) (r .kind) ⌝ }
+{
+    let edges = fresh_edges(height, width);
+    let ends = fresh_ends(cells);
+    let kind = fresh_kind(height, width, cells);
+    Fresh { edges, ends, kind }
+}

@@ -1,0 +1,19 @@
+use Rattle.boardview.specs.View.{has-bit}
+use mathlib.Core.Path.{_≡_, refl, sym, ap, _∙_}
+use borrow.Author.Needs.{needs}
+use Rattle.boardparts.proofs.has.Statement.{statement}
+use Rattle.boardparts.proofs.has.Tie as tie
+use Rattle.boardparts.proofs.has.Reads as reads
+use Rattle.boardparts.proofs.has.Lts as lts
+
+-- src/lib.rt:60:5
+element-copy-out-result : tie.Need-element-copy-out-result
+element-copy-out-result c = search needs
+
+-- src/lib.rt:56:1
+returns : tie.Need-returns
+unfolding has-bit
+returns c = refl
+
+pub has-spec : {M : Type 1} → statement M
+has-spec = tie.close (tie.spec element-copy-out-result returns)

@@ -1,0 +1,1 @@
+-- The leaves state their promises with the definitions of boardview; there are none here.

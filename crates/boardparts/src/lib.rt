@@ -1,0 +1,389 @@
+// The leaves of a decision: what only reads the board's lent arrays and chooses, and what stores one entry. Each equals a definition of
+// boardview's View.antt. Nothing here calls a decision.
+ghost use mathlib.Core.Path.{_≡_};
+ghost use mathlib.Core.Bool.{Bool, true, false, _&&_};
+ghost use Prim.Native.Nat.{ℕ, _+_, _*_, _-_, _/_, _%_, _≤_, _<_};
+ghost use lib.ListN.{getD, set, length};
+ghost use lib.Dec.{eqb, ltb};
+ghost use lib.IntN.{ℤ, pos, negsuc};
+ghost use Rattle.rules.specs.Drawing.{num};
+ghost use Rattle.model.specs.Board.{at-pad, isThrough};
+ghost use Rattle.boardview.specs.View.{pick, stopped, ended, going, end-at, has-bit, grid-in, second-pad, joined, unjoinable, pad-number, code-number, rival, keeps-apart, some-apart, clue-apart, undecided-around, degree-around, first-around, action-around};
+ghost use Rattle.boardview.specs.Unwind.{log-stored, log-joined};
+
+// A byte as a number.
+pub fn wide(byte: u8) -> usize
+    ensures { λ r. ⌜ r ≡ byte ⌝ }
+{
+    byte as usize
+}
+
+// The number of columns.
+pub fn width(kind: &[u8; 1024]) -> usize
+    ensures { λ r. ⌜ r ≡ grid-in (now (kind .entry)) .width ⌝ }
+{
+    wide(kind[511])
+}
+
+// The flag is set, and the decision has ended.
+pub fn stop(count: usize) -> usize
+    ensures { λ r. ⌜ r ≡ stopped count ⌝ }
+{
+    count % 1024 + 2048
+}
+
+// The decision has ended if the flag is set.
+pub fn end(count: usize) -> usize
+    ensures { λ r. ⌜ r ≡ ended count ⌝ }
+{
+    if count < 1024 {
+        return count;
+    }
+    count % 1024 + 2048
+}
+
+// The decision goes on.
+pub fn go_on(count: usize) -> usize
+    ensures { λ r. ⌜ r ≡ going count ⌝ }
+{
+    if count < 2048 {
+        return count;
+    }
+    count - 1024
+}
+
+// The count after a pad check that decides no edge: action 0 does nothing, action 1 sets the flag.
+pub fn rest(action: usize, count: usize) -> usize
+    requires { ⌜ action < 2 ⌝ }
+    ensures { λ r. ⌜ r ≡ pick (eqb action 0) (ended count) (stopped count) ⌝ }
+{
+    if action == 0 {
+        return end(count);
+    }
+    stop(count)
+}
+
+// A fact of a pad, by its bit.
+pub fn has(kind: &[u8; 1024], v: usize, bit: u8) -> bool
+    requires { ⌜ v < 1024 ⌝ }
+    ensures { λ r. ⌜ r ≡ has-bit (now (kind .entry)) v bit ⌝ }
+{
+    kind[v] & bit != 0
+}
+
+// The slot if the pad has the bit, else slot 0, which holds none for ever.
+pub fn slot_where(kind: &[u8; 1024], v: usize, bit: u8, slot: usize) -> usize
+    requires { ⌜ v < 1024 ⌝ }
+    ensures { λ r. ⌜ r ≡ pick (has-bit (now (kind .entry)) v bit) slot 0 ⌝ }
+{
+    if has(kind, v, bit) {
+        return slot;
+    }
+    0
+}
+
+pub fn first_pad(slot: usize) -> usize
+    requires { ⌜ 32 ≤ slot ⌝ }
+    ensures { λ r. ⌜ r ≡ slot / 2 - 16 ⌝ }
+{
+    slot / 2 - 16
+}
+
+pub fn second_pad(slot: usize, width: usize) -> usize
+    requires { ⌜ (32 ≤ slot) × (slot < 1024) × (width ≤ 16) ⌝ }
+    ensures { λ r. ⌜ r ≡ second-pad width slot ⌝ }
+{
+    if slot % 2 == 0 {
+        return slot / 2 - 15;
+    }
+    slot / 2 - 16 + width
+}
+
+// The pad that a pad's end names, or 512.
+pub fn end_pad(ends: &[i32; 512], v: usize) -> usize
+    requires { ⌜ (v < 512) × (length (now ends) ≡ 512) ⌝ }
+    ensures { λ r. ⌜ r ≡ pad-number (end-at (now (ends .entry)) v) ⌝ }
+{
+    let a = ends[v];
+    if a < 0 {
+        return 512;
+    }
+    a as usize
+}
+
+// 1 more than the code of the clue that a pad's end names, or 0.
+pub fn end_code(ends: &[i32; 512], v: usize) -> usize
+    requires { ⌜ (v < 512) × (length (now ends) ≡ 512) ⌝ }
+    ensures { λ r. ⌜ r ≡ code-number (end-at (now (ends .entry)) v) ⌝ }
+{
+    let a = ends[v];
+    if a < 0 {
+        return (-1 - a) as usize;
+    }
+    0
+}
+
+// A line passes through the pad.
+pub fn passed(ends: &[i32; 512], v: usize) -> bool
+    requires { ⌜ (v < 512) × (length (now ends) ≡ 512) ⌝ }
+    ensures { λ r. ⌜ r ≡ isThrough (end-at (now (ends .entry)) v) ⌝ }
+{
+    let a = ends[v];
+    if a == -1 {
+        return true;
+    }
+    false
+}
+
+// Two numbers of clues' ends, of different clues.
+pub fn rivals(a: usize, b: usize) -> bool
+    ensures { λ r. ⌜ r ≡ rival a b ⌝ }
+{
+    if b == 0 {
+        return false;
+    }
+    a != b
+}
+
+// Step c: the line cannot be, by the ends of its pads.
+pub fn cannot_join(ends: &[i32; 512], v: usize, q: usize) -> bool
+    requires { ⌜ (v < 512) × (q < 512) × (length (now ends) ≡ 512) ⌝ }
+    ensures { λ r. ⌜ r ≡ unjoinable (end-at (now (ends .entry)) v) (end-at (now (ends .entry)) q) q ⌝ }
+{
+    if passed(ends, v) {
+        return true;
+    }
+    if passed(ends, q) {
+        return true;
+    }
+    let a = end_code(ends, v);
+    if a != 0 {
+        return rivals(a, end_code(ends, q));
+    }
+    end_pad(ends, v) == q
+}
+
+// Stores the state of an edge, and an entry of the log for it.
+pub fn store(edges: &mut [u8; 1024], log: &mut [i32; 2048], slot: usize, state: u8, count: usize)
+    requires { ⌜ (slot < 1024) × (count % 1024 < 480) ⌝ }
+    ensures { λ _. ⌜ (now (edges .exit) ≡ set (now (edges .entry)) slot state) × (now (log .exit) ≡ log-stored (now (log .entry)) (count % 1024) slot) ⌝ }
+{
+    let k = 4 * (count % 1024);
+    edges[slot] = state;
+    log[k] = slot as i32;
+    log[k + 1] = -1;
+}
+
+// Stores an entry of the log for a line that joins the chains of pads v and q.
+pub fn log_line(
+    ends: &[i32; 512],
+    log: &mut [i32; 2048],
+    slot: usize,
+    v: usize,
+    q: usize,
+    count: usize,
+)
+    requires { ⌜ (slot < 1024) × (v < 512) × (q < 512) × (count % 1024 < 480) × (length (now ends) ≡ 512) ⌝ }
+    ensures { λ _. ⌜ now (log .exit) ≡ log-joined (now (log .entry)) (count % 1024) slot (getD (now (ends .entry)) v (pos v)) (getD (now (ends .entry)) q (pos q)) ⌝ }
+{
+    let k = 4 * (count % 1024);
+    log[k] = slot as i32;
+    log[k + 1] = ends[v];
+    log[k + 2] = ends[q];
+}
+
+// Step c: both pads get -1, then pad A (if there is one) gets B and pad B gets A.
+pub fn join_ends(ends: &mut [i32; 512], v: usize, q: usize)
+    requires { ⌜ (v < 512) × (q < 512) × (length (now ends) ≡ 512) ⌝ }
+    ensures { λ _. ⌜ now (ends .exit) ≡ joined v q (now (ends .entry)) ⌝ }
+{
+    let p = end_pad(ends, v);
+    let o = end_pad(ends, q);
+    let a = ends[v];
+    let b = ends[q];
+    ends[v] = -1;
+    ends[q] = -1;
+    if p < 512 {
+        ends[p] = b;
+        if o < 512 {
+            ends[o] = a;
+            return;
+        }
+        return;
+    }
+    if o < 512 {
+        ends[o] = a;
+        return;
+    }
+}
+
+// The edge at a slot is to be none, since it leads to a pad whose end is of another clue than `code`. `past` is 16 more than that pad.
+pub fn keeps_apart(
+    edges: &[u8; 1024],
+    ends: &[i32; 512],
+    code: usize,
+    slot: usize,
+    past: usize,
+) -> bool
+    requires { ⌜ (slot < 1024) × (past < 528) × (getD (now edges) slot 0 ≡ 0 → 16 ≤ past) × (length (now ends) ≡ 512) ⌝ }
+    ensures { λ r. ⌜ r ≡ keeps-apart (now (edges .entry)) (now (ends .entry)) code slot (past - 16) ⌝ }
+{
+    if edges[slot] == 0 {
+        return rivals(code, end_code(ends, past - 16));
+    }
+    false
+}
+
+// The slot if its edge is to be none and the decision goes on, else slot 0, which holds none for ever.
+pub fn slot_apart(
+    edges: &[u8; 1024],
+    ends: &[i32; 512],
+    code: usize,
+    slot: usize,
+    past: usize,
+    count: usize,
+) -> usize
+    requires { ⌜ (slot < 1024) × (past < 528) × (getD (now edges) slot 0 ≡ 0 → 16 ≤ past) × (length (now ends) ≡ 512) ⌝ }
+    ensures { λ r. ⌜ (r ≡ pick (ltb count 2048) (pick (keeps-apart (now (edges .entry)) (now (ends .entry)) code slot (past - 16)) slot 0) 0) × (r < 1024) ⌝ }
+{
+    if count < 2048 {
+        if keeps_apart(edges, ends, code, slot, past) {
+            return slot;
+        }
+        return 0;
+    }
+    0
+}
+
+// The count after a decision at a slot, or as it was where the slot was 0.
+pub fn count_after(slot: usize, before: usize, after: usize) -> usize
+    ensures { λ r. ⌜ r ≡ pick (eqb slot 0) before after ⌝ }
+{
+    if slot == 0 {
+        return before;
+    }
+    after
+}
+
+// One of the four edges at a pad is to be none.
+pub fn some_apart(edges: &[u8; 1024], ends: &[i32; 512], width: usize, v: usize) -> bool
+    requires { ⌜ (v < 256) × (2 ≤ width) × (width ≤ 16) × (length (now ends) ≡ 512) × (getD (now edges) (30 + 2 * v) 0 ≡ 0 → 1 ≤ v) × (getD (now edges) (33 + 2 * v - 2 * width) 0 ≡ 0 → width ≤ v) ⌝ }
+    ensures { λ r. ⌜ r ≡ clue-apart (now (edges .entry)) (now (ends .entry)) width v ⌝ }
+{
+    let code = end_code(ends, v);
+    if code == 0 {
+        return false;
+    }
+    if keeps_apart(edges, ends, code, 30 + 2 * v, 15 + v) {
+        return true;
+    }
+    if keeps_apart(edges, ends, code, 32 + 2 * v, 17 + v) {
+        return true;
+    }
+    if keeps_apart(edges, ends, code, 33 + 2 * v - 2 * width, 16 + v - width) {
+        return true;
+    }
+    keeps_apart(edges, ends, code, 33 + 2 * v, 16 + v + width)
+}
+
+// 1 if a byte is this, else 0.
+pub fn is(byte: u8, this: u8) -> u8
+    ensures { λ r. ⌜ (r ≡ num (eqb byte this)) × (r ≤ 1) ⌝ }
+{
+    if byte == this {
+        return 1;
+    }
+    0
+}
+
+pub fn one_if(test: bool) -> u8
+    ensures { λ r. ⌜ (r ≡ num test) × (r ≤ 1) ⌝ }
+{
+    if test {
+        return 1;
+    }
+    0
+}
+
+// The undecided edges at a pad.
+pub fn undecided_around(edges: &[u8; 1024], width: usize, v: usize) -> u8
+    requires { ⌜ (v < 256) × (width ≤ 16) ⌝ }
+    ensures { λ r. ⌜ (r ≡ undecided-around (now (edges .entry)) width v) × (r ≤ 4) ⌝ }
+{
+    is(edges[30 + 2 * v], 0)
+        + is(edges[32 + 2 * v], 0)
+        + is(edges[33 + 2 * v - 2 * width], 0)
+        + is(edges[33 + 2 * v], 0)
+}
+
+// The lines at a pad, plus 1 for a clue.
+pub fn degree_around(edges: &[u8; 1024], kind: &[u8; 1024], width: usize, v: usize) -> u8
+    requires { ⌜ (v < 256) × (width ≤ 16) ⌝ }
+    ensures { λ r. ⌜ (r ≡ degree-around (now (kind .entry)) (now (edges .entry)) width v) × (r ≤ 5) ⌝ }
+{
+    one_if(has(kind, v, 1))
+        + is(edges[30 + 2 * v], 1)
+        + is(edges[32 + 2 * v], 1)
+        + is(edges[33 + 2 * v - 2 * width], 1)
+        + is(edges[33 + 2 * v], 1)
+}
+
+// The first of three slots whose byte is 0, or the fourth.
+pub fn first_of(left: u8, right: u8, up: u8, width: usize, v: usize) -> usize
+    requires { ⌜ (v < 256) × (width ≤ 16) ⌝ }
+    ensures { λ r. ⌜ (r ≡ pick (eqb left 0) (30 + 2 * v) (pick (eqb right 0) (32 + 2 * v) (pick (eqb up 0) (33 + 2 * v - 2 * width) (33 + 2 * v)))) × (r < 1024) ⌝ }
+{
+    if left == 0 {
+        return 30 + 2 * v;
+    }
+    if right == 0 {
+        return 32 + 2 * v;
+    }
+    if up == 0 {
+        return 33 + 2 * v - 2 * width;
+    }
+    33 + 2 * v
+}
+
+// The slot of the first undecided edge at a pad.
+pub fn first_around(edges: &[u8; 1024], width: usize, v: usize) -> usize
+    requires { ⌜ (v < 256) × (width ≤ 16) ⌝ }
+    ensures { λ r. ⌜ (r ≡ first-around (now (edges .entry)) width v) × (r < 1024) ⌝ }
+{
+    first_of(
+        edges[30 + 2 * v],
+        edges[32 + 2 * v],
+        edges[33 + 2 * v - 2 * width],
+        width,
+        v,
+    )
+}
+
+// What the pad check does last: 0 nothing, 1 the flag, a slot: a line there, 1024 + a slot: none there.
+pub fn action(edges: &[u8; 1024], kind: &[u8; 1024], width: usize, v: usize) -> usize
+    requires { ⌜ (v < 256) × (width ≤ 16) ⌝ }
+    ensures { λ r. ⌜ (r ≡ action-around (now (kind .entry)) (now (edges .entry)) width v) × (r < 2048) ⌝ }
+{
+    let undecided = undecided_around(edges, width, v);
+    let degree = degree_around(edges, kind, width, v);
+    if 2 < degree {
+        return 1;
+    }
+    if undecided == 0 {
+        if degree == 1 {
+            return 1;
+        }
+        return 0;
+    }
+    let slot = first_around(edges, width, v);
+    if degree == 2 {
+        return slot + 1024;
+    }
+    if undecided == 1 {
+        if degree == 1 {
+            return slot;
+        }
+        return slot + 1024;
+    }
+    0
+}

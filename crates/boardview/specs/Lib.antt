@@ -1,0 +1,11 @@
+pub mod View
+pub mod Bytes
+pub mod Ends
+pub mod Unwind
+pub mod Geometry
+pub mod Stores
+pub mod Steps
+pub mod Items
+pub mod Settle
+pub mod Check
+pub mod Cycle

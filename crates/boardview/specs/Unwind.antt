@@ -1,0 +1,115 @@
+-- Laws of the log: undoing more entries is undoing some and then the others, undoing a stored edge or a joined line gives back edges and
+-- ends, and SINCE goes from step to step. It rests on View.antt, Bytes.antt and Ends.antt.
+use Prim.Native.Nat.{ℕ, zero, suc, _+_, _*_, _-_, _%_, _/_, _≤_, _<_}
+use mathlib.Core.Path.{_≡_, refl, sym, ap, _∙_}
+use mathlib.Core.Bool.{Bool, true, false}
+use mathlib.Core.List.{List, [], _∷_}
+use native.Mathlib.Omega.{arith}
+use lib.ListN.{getD, set, length, length-set}
+use lib.Seq.{getD-set-same, getD-set-other, set-set, set-getD}
+use lib.IntN.{ℤ, pos, negsuc, natAbs}
+use Rattle.model.specs.Board.{End, through, at-pad, at-clue, isThrough}
+use Rattle.boardview.specs.View.{Arrays, logged, pick, end-of, end-at, joined, unjoined, second-pad, slot-logged, undone-one, unwound, Since}
+use Rattle.boardview.specs.Ends.{Paired, unjoined-is}
+
+-- UNDOING ENTRIES
+pub unwound-split : (w : ℕ) (log : List ℤ) (m j i : ℕ) (E : List ℕ × List ℤ) → unwound w log m (j + i) E ≡ unwound w log m j (unwound w log (m + j) i E)
+unfolding unwound
+unwound-split w log m j zero E = ap (λ (n : ℕ). unwound w log m n E) none
+  where
+    none : j + 0 ≡ j
+    none = omega arith
+unwound-split w log m j (suc i) E = ap (λ (n : ℕ). unwound w log m n E) more
+    ∙ (ap (λ (n : ℕ). unwound w log m (j + i) (undone-one w log n E)) place
+    ∙ unwound-split w log m j i (undone-one w log (m + j + i) E))
+  where
+    more : j + suc i ≡ suc (j + i)
+    more = omega arith
+
+    place : m + (j + i) ≡ m + j + i
+    place = omega arith
+
+pub kept-unwound : (w : ℕ) (log log′ : List ℤ) (m j : ℕ) (E : List ℕ × List ℤ) → ((i : ℕ) → i < 4 * (m + j) → getD log′ i (pos 0) ≡ getD log i (pos 0))
+    → unwound w log′ m j E ≡ unwound w log m j E
+unfolding unwound undone-one
+kept-unwound w log log′ m zero E h = refl
+kept-unwound w log log′ m (suc j) E h = ap (λ (x : List ℕ × List ℤ). unwound w log′ m j x) same ∙ kept-unwound w log log′ m j (undone-one w log (m + j) E) (λ i k. h i (omega arith))
+  where
+    same : undone-one w log′ (m + j) E ≡ undone-one w log (m + j) E
+    same = rw (h (4 * (m + j)) (omega arith), h (4 * (m + j) + 1) (omega arith), h (4 * (m + j) + 2) (omega arith)) refl
+
+-- SINCE
+pub since-still : (w : ℕ) (s : Arrays) (count : ℕ) → count % 1024 ≡ logged s → Since w s (record { edges = s .edges; ends = s .ends; log = s .log; count = count })
+unfolding unwound
+since-still w s count h = record { more = 0; longer = omega arith; kept = λ i k. refl; back = refl }
+
+pub since-then : (w : ℕ) (s s₁ s₂ : Arrays) → Since w s s₁ → Since w s₁ s₂ → Since w s s₂
+since-then w s s₁ s₂ a b = record {
+  more = a .more + b .more;
+  longer = omega (arith, a .longer, b .longer);
+  kept = λ i k. b .kept i (omega (arith, a .longer)) ∙ a .kept i k;
+  back = unwound-split w (s₂ .log) (logged s) (a .more) (b .more) (s₂ .edges, s₂ .ends)
+      ∙ (ap (λ (x : List ℕ × List ℤ). unwound w (s₂ .log) (logged s) (a .more) x) (rw (a .longer) at (b .back))
+      ∙ (kept-unwound w (s₁ .log) (s₂ .log) (logged s) (a .more) (s₁ .edges, s₁ .ends) (λ i k. b .kept i (omega (arith, a .longer)))
+      ∙ a .back));
+}
+
+-- AN ENTRY: its slot, and the two ends
+abbrev pub log-stored : List ℤ → ℕ → ℕ → List ℤ
+log-stored log n s = set (set log (4 * n) (pos s)) (4 * n + 1) (negsuc 0)
+
+abbrev pub log-joined : List ℤ → ℕ → ℕ → ℤ → ℤ → List ℤ
+log-joined log n s A B = set (set (set log (4 * n) (pos s)) (4 * n + 1) A) (4 * n + 2) B
+
+module _ (log : List ℤ) (n s : ℕ) (h : 4 * n + 3 < length log) where
+  slot-stored : getD (log-stored log n s) (4 * n) (pos 0) ≡ pos s
+  slot-stored = getD-set-other (set log (4 * n) (pos s)) (4 * n + 1) (4 * n) (negsuc 0) (pos 0) (omega arith) ∙ getD-set-same log (4 * n) (pos s) (pos 0) (omega arith)
+
+  mark-stored : getD (log-stored log n s) (4 * n + 1) (pos 0) ≡ negsuc 0
+  mark-stored = getD-set-same (set log (4 * n) (pos s)) (4 * n + 1) (negsuc 0) (pos 0) (omega (arith, length-set log (4 * n) (pos s)))
+
+  pub stored-kept : (i : ℕ) → i < 4 * n → getD (log-stored log n s) i (pos 0) ≡ getD log i (pos 0)
+  stored-kept i k = getD-set-other (set log (4 * n) (pos s)) (4 * n + 1) i (negsuc 0) (pos 0) (omega arith) ∙ getD-set-other log (4 * n) i (pos s) (pos 0) (omega arith)
+
+  -- undoing a stored edge
+  pub stored-back : (w b : ℕ) (edges : List ℕ) (ends : List ℤ) → getD edges s 0 ≡ 0 → undone-one w (log-stored log n s) n (set edges s b, ends) ≡ (edges, ends)
+  unfolding undone-one unjoined end-of
+  stored-back w b edges ends z = rw (slot-stored, mark-stored) (λ i. (edges-back i, ends))
+    where
+      edges-back : set (set edges s b) s 0 ≡ edges
+      edges-back = set-set edges s b 0 ∙ (ap (λ (x : ℕ). set edges s x) (sym z) ∙ set-getD edges s 0)
+
+  module _ (A B : ℤ) where
+    slot-joined : getD (log-joined log n s A B) (4 * n) (pos 0) ≡ pos s
+    slot-joined = getD-set-other (set (set log (4 * n) (pos s)) (4 * n + 1) A) (4 * n + 2) (4 * n) B (pos 0) (omega arith)
+        ∙ (getD-set-other (set log (4 * n) (pos s)) (4 * n + 1) (4 * n) A (pos 0) (omega arith) ∙ getD-set-same log (4 * n) (pos s) (pos 0) (omega arith))
+
+    first-joined : getD (log-joined log n s A B) (4 * n + 1) (pos 0) ≡ A
+    first-joined = getD-set-other (set (set log (4 * n) (pos s)) (4 * n + 1) A) (4 * n + 2) (4 * n + 1) B (pos 0) (omega arith)
+        ∙ getD-set-same (set log (4 * n) (pos s)) (4 * n + 1) A (pos 0) (omega (arith, length-set log (4 * n) (pos s)))
+
+    second-joined : getD (log-joined log n s A B) (4 * n + 2) (pos 0) ≡ B
+    second-joined = getD-set-same (set (set log (4 * n) (pos s)) (4 * n + 1) A) (4 * n + 2) B (pos 0)
+        (omega (arith, length-set (set log (4 * n) (pos s)) (4 * n + 1) A, length-set log (4 * n) (pos s)))
+
+    pub joined-kept : (i : ℕ) → i < 4 * n → getD (log-joined log n s A B) i (pos 0) ≡ getD log i (pos 0)
+    joined-kept i k = getD-set-other (set (set log (4 * n) (pos s)) (4 * n + 1) A) (4 * n + 2) i B (pos 0) (omega arith)
+        ∙ (getD-set-other (set log (4 * n) (pos s)) (4 * n + 1) i A (pos 0) (omega arith) ∙ getD-set-other log (4 * n) i (pos s) (pos 0) (omega arith))
+
+    -- undoing a joined line
+    pub joined-back : (w b : ℕ) (edges : List ℕ) (ends ends′ : List ℤ) → getD edges s 0 ≡ 0 → unjoined (s / 2 - 16) (second-pad w s) A B ends′ ≡ ends
+        → undone-one w (log-joined log n s A B) n (set edges s b, ends′) ≡ (edges, ends)
+    unfolding undone-one
+    joined-back w b edges ends ends′ z e = rw (slot-joined, first-joined, second-joined) (λ i. (edges-back i, e i))
+      where
+        edges-back : set (set edges s b) s 0 ≡ edges
+        edges-back = set-set edges s b 0 ∙ (ap (λ (x : ℕ). set edges s x) (sym z) ∙ set-getD edges s 0)
+
+-- one entry more
+pub since-one : (w : ℕ) (s s′ : Arrays) → logged s′ ≡ logged s + 1 → ((i : ℕ) → i < 4 * logged s → getD (s′ .log) i (pos 0) ≡ getD (s .log) i (pos 0))
+    → undone-one w (s′ .log) (logged s) (s′ .edges, s′ .ends) ≡ (s .edges, s .ends) → Since w s s′
+unfolding unwound
+since-one w s s′ h k b = record { more = 1; longer = h; kept = k; back = ap (λ (n : ℕ). undone-one w (s′ .log) n (s′ .edges, s′ .ends)) place ∙ b }
+  where
+    place : logged s + 0 ≡ logged s
+    place = omega arith
