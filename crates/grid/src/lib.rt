@@ -1,7 +1,7 @@
 // The port of grid.rs: the edge type with its three named states, and when a grid is declined. The grid itself is a lent list
 // of cells. What the calls answer is said in the crate `model`: specs/Refusals.antt there.
 ghost use mathlib.Core.Path.{_≡_};
-ghost use Prim.Native.Nat.{ℕ, _+_, _*_, _≤_, _<_};
+ghost use Prim.Native.Nat.{_*_, _<_};
 ghost use Rattle.model.specs.Bounds.{is-size};
 ghost use Rattle.model.specs.Refusals.{first-bad-cell, grid-refusal};
 ghost use Rattle.grid.specs.Answers.{refusal-says};

@@ -1,22 +1,19 @@
 -- Laws of one field: what each byte does to it, and what is known of a field that gave a value. Assumes nothing.
-use mathlib.Core.Path.{_≡_, refl, sym, ap, _∙_}
+use mathlib.Core.Path.{_≡_, refl, sym, _∙_}
 use mathlib.Core.Bool.{Bool, true, false, not, _&&_}
-use mathlib.Core.List.{List, [], _∷_}
+use mathlib.Core.List.{List}
 use mathlib.Core.Logic.{_⊎_, inl, inr}
-use Prim.Native.Nat.{ℕ, zero, suc, _+_, _-_, _*_, _^_, _≤_, _<_}
+use Prim.Native.Nat.{ℕ, _+_, _-_, _*_, _^_, _≤_, _<_}
 use native.Mathlib.Nat.{pow-le-pow-right, sub-self}
 use native.Mathlib.Numerals.{add-one}
 use native.Mathlib.Omega.{arith}
 use lib.ListN.{length, getD, drop, drop-of-length-le}
 use lib.Seq.{drop-cons}
-use lib.Dec.{eqb, leb, ltb}
-use borrow.Author.Tests.{leb-true, ltb-true, ltb-false, lt-ltb, le-ltb, ne-eqb, eq-eqb, not-true, not-false}
-use Rattle.model.specs.Choice.{if_then_else_}
-use Rattle.rules.specs.Grid.{largest-code}
+use lib.Dec.{leb}
+use borrow.Author.Tests.{leb-true, lt-ltb, le-ltb, ne-eqb, eq-eqb, not-true, not-false}
 use Rattle.model.specs.Bounds.{most-digits}
 use Rattle.model.specs.GridFile.{is-digit, is-comma, is-line-end}
 use Rattle.gridfile.specs.Fields.{ended-field, field-from, field-at}
-use Rattle.gridfile.specs.declared.Field.{Field}
 use Rattle.gridfile.specs.declared.Field.the-variants.{Value, Refused}
 
 never : {A : Type 0} → true ≡ false → A

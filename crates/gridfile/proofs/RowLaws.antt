@@ -1,22 +1,20 @@
 -- What the loop over the rows keeps, and how each field of a row moves it on or ends it. Assumes nothing.
 use mathlib.Core.Path.{_≡_, refl, sym, ap, _∙_}
-use mathlib.Core.Bool.{Bool, true, false}
-use mathlib.Core.List.{List, [], _∷_}
-use Prim.Native.Nat.{ℕ, zero, suc, _+_, _-_, _*_, _≤_, _<_}
+use mathlib.Core.Bool.{true}
+use mathlib.Core.List.{List, _∷_}
+use Prim.Native.Nat.{ℕ, suc, _+_, _-_, _*_, _≤_, _<_}
 use native.Mathlib.Nat.{mul-le-mul}
 use native.Mathlib.Omega.{arith}
 use lib.ListN.{length, getD, drop, set, drop-of-length-le}
 use lib.Seq.{drop-cons}
 use lib.IntN.{ℤ}
 use borrow.Author.Tests.{eq-eqb, ne-eqb}
-use Rattle.rules.specs.Grid.{least-size, largest-size, largest-code}
 use Rattle.model.specs.Bounds.{is-size}
 use Rattle.model.specs.RefusalLaws.{size-of-test}
 use Rattle.model.specs.GridFile as model
 use Rattle.model.specs.GridFile.{is-complete, in-header, refusal, accepted, declined, read-from, no-cells}
 use Rattle.gridfile.specs.Fields.{field-at, cell-of}
 use Rattle.gridfile.specs.Answers.{declined-reading, field-start}
-use Rattle.gridfile.specs.declared.Field.{Field}
 use Rattle.gridfile.specs.declared.Field.the-variants.{Value, Refused}
 use Rattle.gridfile.proofs.ReadLaws.{field-ending, Ended, value-ended, comma-there, by-refusal, by-ending, row-open, row-too-short, row-ends, row-too-long, row-goes-on, byte-refused, end-complete}
 

@@ -2,7 +2,7 @@
 -- number of its refusal. These are the refusals of document 01 that a field can have by itself: 1, 2, 3, and 6 where the
 -- file ends in it. Assumes nothing.
 use Prim.Native.Nat.{ℕ, _+_, _*_, _-_}
-use mathlib.Core.Bool.{Bool, true, false, not, _&&_}
+use mathlib.Core.Bool.{not, _&&_}
 use mathlib.Core.List.{List, [], _∷_}
 use lib.ListN.{drop}
 use lib.Dec.{eqb, ltb}
@@ -10,7 +10,7 @@ use lib.IntN.{ℤ, pos}
 use Rattle.model.specs.Choice.{if_then_else_}
 use Rattle.rules.specs.Grid.{largest-code}
 use Rattle.model.specs.Bounds.{most-digits}
-use Rattle.model.specs.GridFile.{is-digit, is-comma, is-line-end, is-allowed, blank}
+use Rattle.model.specs.GridFile.{is-digit, is-comma, is-line-end, blank}
 use Rattle.gridfile.specs.declared.Field.{Field}
 use Rattle.gridfile.specs.declared.Field.the-variants.{Value, Refused}
 

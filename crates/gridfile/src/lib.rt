@@ -2,7 +2,7 @@
 // is said by `read` of the crate `model`, specs/GridFile.antt there; specs/Fields.antt says what one field gives.
 ghost use mathlib.Core.Path.{_≡_};
 ghost use mathlib.Core.Bool.{true};
-ghost use Prim.Native.Nat.{ℕ, _+_, _-_, _*_, _≤_, _<_};
+ghost use Prim.Native.Nat.{_+_, _-_, _*_, _≤_, _<_};
 ghost use lib.ListN.{length, drop, set};
 ghost use Rattle.rules.specs.Grid.{largest-code};
 ghost use Rattle.model.specs.Bounds.{is-size};

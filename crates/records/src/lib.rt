@@ -2,7 +2,7 @@
 // Each result equals the definition of the same name in the crate `model`, specs/Records.antt there, for every input.
 ghost use mathlib.Core.Path.{_≡_};
 ghost use mathlib.Core.Bool.{true};
-ghost use Prim.Native.Nat.{ℕ, _+_, _*_, _-_, _≤_, _<_};
+ghost use Prim.Native.Nat.{_+_, _*_, _-_, _<_};
 ghost use Rattle.model.specs.Bounds.{is-size};
 ghost use Rattle.model.specs.Records.{record-length, has-record, record-at, shorter};
 ghost use Rattle.rules.specs.Record.{record-lines};

@@ -1,10 +1,9 @@
 -- `grid::first_bad_cell` meets its contract. The loop's invariant: the first bad cell of the whole list is that of the cells
 -- from the index on, the index added. Assumes nothing.
-use Prim.Native.Nat.{ℕ, _+_, _-_, _≤_}
-use mathlib.Core.Path.{_≡_, refl}
+use Prim.Native.Nat.{_+_, _-_, _≤_}
+use mathlib.Core.Path.{_≡_}
 use lib.ListN.{length, drop}
 use native.Mathlib.Omega.{arith}
-use borrow.Author.Needs.{needs}
 use Rattle.model.specs.Refusals.{first-bad-cell}
 use Rattle.grid.proofs.Cells.{below-blank, above-codes, sound-cell, bad-here, sound-here, none-left}
 use Rattle.grid.proofs.first_bad_cell.Statement.{statement}

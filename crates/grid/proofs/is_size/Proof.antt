@@ -1,6 +1,5 @@
 -- `grid::is_size` meets its contract: each way through the code is one of the two tests of `is-size`. Assumes nothing.
 use borrow.Author.Tests.{le-leb, lt-leb}
-use Rattle.rules.specs.Grid.{least-size, largest-size}
 use Rattle.model.specs.Bounds.{is-size}
 use Rattle.grid.proofs.is_size.Statement.{statement}
 use Rattle.grid.proofs.is_size.Tie as tie

@@ -1,11 +1,10 @@
 -- `gridfile::field_at` meets its contract. The loop keeps `Passed`: what is left of the field gives the field's answer.
 -- Assumes nothing.
 use Rattle.gridfile.proofs.FieldLaws.{Passed, none-passed, one-passed, value-fits, digit-bounds, a-digit, not-digit, field-stops, field-too-long, field-unended}
-use Prim.Native.Nat.{ℕ, _+_, _-_, _*_, _^_, _≤_, _<_}
-use mathlib.Core.Path.{_≡_, refl, sym, _∙_}
-use lib.ListN.{length, drop}
+use Prim.Native.Nat.{_-_}
+use mathlib.Core.Path.{sym, _∙_}
+use lib.ListN.{length}
 use native.Mathlib.Omega.{arith}
-use Rattle.gridfile.specs.Fields.{field-from, field-at}
 use Rattle.gridfile.proofs.field_at.Statement.{statement}
 use Rattle.gridfile.proofs.field_at.Tie as tie
 

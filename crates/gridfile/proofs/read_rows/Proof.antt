@@ -2,7 +2,6 @@
 -- row on comes to. Each return is a law of RowLaws. Assumes nothing.
 use Rattle.gridfile.proofs.RowLaws.{Reached, rows-begin, row-refused, index-inside, too-short, too-long, next-row, next-field, byte-after, file-ends}
 use Rattle.gridfile.proofs.ReadLaws.{value-ended, refused-number}
-use Rattle.rules.specs.Grid.{largest-size}
 use Rattle.model.specs.RefusalLaws.{size-of-test}
 use mathlib.Core.Path.{sym, _∙_}
 use Rattle.gridfile.proofs.RowLaws.{Reached, rows-begin, row-refused, index-inside, too-short, too-long, next-row, next-field}

@@ -1,12 +1,10 @@
 -- `gridfile::store_cell` meets its contract: the two stores are the two cases of `cell-of`. Assumes nothing.
-use Rattle.rules.specs.Grid.{largest-code}
 use native.Mathlib.Omega.{arith}
 use mir.Syntax.{w32}
 use mir.ValLaws.{toZ-pos}
 use borrow.Author.Tests.{eq-eqb, ne-eqb}
 use Rattle.model.specs.GridFile.{blank}
 use Rattle.gridfile.specs.Fields.{cell-of}
-use borrow.Author.Needs.{needs}
 use Rattle.gridfile.proofs.store_cell.Statement.{statement}
 use Rattle.gridfile.proofs.store_cell.Tie as tie
 

@@ -4,7 +4,7 @@ use Rattle.printed.proofs.PutLaws.{put-both, put-length, put-same}
 use Rattle.printed.proofs.DecimalLaws.{decimal-short, decimal-long}
 use Rattle.model.specs.Printed.{digit-byte}
 use lib.ListN.{length-append}
-use mathlib.Core.Path.{_≡_, sym, _∙_}
+use mathlib.Core.Path.{sym, _∙_}
 use native.Mathlib.Omega.{arith}
 use Prim.Native.Nat.{ℕ, _<_}
 use borrow.Fn.Kinds.{In}

@@ -1,6 +1,5 @@
 -- `printed::line_at` meets its contract: a place past the end of the record holds no line. Assumes nothing.
 use Rattle.printed.proofs.CodeLaws.{past-the-end, a-line, no-line, place-small}
-use Rattle.rules.specs.Grid.{least-size, largest-size}
 use Rattle.model.specs.RefusalLaws.{size-of-test}
 use native.Mathlib.Omega.{arith}
 use borrow.Author.Needs.{needs}

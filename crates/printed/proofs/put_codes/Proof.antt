@@ -1,11 +1,10 @@
 -- `printed::put_codes` meets its contract. The loop's invariant: the codes of the pads below the index are put.
 -- Assumes nothing.
-use Rattle.printed.proofs.CodeLaws.{code-after, codes-length, some-columns, all-pads, row-below-16, column-below-16, code-put, all-put}
-use Rattle.printed.proofs.PutLaws.{put-both, put-length, put-same, put-one, put-none}
+use Rattle.printed.proofs.CodeLaws.{some-columns, all-pads, row-below-16, column-below-16, code-put, all-put}
+use Rattle.printed.proofs.PutLaws.{put-length, put-none}
 use Rattle.printed.specs.Written.{Put}
-use Rattle.model.specs.Printed.{digit-byte, code-digits-from, code-digits}
-use Prim.Native.Nat.{ℕ, _+_, _-_, _*_, _≤_}
-use mathlib.Core.Path.{_≡_, refl, sym, ap, _∙_}
+use Rattle.model.specs.Printed.{code-digits-from}
+use Prim.Native.Nat.{_+_, _-_, _*_, _≤_}
 use native.Mathlib.Omega.{arith}
 use Rattle.printed.proofs.put_codes.Statement.{statement}
 use Rattle.printed.proofs.put_codes.Tie as tie

@@ -1,5 +1,5 @@
 -- `printed::put_field` meets its contract: the digits, and then the byte. Assumes nothing.
-use Rattle.printed.proofs.PutLaws.{put-both, put-length}
+use Rattle.printed.proofs.PutLaws.{put-both}
 use borrow.Author.Needs.{needs}
 use Rattle.printed.proofs.put_field.Statement.{statement}
 use Rattle.printed.proofs.put_field.Tie as tie

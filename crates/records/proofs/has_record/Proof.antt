@@ -1,7 +1,5 @@
 -- `records::has_record` meets its contract: each return is one test of the definition; k is below the number of records that
 -- the room holds exactly where record k ends inside it. Assumes nothing.
-use Prim.Native.Nat.{_<_}
-use mathlib.Core.Path.{_≡_}
 use Rattle.records.proofs.RecordLaws.{some-bytes, no-height, no-width, not-counted, by-room}
 use borrow.Author.Tests.{not-true, not-false}
 use mathlib.Core.Path.{sym, _∙_}

@@ -5,7 +5,7 @@ use Rattle.records.proofs.RecordLaws.{one-more, no-more, none-counted, 
 use lib.ListN.{length, drop}
 use native.Mathlib.Omega.{arith}
 use Prim.Native.Nat.{ℕ, _+_, _≤_}
-use mathlib.Core.Path.{_≡_, sym, ap, _∙_}
+use mathlib.Core.Path.{_≡_, ap, _∙_}
 use Rattle.records.proofs.lines.Statement.{statement}
 use Rattle.records.proofs.lines.Tie as tie
 

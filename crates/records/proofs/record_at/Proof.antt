@@ -1,5 +1,5 @@
 -- `records::record_at` meets its contract: the part from k times the length on, or none. Assumes nothing.
-use Rattle.records.proofs.RecordLaws.{Has, has, no-record, that-part}
+use Rattle.records.proofs.RecordLaws.{has, no-record, that-part}
 use borrow.Author.Tests.{not-true, not-false}
 use native.Mathlib.Omega.{arith}
 use mathlib.Core.Path.{sym, _∙_}

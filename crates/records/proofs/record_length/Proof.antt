@@ -1,7 +1,6 @@
 -- `records::record_length` meets its contract: sizes up to 16 make at most 961 bytes. Assumes nothing.
 use Rattle.records.proofs.RecordLaws.{longest-record}
 use Rattle.model.specs.Records.{record-length}
-use Rattle.rules.specs.Grid.{least-size, largest-size}
 use Rattle.model.specs.RefusalLaws.{size-of-test}
 use mathlib.Core.Path.{refl}
 use native.Mathlib.Omega.{arith}

@@ -1,0 +1,311 @@
+-- What is known of every reading of a grid file: 256 cells; sizes and cells in range where it is accepted. These are the laws by
+-- which a program hands what it read to a search. They follow a standing that is sound from byte to byte.
+use mathlib.Core.Path.{_≡_, refl, sym, _∙_}
+use mathlib.Core.Bool.{Bool, true, false, not, _&&_}
+use mathlib.Core.List.{List, [], _∷_}
+use mathlib.Core.Logic.{inl, inr}
+use Prim.Native.Nat.{ℕ, zero, suc, _+_, _*_, _-_, _≤_}
+use native.Mathlib.Nat.{mul-le-mul}
+use native.Mathlib.Omega.{arith}
+use lib.ListN.{length, getD, set, take, length-set, length-replicate, replicate}
+use lib.Seq.{getD-take, length-take-le}
+use lib.IntN.{ℤ, pos}
+use lib.Dec.{eqb, ltb}
+use borrow.Author.Tests.{ltb-false, eqb-true, eqb-false, ne-eqb}
+use Rattle.rules.specs.Grid.{Size, largest-code, blank-cell, CellInRange, Accepted}
+use Rattle.model.specs.Choice.{if_then_else_}
+use Rattle.model.specs.Bounds.{is-size, most-digits}
+use Rattle.model.specs.RefusalLaws.{size-of-test}
+use Rattle.model.specs.GridFile.{Standing, Reading, is-digit, is-comma, is-line-end, is-allowed, blank, no-cells, start, in-header, fields-due, is-complete, field-cell, bad-size, refusal, with-digit, begun, after, accepted, declined, read-from, read}
+
+-- ## What an accepted byte says
+
+impossible : {A : Type 0} → true ≡ false → A
+impossible e = let z : _≡_ {A = ℕ} 0 1 = cc in absurd (omega arith)
+
+-- a test that would have given a number has failed
+passed : (test : Bool) (number rest : ℕ) → (if test then suc number else rest) ≡ 0 → (test ≡ false) × (rest ≡ 0)
+passed true number rest h = absurd (omega arith)
+passed false number rest h = (refl, h)
+
+-- each test of `refusal` has failed
+pub record Passed (s : Standing) (byte : ℕ) : Type 0 where
+  pub unfinished : is-complete s ≡ false
+  pub allowed : not (is-allowed byte) ≡ false
+  pub ten-digits : is-digit byte && eqb (s .digits) most-digits ≡ false
+  pub in-range : not (is-digit byte) && ltb largest-code (s .value) ≡ false
+  pub enough-fields : is-line-end byte && ltb (s .field) (fields-due s) ≡ false
+  pub no-more-fields : is-comma byte && eqb (s .field) (fields-due s) ≡ false
+  pub sizes : is-line-end byte && in-header s && ltb 0 (bad-size s) ≡ false
+
+pub byte-passed : (s : Standing) (byte : ℕ) → refusal s byte ≡ 0 → Passed s byte
+unfolding refusal
+byte-passed s byte h =
+    let (p6, r6) = passed (is-complete s) 5 _ h in
+    let (p1, r1) = passed (not (is-allowed byte)) 0 _ r6 in
+    let (p2, r2) = passed (is-digit byte && eqb (s .digits) most-digits) 1 _ r1 in
+    let (p3, r3) = passed (not (is-digit byte) && ltb largest-code (s .value)) 2 _ r2 in
+    let (p4, r4) = passed (is-line-end byte && ltb (s .field) (fields-due s)) 3 _ r3 in
+    let (p4′, r4′) = passed (is-comma byte && eqb (s .field) (fields-due s)) 3 _ r4 in
+    let (p5, r5) = passed (is-line-end byte && in-header s && ltb 0 (bad-size s)) 4 _ r4′ in
+    record { unfinished = p6; allowed = p1; ten-digits = p2; in-range = p3; enough-fields = p4; no-more-fields = p4′; sizes = p5 }
+
+-- the three kinds of accepted bytes
+pub data Kind (s : Standing) (byte : ℕ) : Type 0 where
+  a-digit : is-digit byte ≡ true → (s .digits ≡ 10 → ⊥) → Kind s byte
+  a-comma : is-digit byte ≡ false → is-comma byte ≡ true → s .value ≤ largest-code → (s .field ≡ fields-due s → ⊥) → Kind s byte
+  a-line-end : is-digit byte ≡ false → is-comma byte ≡ false → s .value ≤ largest-code → fields-due s ≤ s .field → in-header s && ltb 0 (bad-size s) ≡ false → Kind s byte
+
+pub kind-of : (s : Standing) (byte : ℕ) → Passed s byte → Kind s byte
+unfolding is-allowed most-digits
+kind-of s byte p = go (is-digit byte) (is-comma byte) (is-line-end byte) refl refl refl
+  where
+    go : (d c l : Bool) → is-digit byte ≡ d → is-comma byte ≡ c → is-line-end byte ≡ l → Kind s byte
+    go true c l hd hc hl = a-digit hd (eqb-false (s .digits) 10 (rw hd at (p .ten-digits)))
+    go false true l hd hc hl = a-comma hd hc (ltb-false largest-code (s .value) (rw hd at (p .in-range))) (eqb-false (s .field) (fields-due s) (rw hc at (p .no-more-fields)))
+    go false false true hd hc hl = a-line-end hd hc (ltb-false largest-code (s .value) (rw hd at (p .in-range))) (ltb-false (s .field) (fields-due s) (rw hl at (p .enough-fields))) (rw hl at (p .sizes))
+    go false false false hd hc hl = impossible (rw (hd, hc, hl) at (p .allowed))
+
+-- ## A sound standing
+
+pub record Sound (s : Standing) : Type 0 where
+  pub cells-in-range : (i : ℕ) → CellInRange (getD (s .cells) i blank-cell)
+  pub cell-count : length (s .cells) ≡ 256
+  pub line-from-1 : 1 ≤ s .line
+  pub field-from-1 : 1 ≤ s .field
+  pub field-due : s .field ≤ fields-due s
+  pub digits-due : s .digits ≤ 10
+  pub sizes-in-range : in-header s ≡ false → Size (s .height) × Size (s .width) × (s .line ≤ s .height + 2)
+
+-- a cell that is stored in range keeps all in range
+stored-in-range : (cells : List ℤ) (index : ℕ) (cell : ℤ) → ((i : ℕ) → CellInRange (getD cells i blank-cell)) → CellInRange cell → (i : ℕ) → CellInRange (getD (set cells index cell) i blank-cell)
+stored-in-range [] index cell all c i = all i
+stored-in-range (x ∷ cells) zero cell all c zero = c
+stored-in-range (x ∷ cells) zero cell all c (suc i) = all (suc i)
+stored-in-range (x ∷ cells) (suc index) cell all c zero = all 0
+stored-in-range (x ∷ cells) (suc index) cell all c (suc i) = stored-in-range cells index cell (λ k. all (suc k)) c i
+
+no-cells-in-range : (n i : ℕ) → CellInRange (getD (replicate n blank-cell) i blank-cell)
+no-cells-in-range zero i = inl refl
+no-cells-in-range (suc n) zero = inl refl
+no-cells-in-range (suc n) (suc i) = no-cells-in-range n i
+
+field-in-range : (s : Standing) → s .value ≤ largest-code → CellInRange (field-cell s)
+unfolding field-cell blank
+field-in-range s h = go (eqb (s .digits) 0)
+  where
+    go : (empty : Bool) → CellInRange (if empty then blank else pos (s .value))
+    go true = inl refl
+    go false = inr (s .value, refl, h)
+
+pub start-sound : Sound start
+unfolding start no-cells blank fields-due in-header
+start-sound =
+    record {
+      cells-in-range = no-cells-in-range 256;
+      cell-count = length-replicate 256 blank-cell;
+      line-from-1 = omega arith;
+      field-from-1 = omega arith;
+      field-due = omega arith;
+      digits-due = omega arith;
+      sizes-in-range = λ (h : eqb 1 1 ≡ false). impossible h;
+    }
+
+module _ (s : Standing) (sound : Sound s) where
+  pub digit-sound : (byte : ℕ) → (s .digits ≡ 10 → ⊥) → Sound (with-digit s byte)
+  unfolding with-digit fields-due in-header
+  digit-sound byte n =
+      record {
+        cells-in-range = sound .cells-in-range;
+        cell-count = sound .cell-count;
+        line-from-1 = sound .line-from-1;
+        field-from-1 = sound .field-from-1;
+        field-due = sound .field-due;
+        digits-due = omega (arith, sound .digits-due, n);
+        sizes-in-range = sound .sizes-in-range;
+      }
+
+  -- the standing at another field, in a row and in the header
+  pub begun-row : (line field : ℕ) → in-header s ≡ false → begun s line field ≡ record { line = line; field = field; digits = 0; value = 0; height = s .height; width = s .width; cells = set (s .cells) ((s .line - 2) * s .width + (s .field - 1)) (field-cell s) }
+  unfolding begun
+  begun-row line field h = rw h refl
+
+  row-cells : s .value ≤ largest-code → (i : ℕ) → CellInRange (getD (set (s .cells) ((s .line - 2) * s .width + (s .field - 1)) (field-cell s)) i blank-cell)
+  row-cells v = stored-in-range (s .cells) _ (field-cell s) (sound .cells-in-range) (field-in-range s v)
+
+  pub begun-header : (line field : ℕ) → in-header s ≡ true → begun s line field ≡ record { line = line; field = field; digits = 0; value = 0; height = if eqb (s .field) 1 then s .value else s .height; width = if eqb (s .field) 2 then s .value else s .width; cells = s .cells }
+  unfolding begun
+  begun-header line field h = rw h refl
+
+  pub due-row : in-header s ≡ false → s .field ≤ s .width
+  unfolding fields-due
+  due-row h = rw h at (sound .field-due)
+
+  pub due-header : in-header s ≡ true → s .field ≤ 2
+  unfolding fields-due
+  due-header h = rw h at (sound .field-due)
+
+  -- a row goes on, or ends
+  row-sound : (line field : ℕ) → in-header s ≡ false → s .value ≤ largest-code → 1 ≤ line → 1 ≤ field → field ≤ s .width → line ≤ s .height + 2 → eqb line 1 ≡ false → Sound (begun s line field)
+  unfolding fields-due in-header
+  row-sound line field h v from f w l n =
+      rw (begun-row line field h)
+      (record {
+        cells-in-range = row-cells v;
+        cell-count = length-set (s .cells) _ (field-cell s) ∙ sound .cell-count;
+        line-from-1 = from;
+        field-from-1 = f;
+        field-due = rw n w;
+        digits-due = omega arith;
+        sizes-in-range = λ (e : eqb line 1 ≡ false). (sound .sizes-in-range h .0, sound .sizes-in-range h .1, l);
+      })
+
+  row-comma : in-header s ≡ false → s .value ≤ largest-code → (s .field ≡ fields-due s → ⊥) → Sound (begun s (s .line) (s .field + 1))
+  unfolding fields-due in-header
+  row-comma h v n = row-sound (s .line) (s .field + 1) h v (sound .line-from-1) (omega arith) (more (rw h at n)) (sound .sizes-in-range h .2) h
+    where
+      more : (s .field ≡ s .width → ⊥) → s .field + 1 ≤ s .width
+      more n = omega (arith, due-row h, n)
+
+  header-comma : in-header s ≡ true → (s .field ≡ fields-due s → ⊥) → Sound (begun s (s .line) (s .field + 1))
+  unfolding fields-due in-header
+  header-comma h n =
+      rw (begun-header (s .line) (s .field + 1) h)
+      (record {
+        cells-in-range = sound .cells-in-range;
+        cell-count = sound .cell-count;
+        line-from-1 = sound .line-from-1;
+        field-from-1 = omega arith;
+        field-due = rw h (more (rw h at n));
+        digits-due = omega arith;
+        sizes-in-range = λ (e : eqb (s .line) 1 ≡ false). impossible (sym h ∙ e);
+      })
+    where
+      more : (s .field ≡ 2 → ⊥) → s .field + 1 ≤ 2
+      more n = omega (arith, due-header h, n)
+
+  pub comma-sound : s .value ≤ largest-code → (s .field ≡ fields-due s → ⊥) → Sound (begun s (s .line) (s .field + 1))
+  comma-sound v n = go (in-header s) refl
+    where
+      go : (h : Bool) → in-header s ≡ h → Sound (begun s (s .line) (s .field + 1))
+      go true h = header-comma h n
+      go false h = row-comma h v n
+
+  -- the header's sizes are in range where it ends
+  pub sizes-found : in-header s ≡ true → in-header s && ltb 0 (bad-size s) ≡ false → Size (s .height) × Size (s .value)
+  unfolding bad-size
+  sizes-found h b = go (is-size (s .height)) (is-size (s .value)) refl refl (rw h at b)
+    where
+      go : (t w : Bool) → is-size (s .height) ≡ t → is-size (s .value) ≡ w → ltb 0 (bad-size s) ≡ false → Size (s .height) × Size (s .value)
+      go true true t w k = (size-of-test (s .height) t, size-of-test (s .value) w)
+      go true false t w k = impossible (rw (t, w, bad-size) at k)
+      go false w t u k = impossible (rw (t, bad-size) at k)
+
+  header-end : in-header s ≡ true → fields-due s ≤ s .field → in-header s && ltb 0 (bad-size s) ≡ false → Sound (begun s (s .line + 1) 1)
+  unfolding fields-due in-header
+  header-end h d b =
+      rw (begun-header (s .line + 1) 1 h, first-no, second-yes, line-2)
+      (record {
+        cells-in-range = sound .cells-in-range;
+        cell-count = sound .cell-count;
+        line-from-1 = omega arith;
+        field-from-1 = omega arith;
+        field-due = omega (arith, found .1 .0);
+        digits-due = omega arith;
+        sizes-in-range = λ e. (found .0, found .1, omega (arith, found .0 .0));
+      })
+    where
+      found : Size (s .height) × Size (s .value)
+      found = sizes-found h b
+
+      two : s .field ≡ 2
+      two = let k : 2 ≤ s .field = rw h at d in omega (arith, due-header h, k)
+
+      first-no : eqb (s .field) 1 ≡ false
+      first-no = rw two refl
+
+      second-yes : eqb (s .field) 2 ≡ true
+      second-yes = rw two refl
+
+      line-2 : s .line + 1 ≡ 2
+      line-2 = omega (arith, eqb-true (s .line) 1 h)
+
+  row-end : in-header s ≡ false → is-complete s ≡ false → s .value ≤ largest-code → Sound (begun s (s .line + 1) 1)
+  unfolding is-complete in-header
+  row-end h c v = row-sound (s .line + 1) 1 h v (omega arith) (omega arith) (omega (arith, sound .sizes-in-range h .1 .0)) (omega (arith, sound .sizes-in-range h .2, eqb-false (s .line) (s .height + 2) (rw h at c))) (ne-eqb (s .line + 1) 1 (λ (e : s .line + 1 ≡ 1). omega (arith, sound .line-from-1)))
+
+  pub line-end-sound : is-complete s ≡ false → s .value ≤ largest-code → fields-due s ≤ s .field → in-header s && ltb 0 (bad-size s) ≡ false → Sound (begun s (s .line + 1) 1)
+  line-end-sound c v d b = go (in-header s) refl
+    where
+      go : (h : Bool) → in-header s ≡ h → Sound (begun s (s .line + 1) 1)
+      go true h = header-end h d b
+      go false h = row-end h c v
+
+  pub after-sound : (byte : ℕ) → refusal s byte ≡ 0 → Sound (after s byte)
+  unfolding after
+  after-sound byte r = go (kind-of s byte p)
+    where
+      p : Passed s byte
+      p = byte-passed s byte r
+
+      go : Kind s byte → Sound (after s byte)
+      go (a-digit d n) = rw d (digit-sound byte n)
+      go (a-comma d c v n) = rw (d, c) (comma-sound v n)
+      go (a-line-end d c v e b) = rw (d, c) (line-end-sound (p .unfinished) v e b)
+
+-- ## What every reading gives
+
+pub record SoundReading (r : Reading) : Type 0 where
+  pub cell-count : length (r .cells) ≡ 256
+  pub in-range : r .number ≡ 0 → Accepted (r .height) (r .width) (take (r .height * r .width) (r .cells))
+  pub pads-in-cells : r .height * r .width ≤ 256
+
+accepted-sound : (s : Standing) → Sound s → is-complete s ≡ true → SoundReading (accepted s)
+unfolding accepted is-complete
+accepted-sound s sound c = record { cell-count = sound .cell-count; in-range = λ e. grid; pads-in-cells = few }
+  where
+    rows : in-header s ≡ false
+    rows = go (in-header s) refl
+      where
+        go : (h : Bool) → in-header s ≡ h → in-header s ≡ false
+        go true h = impossible (sym (rw (h, is-complete) at c))
+        go false h = h
+
+    few : s .height * s .width ≤ 256
+    few = mul-le-mul (sound .sizes-in-range rows .0 .1) (sound .sizes-in-range rows .1 .1)
+
+    grid : Accepted (s .height) (s .width) (take (s .height * s .width) (s .cells))
+    grid =
+        record {
+          height-in-range = sound .sizes-in-range rows .0;
+          width-in-range = sound .sizes-in-range rows .1;
+          one-cell-a-pad = length-take-le (s .height * s .width) (s .cells) (omega (arith, sound .cell-count, few));
+          cells-in-range = λ v below. rw (getD-take (s .height * s .width) (s .cells) v blank-cell below) (sound .cells-in-range v);
+        }
+
+declined-sound : (number : ℕ) (s : Standing) → SoundReading (declined (suc number) s)
+unfolding declined no-cells blank
+declined-sound number s =
+    record {
+      cell-count = length-replicate 256 blank-cell;
+      in-range = λ (e : suc number ≡ 0). absurd (omega arith);
+      pads-in-cells = omega arith;
+    }
+
+read-from-sound : (s : Standing) (bytes : List ℕ) → Sound s → SoundReading (read-from s bytes)
+unfolding read-from
+read-from-sound s [] sound = go (is-complete s) refl
+  where
+    go : (c : Bool) → is-complete s ≡ c → SoundReading (read-from s [])
+    go true c = rw (c, read-from) (accepted-sound s sound c)
+    go false c = rw (c, read-from) (declined-sound 5 s)
+read-from-sound s (byte ∷ bytes) sound = go (refusal s byte) refl (λ t. read-from-sound (after s byte) bytes t)
+  where
+    go : (n : ℕ) → refusal s byte ≡ n → (Sound (after s byte) → SoundReading (read-from (after s byte) bytes)) → SoundReading (read-from s (byte ∷ bytes))
+    go zero r next = rw (r, read-from) (next (after-sound s sound byte r))
+    go (suc n) r next = rw (r, read-from) (declined-sound n s)
+
+-- 256 cells; where the file is accepted, its H, W and first HW cells are a grid in range
+pub read-sound : (bytes : List ℕ) → SoundReading (read bytes)
+unfolding read
+read-sound bytes = read-from-sound start bytes start-sound

@@ -1,0 +1,204 @@
+#!/usr/bin/env python3
+"""Makes the cases of the program crates/gridfile_cases and what it must print.
+
+Run from the root of the repository:
+
+    python3 oracle/gridfile_cases.py crates/gridfile_cases
+
+It writes the files `stdin` (the grid files, each behind its length in two bytes, high byte first) and `stdout` (the expected
+answers). The answers come from `reading` below, a second reader that is built from document 01 and not from the program: it
+looks at the whole file, finds for each rule all the bytes at which it applies, and takes the first byte and there the rule
+that is tested first. A refused file is answered by `refused,number,line,field`, an accepted one by the grid itself in shortest
+digits, and a line `past` if a cell past the last row is not blank.
+"""
+import random
+import sys
+
+LARGEST = 2147483646
+LEAST_SIZE, LARGEST_SIZE = 2, 16
+
+
+def is_size(text):
+    return text != b"" and LEAST_SIZE <= int(text) <= LARGEST_SIZE
+
+
+def place(file, at):
+    """Line and field, from 1, of the byte at a place (or of the end of the file)."""
+    before = file[:at]
+    return before.count(b"\n") + 1, before[before.rfind(b"\n") + 1:].count(b",") + 1
+
+
+def field_text(file, at):
+    """The text of the field that the byte at a place ends."""
+    start = max(file.rfind(b",", 0, at), file.rfind(b"\n", 0, at)) + 1
+    return file[start:at]
+
+
+def reading(file):
+    """(number, line, field, rows): rows of texts where the number is 0."""
+    found = []  # (byte, order of the test there, number, line, field)
+
+    def applies(at, order, number, field=None):
+        line, own = place(file, at)
+        found.append((at, order, number, line, own if field is None else field))
+
+    line_ends = [i for i, b in enumerate(file) if b == 10]
+    separators = [i for i, b in enumerate(file) if b in b",\n"]
+    header = file[: line_ends[0]].split(b",") if line_ends else []
+    sound = len(header) == 2 and all(f.isdigit() or f == b"" for f in header) and is_size(header[0]) and is_size(header[1])
+    height, width = (int(header[0]), int(header[1])) if sound else (None, None)
+
+    for i, b in enumerate(file):
+        if b not in b"0123456789,\n":
+            applies(i, 1, 1)
+        if len(file[max(0, i - 10): i + 1]) == 11 and file[i - 10: i + 1].isdigit():
+            applies(i, 2, 2)
+    for i in separators:
+        text = field_text(file, i)
+        if text.isdigit() and int(text) > LARGEST:
+            applies(i, 3, 3)
+        line, field = place(file, i)
+        due = 2 if line == 1 else width
+        if due is not None:
+            if file[i] == 10 and field < due:
+                applies(i, 4, 4)
+            if file[i] == 44 and field == due:
+                applies(i, 4, 4)
+    if line_ends and len(header) == 2:
+        for k in (0, 1):
+            if (header[k].isdigit() or header[k] == b"") and not is_size(header[k]):
+                applies(line_ends[0], 5, 5, k + 1)
+                break
+    if sound and len(line_ends) > height:
+        end = line_ends[height] + 1
+        if len(file) > end:
+            applies(end, 0, 6)
+    else:
+        applies(len(file), 0, 6)
+
+    if found:
+        _, _, number, line, field = min(found)
+        return number, line, field, None
+    rows = [r.split(b",") for r in file.split(b"\n")[1: height + 1]]
+    return 0, 0, 0, rows
+
+
+def answer(file):
+    number, line, field, rows = reading(file)
+    if number:
+        return b"refused,%d,%d,%d\n" % (number, line, field)
+    text = b"%d,%d\n" % (len(rows), len(rows[0]))
+    for row in rows:
+        text += b",".join(b"%d" % int(f) if f else b"" for f in row) + b"\n"
+    return text
+
+
+def grid(height, width, cell=b""):
+    return b"%d,%d\n" % (height, width) + (b",".join([cell] * width) + b"\n") * height
+
+
+def cases():
+    good = b"3,3\n5,,6\n,,\n6,,5\n"
+    # the example, K10 to K12
+    yield b"2,2\n5,\n,5\n"
+    yield b"2,2\n2147483646,\n,\n"
+    yield b"2,2\n2147483647,\n,\n"
+    yield b"2,2\n1O,\n,1O\n"
+    yield b"2,2\n,1O\n1O,\n"
+    yield b"1,2\n,\n"
+    # mistyped codes: the letter O, small o, l, a letter first, a letter in the last field
+    for text in (b"1O", b"1o", b"O1", b"l0", b"1l", b"O"):
+        for pad in range(4):
+            fields = [b"", b"", b"", b""]
+            fields[pad] = text
+            yield b"2,2\n%s,%s\n%s,%s\n" % tuple(fields)
+    # an empty file, every beginning of a good one (the last 0A missing among them), and bytes after it
+    for end in range(len(good) + 1):
+        yield good[:end]
+    for byte in (0, 10, 32, 44, 48, 57, 120, 255):
+        yield good + bytes([byte])
+        yield grid(16, 16) + bytes([byte])
+    # 1: a bad byte at each place of a good file, in place of the byte there
+    for at in range(len(good)):
+        for byte in (0, 13, 45, 47, 58, 255):
+            yield good[:at] + bytes([byte]) + good[at + 1:]
+    # 2 and 3: ten and eleven digits, the largest code and one more, in the first, a middle and the last field
+    for text in (b"0000000002", b"00000000002", b"2147483646", b"2147483647", b"9999999999", b"4294967296", b"10000000000",
+                 b"007", b"0", b"0000000000", b"2147483646"):
+        yield b"%s,2\n,\n,\n" % text
+        yield b"2,%s\n,\n,\n" % text
+        yield b"2,2\n%s,\n,\n" % text
+        yield b"2,2\n,%s\n,\n" % text
+        yield b"2,2\n,\n,%s\n" % text
+    # 4: too few fields and a comma after the last, in the header, the first, a middle and the last row
+    yield b"\n"
+    yield b"2\n"
+    yield b"17\n"
+    yield b"2147483647\n"
+    yield b"2,2,"
+    yield b"2,2,2\n"
+    yield b"17,17,"
+    yield b"1,2147483647,"
+    for row in range(1, 4):
+        lines = good.split(b"\n")
+        lines[row] = b"7,7"
+        yield b"\n".join(lines)
+        lines[row] = b""
+        yield b"\n".join(lines)
+        lines[row] = b"7,7,7,"
+        yield b"\n".join(lines)
+        lines[row] = b"7,7,7,7"
+        yield b"\n".join(lines)
+    # 5: H and W at 0, 1, 2, 16, 17, 256 and empty; with 3 and 4 at the same byte
+    for h in (b"", b"0", b"1", b"2", b"16", b"17", b"256"):
+        for w in (b"", b"0", b"1", b"2", b"16", b"17"):
+            yield b"%s,%s\n" % (h, w)
+            if h and w and int(h) <= 17:
+                yield b"%s,%s\n" % (h, w) + (b"," * (int(w) - 1) + b"\n") * int(h)
+    yield b"1,2147483647\n"
+    yield b"2147483647,1\n"
+    # the largest grids, ten digits in every field; one byte cut off, one more
+    longest = b"0000000016,0000000016\n" + (b",".join([b"2147483646"] * 16) + b"\n") * 16
+    yield longest
+    yield longest[:-1]
+    yield longest + b"0"
+    yield grid(16, 16)
+    yield grid(2, 16, b"7")
+    yield grid(16, 2, b"0")
+    # 4,096 bytes of digits, of commas, of line ends
+    yield b"1" * 4096
+    yield b"," * 4096
+    yield b"\n" * 4096
+    # damaged copies of good files
+    chance = random.Random(4711)
+    for _ in range(600):
+        h, w = chance.randint(2, 5), chance.randint(2, 5)
+        fields = lambda: b",".join(chance.choice([b"", b"", b"0", b"7", b"12", b"2147483646", b"0009"]) for _ in range(w))
+        file = bytearray(b"%d,%d\n" % (h, w) + b"".join(fields() + b"\n" for _ in range(h)))
+        for _ in range(chance.choice([0, 1, 1, 1, 2, 3])):
+            at = chance.randrange(len(file) + 1)
+            kind = chance.randrange(3)
+            if kind == 0 and at < len(file):
+                del file[at]
+            elif kind == 1 and at < len(file):
+                file[at] = chance.choice(b"0123456789,,,\n\n\nO -\x00\xff")
+            else:
+                file.insert(at, chance.choice(b"0123456789,,,\n\n\nO -\x00\xff"))
+        yield bytes(file)
+
+
+def main():
+    folder = sys.argv[1]
+    files = list(cases())
+    with open(folder + "/stdin", "wb") as out:
+        for file in files:
+            out.write(bytes([len(file) // 256, len(file) % 256]) + file)
+        size = out.tell()
+    with open(folder + "/stdout", "wb") as out:
+        for file in files:
+            out.write(answer(file))
+    assert size <= 65536, size
+    print("%d files, %d bytes, %d of them accepted" % (len(files), size, sum(reading(f)[0] == 0 for f in files)))
+
+
+main()
