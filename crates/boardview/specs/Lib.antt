@@ -9,3 +9,4 @@ pub mod Items
 pub mod Settle
 pub mod Check
 pub mod Cycle
+pub mod SameBlanks

@@ -1,21 +1,21 @@
 -- Storing an edge's state and joining two chains: what was true of the arrays of a board stays true, one edge fewer is undecided, and the
 -- log tells how to go back. It rests on Bytes.antt, Ends.antt, Unwind.antt and Geometry.antt.
 use Prim.Native.Nat.{ℕ, zero, suc, _+_, _*_, _-_, _%_, _/_, _≤_, _<_}
-use mathlib.Core.Path.{_≡_, refl, sym, ap, _∙_}
+use mathlib.Core.Path.{_≡_, refl, sym, ap, _∙_, subst}
 use mathlib.Core.Bool.{Bool, true, false}
 use mathlib.Core.List.{List, [], _∷_}
 use native.Mathlib.Omega.{arith}
 use lib.Dec.{eqb, ltb, leb}
 use lib.ListN.{getD, set, length, length-set}
 use lib.Seq.{getD-set-same, getD-set-other}
-use lib.IntN.{ℤ, pos, negsuc}
+use lib.IntN.{ℤ, pos, negsuc, natAbs}
 use borrow.Author.Tests.{eqb-true, eqb-false, eq-eqb, ne-eqb, lt-leb, le-leb, lt-ltb, le-ltb, ltb-true, ltb-false}
 use Rattle.rules.specs.Grid.{Edge, right, down, first, second, Grid, pads}
 use Rattle.model.specs.Board.{State, End, at-pad, isThrough, set-edge, set-flag, on-board, joined-ends, join-ends}
-use Rattle.boardview.specs.View.{Arrays, logged, flag-in, ended-in, stopped, ended, going, pick, slot, slot-on, state-of, view, end-of, end-at, second-pad, joined, undecided-in, Ready, Since}
+use Rattle.boardview.specs.View.{Arrays, logged, flag-in, ended-in, stopped, ended, going, pick, slot, slot-on, state-of, view, end-of, end-at, second-pad, joined, undecided-in, Entry, Ready, Since}
 use Rattle.boardview.specs.Bytes.{default-free, edge-on, one-fewer, some-undecided, view-stored, edge-stored}
 use Rattle.boardview.specs.Ends.{Paired, stay-paired, stay-near, joined-long, joined-at, unjoined-is}
-use Rattle.boardview.specs.Unwind.{log-stored, log-joined, stored-kept, stored-back, joined-kept, joined-back, since-one, since-still}
+use Rattle.boardview.specs.Unwind.{log-stored, log-joined, slot-stored, mark-stored, slot-joined, first-joined, second-joined, stored-kept, stored-back, joined-kept, joined-back, since-one, since-still}
 use Rattle.boardview.specs.Geometry.{right-on, down-on, beyond-right}
 
 -- THE COUNT
@@ -81,6 +81,7 @@ recounted g s c y h k = record {
   few-pads = y .few-pads;
   mode = k;
   room = omega (arith, y .room);
+  entries = λ n l. y .entries n (omega arith);
   bytes = y .bytes;
   rim = y .rim;
   near = y .near;
@@ -126,6 +127,42 @@ module _ (g : Grid) (s : Arrays) (e : Edge) (y : Ready g s) (on : on-board g e �
   rim-stored : (b : ℕ) (n : ℕ) → n < 1024 → slot-on g n ≡ false → getD (set (s .edges) (slot e) b) n 0 ≡ 2
   rim-stored b n h off = getD-set-other (s .edges) (slot e) n b 0 (λ q. absurd (let x : true ≡ false = sym (edge-on g e ∙ on) ∙ (ap (slot-on g) (sym q) ∙ off) in let k : _≡_ {A = ℕ} 0 1 = cc in omega arith)) ∙ y .rim n h off
 
+  -- the entries of a longer log
+  entry-kept : (log : List ℤ) (n : ℕ) → ((i : ℕ) → i < 4 * logged s → getD log i (pos 0) ≡ getD (s .log) i (pos 0)) → n < logged s → Entry g log n
+  entry-kept log n h l = let t = y .entries n l in
+      let a : getD log (4 * n) (pos 0) ≡ getD (s .log) (4 * n) (pos 0) = h (4 * n) (omega arith) in
+      let b : getD log (4 * n + 1) (pos 0) ≡ getD (s .log) (4 * n + 1) (pos 0) = h (4 * n + 1) (omega arith) in
+      let d : getD log (4 * n + 2) (pos 0) ≡ getD (s .log) (4 * n + 2) (pos 0) = h (4 * n + 2) (omega arith) in
+      record {
+        number = a ∙ (t .number ∙ ap (λ (z : ℤ). pos (natAbs z)) (sym a));
+        on = ap (λ (z : ℤ). slot-on g (natAbs z)) a ∙ t .on;
+        first = λ x e. t .first x (sym (ap end-of b) ∙ e);
+        second = λ m x e. t .second (sym (ap (λ (z : ℤ). isThrough (end-of z)) b) ∙ m) x (sym (ap end-of d) ∙ e);
+      }
+
+  entry-new : (log : List ℤ) (A B : ℤ) → getD log (4 * logged s) (pos 0) ≡ pos (slot e) → getD log (4 * logged s + 1) (pos 0) ≡ A
+      → ((a : ℕ) → end-of A ≡ at-pad a → a < pads g) → (isThrough (end-of A) ≡ false → (b : ℕ) → end-of (getD log (4 * logged s + 2) (pos 0)) ≡ at-pad b → b < pads g) → Entry g log (logged s)
+  entry-new log A B p q ha hb = record {
+    number = p ∙ ap (λ (z : ℤ). pos (natAbs z)) (sym p);
+    on = ap (λ (z : ℤ). slot-on g (natAbs z)) p ∙ (edge-on g e ∙ on);
+    first = λ a h. ha a (sym (ap end-of q) ∙ h);
+    second = λ m b h. hb (sym (ap (λ (z : ℤ). isThrough (end-of z)) q) ∙ m) b h;
+  }
+
+  last-or-kept : (c n : ℕ) (P : ℕ → Type 0) → c % 1024 ≡ logged s + 1 → n < c % 1024 → P (logged s) → (n < logged s → P n) → P n
+  last-or-kept c n P hc l new old = go (ltb n (logged s)) refl
+    where
+      go : (b : Bool) → ltb n (logged s) ≡ b → P n
+      go true q = old (ltb-true n (logged s) q)
+      go false q = let same : logged s ≡ n = omega (arith, ltb-false n (logged s) q) in subst P same new
+
+  entries-stored : (c : ℕ) → c % 1024 ≡ logged s + 1 → (n : ℕ) → n < c % 1024 → Entry g (log-stored (s .log) (logged s) (slot e)) n
+  unfolding end-of
+  entries-stored c hc n l = last-or-kept c n (λ x. Entry g (log-stored (s .log) (logged s) (slot e)) x) hc l
+      (entry-new (log-stored (s .log) (logged s) (slot e)) (negsuc 0) (negsuc 0) (slot-stored (s .log) (logged s) (slot e) log-room) (mark-stored (s .log) (logged s) (slot e) log-room)
+      (λ a h. absurd (let z : _≡_ {A = ℕ} 0 1 = cc in omega arith)) (λ m. absurd (let z : _≡_ {A = ℕ} 0 1 = cc in omega arith)))
+      (entry-kept (log-stored (s .log) (logged s) (slot e)) n (stored-kept (s .log) (logged s) (slot e) log-room))
+
   -- an edge stored, its ends as they were
   module _ (b c : ℕ) (hb : 0 < b) (lb : b ≤ 2) (hc : c % 1024 ≡ logged s + 1) (mc : c < 3072) where
     abbrev with-edge-stored : Arrays
@@ -143,6 +180,7 @@ module _ (g : Grid) (s : Arrays) (e : Edge) (y : Ready g s) (on : on-board g e �
         few-pads = y .few-pads;
         mode = mc;
         room = omega (arith, less-stored b hb, y .room);
+        entries = entries-stored c hc;
         bytes = bytes-stored b lb;
         rim = rim-stored b;
         near = y .near;
@@ -186,6 +224,15 @@ module _ (g : Grid) (s : Arrays) (e : Edge) (y : Ready g s) (on : on-board g e �
   ends-at : (x : ℕ) → end-at (joined v q (s .ends)) x ≡ joined-ends (λ u. end-at (s .ends) u) v q (end-at (s .ends) v) (end-at (s .ends) q) x
   ends-at = joined-at v q (s .ends) first-in-list second-in-list first-end-in-list second-end-in-list
 
+  abbrev joined-log : List ℤ
+  joined-log = log-joined (s .log) (logged s) (slot e) (getD (s .ends) v (pos v)) (getD (s .ends) q (pos q))
+
+  entries-joined : (c : ℕ) → c % 1024 ≡ logged s + 1 → (n : ℕ) → n < c % 1024 → Entry g joined-log n
+  entries-joined c hc n l = last-or-kept c n (λ x. Entry g joined-log x) hc l
+      (entry-new joined-log (getD (s .ends) v (pos v)) (getD (s .ends) q (pos q)) (slot-joined (s .log) (logged s) (slot e) log-room _ _) (first-joined (s .log) (logged s) (slot e) log-room _ _)
+      (λ a h. y .near v a first-inside h) (λ m b h. y .near q b second-inside (sym (ap end-of (second-joined (s .log) (logged s) (slot e) log-room _ _)) ∙ h)))
+      (entry-kept joined-log n (joined-kept (s .log) (logged s) (slot e) log-room _ _))
+
   module _ (c : ℕ) (hc : c % 1024 ≡ logged s + 1) (mc : c < 3072) (t : isThrough (end-at (s .ends) v) ≡ false) where
     abbrev with-line-joined : Arrays
     with-line-joined = record {
@@ -207,6 +254,7 @@ module _ (g : Grid) (s : Arrays) (e : Edge) (y : Ready g s) (on : on-board g e �
         few-pads = y .few-pads;
         mode = mc;
         room = omega (arith, less-stored 1 (omega arith), y .room);
+        entries = entries-joined c hc;
         bytes = bytes-stored 1 (omega arith);
         rim = rim-stored 1;
         near = λ x w h k. stay-near (λ u. end-at (s .ends) u) v q (pads g) first-inside second-inside (y .near) x w h (sym (ends-at x) ∙ k);

@@ -62,10 +62,10 @@ abbrev pub log-joined : List ℤ → ℕ → ℕ → ℤ → ℤ → List ℤ
 log-joined log n s A B = set (set (set log (4 * n) (pos s)) (4 * n + 1) A) (4 * n + 2) B
 
 module _ (log : List ℤ) (n s : ℕ) (h : 4 * n + 3 < length log) where
-  slot-stored : getD (log-stored log n s) (4 * n) (pos 0) ≡ pos s
+  pub slot-stored : getD (log-stored log n s) (4 * n) (pos 0) ≡ pos s
   slot-stored = getD-set-other (set log (4 * n) (pos s)) (4 * n + 1) (4 * n) (negsuc 0) (pos 0) (omega arith) ∙ getD-set-same log (4 * n) (pos s) (pos 0) (omega arith)
 
-  mark-stored : getD (log-stored log n s) (4 * n + 1) (pos 0) ≡ negsuc 0
+  pub mark-stored : getD (log-stored log n s) (4 * n + 1) (pos 0) ≡ negsuc 0
   mark-stored = getD-set-same (set log (4 * n) (pos s)) (4 * n + 1) (negsuc 0) (pos 0) (omega (arith, length-set log (4 * n) (pos s)))
 
   pub stored-kept : (i : ℕ) → i < 4 * n → getD (log-stored log n s) i (pos 0) ≡ getD log i (pos 0)
@@ -80,15 +80,15 @@ module _ (log : List ℤ) (n s : ℕ) (h : 4 * n + 3 < length log) where
       edges-back = set-set edges s b 0 ∙ (ap (λ (x : ℕ). set edges s x) (sym z) ∙ set-getD edges s 0)
 
   module _ (A B : ℤ) where
-    slot-joined : getD (log-joined log n s A B) (4 * n) (pos 0) ≡ pos s
+    pub slot-joined : getD (log-joined log n s A B) (4 * n) (pos 0) ≡ pos s
     slot-joined = getD-set-other (set (set log (4 * n) (pos s)) (4 * n + 1) A) (4 * n + 2) (4 * n) B (pos 0) (omega arith)
         ∙ (getD-set-other (set log (4 * n) (pos s)) (4 * n + 1) (4 * n) A (pos 0) (omega arith) ∙ getD-set-same log (4 * n) (pos s) (pos 0) (omega arith))
 
-    first-joined : getD (log-joined log n s A B) (4 * n + 1) (pos 0) ≡ A
+    pub first-joined : getD (log-joined log n s A B) (4 * n + 1) (pos 0) ≡ A
     first-joined = getD-set-other (set (set log (4 * n) (pos s)) (4 * n + 1) A) (4 * n + 2) (4 * n + 1) B (pos 0) (omega arith)
         ∙ getD-set-same (set log (4 * n) (pos s)) (4 * n + 1) A (pos 0) (omega (arith, length-set log (4 * n) (pos s)))
 
-    second-joined : getD (log-joined log n s A B) (4 * n + 2) (pos 0) ≡ B
+    pub second-joined : getD (log-joined log n s A B) (4 * n + 2) (pos 0) ≡ B
     second-joined = getD-set-same (set (set log (4 * n) (pos s)) (4 * n + 1) A) (4 * n + 2) B (pos 0)
         (omega (arith, length-set (set log (4 * n) (pos s)) (4 * n + 1) A, length-set log (4 * n) (pos s)))
 

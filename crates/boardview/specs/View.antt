@@ -115,24 +115,9 @@ unfoldable pub undecided-in : List ℕ → ℕ
 undecided-in [] = 0
 undecided-in (byte ∷ bytes) = pick (eqb byte 0) (suc (undecided-in bytes)) (undecided-in bytes)
 
--- READY: what is true of the arrays of every board.
-pub record Ready (g : Grid) (s : Arrays) : Type 0 where
-  pub edges-long : length (s .edges) ≡ 1024
-  pub ends-long : length (s .ends) ≡ 512
-  pub log-long : length (s .log) ≡ 2048
-  pub least-width : 2 ≤ g .width
-  pub largest-width : g .width ≤ 16
-  pub few-pads : pads g ≤ 256
-  pub mode : s .count < 3072
-  pub room : logged s + undecided-in (s .edges) ≤ 480
-  pub bytes : (n : ℕ) → getD (s .edges) n 2 ≤ 2
-  pub rim : (n : ℕ) → n < 1024 → slot-on g n ≡ false → getD (s .edges) n 0 ≡ 2
-  pub near : (v w : ℕ) → v < pads g → end-at (s .ends) v ≡ at-pad w → w < pads g
-  pub paired : (v w : ℕ) → end-at (s .ends) v ≡ at-pad w → end-at (s .ends) w ≡ at-pad v
-
 -- THE LOG has an entry of four numbers for each decided edge: its slot, and the two ends where the line joined two chains; -1 in their
 -- place where it joined none. Undoing an entry: the edge is undecided again; the edge's two pads get back their ends, and the pads that
--- these ends name (which are the ends of those pads: READY, paired) get back the edge's pads.
+-- these ends name (which are the ends of those pads: READY below, paired) get back the edge's pads.
 abbrev pub second-pad : ℕ → ℕ → ℕ
 second-pad width s = pick (eqb (s % 2) 0) (s / 2 - 15) (s / 2 - 16 + width)
 
@@ -162,6 +147,29 @@ undone-one width log k E = (
 unfoldable pub unwound : ℕ → List ℤ → ℕ → ℕ → List ℕ × List ℤ → List ℕ × List ℤ
 unwound width log least zero E = E
 unwound width log least (suc more) E = unwound width log least more (undone-one width log (least + more) E)
+
+-- an entry that can be undone: its slot is of an edge of the board, and the pads that its ends name are pads
+pub record Entry (g : Grid) (log : List ℤ) (k : ℕ) : Type 0 where
+  pub number : getD log (4 * k) (pos 0) ≡ pos (slot-logged log k)
+  pub on : slot-on g (slot-logged log k) ≡ true
+  pub first : (a : ℕ) → end-of (getD log (4 * k + 1) (pos 0)) ≡ at-pad a → a < pads g
+  pub second : isThrough (end-of (getD log (4 * k + 1) (pos 0))) ≡ false → (b : ℕ) → end-of (getD log (4 * k + 2) (pos 0)) ≡ at-pad b → b < pads g
+
+-- READY: what is true of the arrays of every board.
+pub record Ready (g : Grid) (s : Arrays) : Type 0 where
+  pub edges-long : length (s .edges) ≡ 1024
+  pub ends-long : length (s .ends) ≡ 512
+  pub log-long : length (s .log) ≡ 2048
+  pub least-width : 2 ≤ g .width
+  pub largest-width : g .width ≤ 16
+  pub few-pads : pads g ≤ 256
+  pub mode : s .count < 3072
+  pub room : logged s + undecided-in (s .edges) ≤ 480
+  pub entries : (k : ℕ) → k < logged s → Entry g (s .log) k
+  pub bytes : (n : ℕ) → getD (s .edges) n 2 ≤ 2
+  pub rim : (n : ℕ) → n < 1024 → slot-on g n ≡ false → getD (s .edges) n 0 ≡ 2
+  pub near : (v w : ℕ) → v < pads g → end-at (s .ends) v ≡ at-pad w → w < pads g
+  pub paired : (v w : ℕ) → end-at (s .ends) v ≡ at-pad w → end-at (s .ends) w ≡ at-pad v
 
 -- SINCE: the log of s′ is that of s with more entries, and undoing these gives back the edges and ends of s.
 pub record Since (width : ℕ) (s s′ : Arrays) : Type 0 where

@@ -1,0 +1,1 @@
+-- The decision states its promises with the definitions of boardview; there are none here.

@@ -1,0 +1,346 @@
+// A decision and the pad check, which call each other over the board's lent arrays: twice the undecided edges, plus one in the check,
+// falls. Each function equals the model's decision, check or item (boardview's Decided, Done and NoneAt), on flagged boards too, keeps what
+// is true of the arrays of every board, and logs what it stores, so that undoing the log's entries gives back the arrays.
+// `count` is the log's length, plus 1024 if the flag is set, plus 2048 if it is set and the decision has ended; an ended decision goes
+// through every part unchanged.
+ghost use mathlib.Core.Path.{_≡_};
+ghost use mathlib.Core.Bool.{true, false};
+ghost use Prim.Native.Nat.{ℕ, _+_, _*_, _-_, _≤_, _<_};
+ghost use Rattle.rules.specs.Grid.{right, down, pads};
+ghost use Rattle.rules.specs.Drawing.{on-left, on-right};
+ghost use Rattle.model.specs.Board.{line, on-board};
+ghost use Rattle.boardview.specs.View.{Arrays, grid-in, has-bit, slot-on, Kinds, Ready, Decided, Done, NoneAt, detour-at, corner-at, bar-at, check-at};
+
+// Steps a, b and f: an edge is to have no line. At a slot off the board nothing changes.
+pub fn decide_none(
+    edges: &mut [u8; 1024],
+    ends: &mut [i32; 512],
+    log: &mut [i32; 2048],
+    kind: &[u8; 1024],
+    slot: usize,
+    count: usize,
+) -> usize
+    requires { ⌜ (slot < 1024) × Kinds (now kind) × Ready (grid-in (now kind)) (record { edges = now edges; ends = now ends; log = now log; count = count }) ⌝ }
+    ensures { λ r. ⌜ NoneAt (grid-in (now (kind .entry))) (record { edges = now (edges .entry); ends = now (ends .entry); log = now (log .entry); count = count }) slot (record { edges = now (edges .exit); ends = now (ends .exit); log = now (log .exit); count = r }) ⌝ }
+{
+    let old = edges[slot];
+    if old == 0 {
+        boardparts::store(edges, log, slot, 2, count);
+        let v = boardparts::first_pad(slot);
+        let q = boardparts::second_pad(slot, boardparts::width(kind));
+        let after = check(edges, ends, log, kind, v, boardparts::go_on(count) + 1);
+        return boardparts::end(check(edges, ends, log, kind, q, after));
+    }
+    if old == 1 {
+        return boardparts::stop(count);
+    }
+    boardparts::end(count)
+}
+
+// Steps a to f: the edge to the right of pad v is to be a line.
+pub fn decide_line_right(
+    edges: &mut [u8; 1024],
+    ends: &mut [i32; 512],
+    log: &mut [i32; 2048],
+    kind: &[u8; 1024],
+    v: usize,
+    count: usize,
+) -> usize
+    requires { ⌜ (on-board (grid-in (now kind)) (right v) ≡ true) × (v < 256) × Kinds (now kind) × Ready (grid-in (now kind)) (record { edges = now edges; ends = now ends; log = now log; count = count }) ⌝ }
+    ensures { λ r. ⌜ Decided (grid-in (now (kind .entry))) (record { edges = now (edges .entry); ends = now (ends .entry); log = now (log .entry); count = count }) (right v) line (record { edges = now (edges .exit); ends = now (ends .exit); log = now (log .exit); count = r }) ⌝ }
+{
+    let slot = 32 + 2 * v;
+    let old = edges[slot];
+    if old == 0 {
+        let w = boardparts::width(kind);
+        let q = v + 1;
+        let up_left = 33 + 2 * v - 2 * w;
+        let up_right = 35 + 2 * v - 2 * w;
+        let up = 32 + 2 * v - 2 * w;
+        let left = 33 + 2 * v;
+        let right = 35 + 2 * v;
+        let below = 32 + 2 * v + 2 * w;
+        let right_below = v + w + 1;
+        let left_below = v + w;
+        if boardparts::cannot_join(ends, v, q) {
+            boardparts::store(edges, log, slot, 1, count);
+            return boardparts::stop(count) + 1;
+        }
+        let a = boardparts::end_pad(ends, v);
+        let b = boardparts::end_pad(ends, q);
+        boardparts::log_line(ends, log, slot, v, q, count);
+        boardparts::join_ends(ends, v, q);
+        edges[slot] = 1;
+        let after = boardparts::go_on(count) + 1;
+        let after = detour(edges, ends, log, kind, up_left, up_right, up, after);
+        let after = detour(edges, ends, log, kind, up_right, up_left, up, after);
+        let after = detour(edges, ends, log, kind, up, up_left, up_right, after);
+        let after = detour(edges, ends, log, kind, left, right, below, after);
+        let after = detour(edges, ends, log, kind, right, left, below, after);
+        let after = detour(edges, ends, log, kind, below, left, right, after);
+        let after = corner_right(edges, ends, log, kind, right_below, left, after);
+        let after = corner_left(edges, ends, log, kind, left_below, right, after);
+        let after = bar(edges, ends, log, kind, v, 2, left, after);
+        let after = bar(edges, ends, log, kind, q, 4, right, after);
+        let after = check(edges, ends, log, kind, v, after);
+        let after = check(edges, ends, log, kind, q, after);
+        let after = check(edges, ends, log, kind, a, after);
+        return boardparts::end(check(edges, ends, log, kind, b, after));
+    }
+    if old == 1 {
+        return boardparts::end(count);
+    }
+    boardparts::stop(count)
+}
+
+// Steps a to f: the edge downward from pad v is to be a line.
+pub fn decide_line_down(
+    edges: &mut [u8; 1024],
+    ends: &mut [i32; 512],
+    log: &mut [i32; 2048],
+    kind: &[u8; 1024],
+    v: usize,
+    count: usize,
+) -> usize
+    requires { ⌜ (on-board (grid-in (now kind)) (down v) ≡ true) × (v < 256) × Kinds (now kind) × Ready (grid-in (now kind)) (record { edges = now edges; ends = now ends; log = now log; count = count }) ⌝ }
+    ensures { λ r. ⌜ Decided (grid-in (now (kind .entry))) (record { edges = now (edges .entry); ends = now (ends .entry); log = now (log .entry); count = count }) (down v) line (record { edges = now (edges .exit); ends = now (ends .exit); log = now (log .exit); count = r }) ⌝ }
+{
+    let slot = 33 + 2 * v;
+    let old = edges[slot];
+    if old == 0 {
+        let w = boardparts::width(kind);
+        let q = v + w;
+        let left = 30 + 2 * v;
+        let left_below = 30 + 2 * v + 2 * w;
+        let far_left = 31 + 2 * v;
+        let right = 32 + 2 * v;
+        let right_below = 32 + 2 * v + 2 * w;
+        let far_right = 35 + 2 * v;
+        let pad_left = v + w - 1;
+        let pad_right = v + w + 1;
+        let if_left = boardparts::slot_where(kind, v, 16, far_left);
+        let if_right = boardparts::slot_where(kind, v, 8, far_right);
+        if boardparts::cannot_join(ends, v, q) {
+            boardparts::store(edges, log, slot, 1, count);
+            return boardparts::stop(count) + 1;
+        }
+        let a = boardparts::end_pad(ends, v);
+        let b = boardparts::end_pad(ends, q);
+        boardparts::log_line(ends, log, slot, v, q, count);
+        boardparts::join_ends(ends, v, q);
+        edges[slot] = 1;
+        let after = boardparts::go_on(count) + 1;
+        let after = detour(edges, ends, log, kind, left, left_below, far_left, after);
+        let after = detour(edges, ends, log, kind, left_below, left, far_left, after);
+        let after = detour(edges, ends, log, kind, if_left, left, left_below, after);
+        let after = detour(edges, ends, log, kind, right, right_below, far_right, after);
+        let after = detour(edges, ends, log, kind, right_below, right, far_right, after);
+        let after = detour(edges, ends, log, kind, if_right, right, right_below, after);
+        let after = corner_left(edges, ends, log, kind, pad_left, left, after);
+        let after = corner_right(edges, ends, log, kind, pad_right, right, after);
+        let after = bar(edges, ends, log, kind, v, 4, left, after);
+        let after = bar(edges, ends, log, kind, v, 2, right, after);
+        let after = check(edges, ends, log, kind, v, after);
+        let after = check(edges, ends, log, kind, q, after);
+        let after = check(edges, ends, log, kind, a, after);
+        return boardparts::end(check(edges, ends, log, kind, b, after));
+    }
+    if old == 1 {
+        return boardparts::end(count);
+    }
+    boardparts::stop(count)
+}
+
+// Step d, one third of a unit square: if the edge at slot a is a line, those at b and c become none.
+pub fn detour(
+    edges: &mut [u8; 1024],
+    ends: &mut [i32; 512],
+    log: &mut [i32; 2048],
+    kind: &[u8; 1024],
+    a: usize,
+    b: usize,
+    c: usize,
+    count: usize,
+) -> usize
+    requires { ⌜ (a < 1024) × (b < 1024) × (c < 1024) × (slot-on (grid-in (now kind)) a ≡ true → (slot-on (grid-in (now kind)) b ≡ true) × (slot-on (grid-in (now kind)) c ≡ true)) × Kinds (now kind) × Ready (grid-in (now kind)) (record { edges = now edges; ends = now ends; log = now log; count = count }) ⌝ }
+    ensures { λ r. ⌜ Done (grid-in (now (kind .entry))) 1 (record { edges = now (edges .entry); ends = now (ends .entry); log = now (log .entry); count = count }) (detour-at (grid-in (now (kind .entry))) a b c) (record { edges = now (edges .exit); ends = now (ends .exit); log = now (log .exit); count = r }) ⌝ }
+{
+    if 2048 <= count {
+        return count;
+    }
+    if edges[a] != 1 {
+        return count;
+    }
+    let after = decide_none(edges, ends, log, kind, b, count);
+    if 2048 <= after {
+        return after;
+    }
+    decide_none(edges, ends, log, kind, c, after)
+}
+
+// Step e: the right and down corner above pad q, if the edge at slot a completes it and q is blank.
+pub fn corner_right(
+    edges: &mut [u8; 1024],
+    ends: &mut [i32; 512],
+    log: &mut [i32; 2048],
+    kind: &[u8; 1024],
+    q: usize,
+    a: usize,
+    count: usize,
+) -> usize
+    requires { ⌜ (a < 1024) × (q < 512) × (slot-on (grid-in (now kind)) a ≡ true → q < pads (grid-in (now kind))) × Kinds (now kind) × Ready (grid-in (now kind)) (record { edges = now edges; ends = now ends; log = now log; count = count }) ⌝ }
+    ensures { λ r. ⌜ Done (grid-in (now (kind .entry))) 1 (record { edges = now (edges .entry); ends = now (ends .entry); log = now (log .entry); count = count }) (corner-at (grid-in (now (kind .entry))) on-right q a) (record { edges = now (edges .exit); ends = now (ends .exit); log = now (log .exit); count = r }) ⌝ }
+{
+    if 2048 <= count {
+        return count;
+    }
+    if edges[a] != 1 {
+        return count;
+    }
+    if boardparts::has(kind, q, 1) {
+        return count;
+    }
+    if boardparts::has(kind, q, 8) {
+        let after = decide_line_right(edges, ends, log, kind, q, count);
+        let after = decide_line_down(edges, ends, log, kind, q, boardparts::go_on(after));
+        return boardparts::go_on(after);
+    }
+    boardparts::stop(count)
+}
+
+// Step e: the left and down corner above pad q, if the edge at slot a completes it and q is blank.
+pub fn corner_left(
+    edges: &mut [u8; 1024],
+    ends: &mut [i32; 512],
+    log: &mut [i32; 2048],
+    kind: &[u8; 1024],
+    q: usize,
+    a: usize,
+    count: usize,
+) -> usize
+    requires { ⌜ (a < 1024) × (q < 512) × (slot-on (grid-in (now kind)) a ≡ true → q < pads (grid-in (now kind))) × Kinds (now kind) × Ready (grid-in (now kind)) (record { edges = now edges; ends = now ends; log = now log; count = count }) ⌝ }
+    ensures { λ r. ⌜ Done (grid-in (now (kind .entry))) 1 (record { edges = now (edges .entry); ends = now (ends .entry); log = now (log .entry); count = count }) (corner-at (grid-in (now (kind .entry))) on-left q a) (record { edges = now (edges .exit); ends = now (ends .exit); log = now (log .exit); count = r }) ⌝ }
+{
+    if 2048 <= count {
+        return count;
+    }
+    if edges[a] != 1 {
+        return count;
+    }
+    if boardparts::has(kind, q, 1) {
+        return count;
+    }
+    if boardparts::has(kind, q, 16) {
+        let after = decide_line_right(edges, ends, log, kind, q - 1, count);
+        let after = decide_line_down(edges, ends, log, kind, q, boardparts::go_on(after));
+        return boardparts::go_on(after);
+    }
+    boardparts::stop(count)
+}
+
+// Step e: if pad v is barred, by this bit of its kind, the edge at the slot becomes none.
+pub fn bar(
+    edges: &mut [u8; 1024],
+    ends: &mut [i32; 512],
+    log: &mut [i32; 2048],
+    kind: &[u8; 1024],
+    v: usize,
+    bit: u8,
+    slot: usize,
+    count: usize,
+) -> usize
+    requires { ⌜ (v < 512) × (slot < 1024) × (has-bit (now kind) v bit ≡ true → slot-on (grid-in (now kind)) slot ≡ true) × Kinds (now kind) × Ready (grid-in (now kind)) (record { edges = now edges; ends = now ends; log = now log; count = count }) ⌝ }
+    ensures { λ r. ⌜ Done (grid-in (now (kind .entry))) 1 (record { edges = now (edges .entry); ends = now (ends .entry); log = now (log .entry); count = count }) (bar-at (grid-in (now (kind .entry))) (has-bit (now (kind .entry)) v bit) slot) (record { edges = now (edges .exit); ends = now (ends .exit); log = now (log .exit); count = r }) ⌝ }
+{
+    if 2048 <= count {
+        return count;
+    }
+    if boardparts::has(kind, v, bit) {
+        return decide_none(edges, ends, log, kind, slot, count);
+    }
+    count
+}
+
+// The pad check; a pad number of 512 stands for no pad.
+pub fn check(
+    edges: &mut [u8; 1024],
+    ends: &mut [i32; 512],
+    log: &mut [i32; 2048],
+    kind: &[u8; 1024],
+    v: usize,
+    count: usize,
+) -> usize
+    requires { ⌜ (v ≤ 512) × (v < 512 → v < pads (grid-in (now kind))) × Kinds (now kind) × Ready (grid-in (now kind)) (record { edges = now edges; ends = now ends; log = now log; count = count }) ⌝ }
+    ensures { λ r. ⌜ Done (grid-in (now (kind .entry))) 1 (record { edges = now (edges .entry); ends = now (ends .entry); log = now (log .entry); count = count }) (check-at v) (record { edges = now (edges .exit); ends = now (ends .exit); log = now (log .exit); count = r }) ⌝ }
+{
+    if 2048 <= count {
+        return count;
+    }
+    if v == 512 {
+        return count;
+    }
+    let w = boardparts::width(kind);
+    if boardparts::some_apart(edges, ends, w, v) {
+        let code = boardparts::end_code(ends, v);
+        let left = 30 + 2 * v;
+        let right = 32 + 2 * v;
+        let up = 33 + 2 * v - 2 * w;
+        let down = 33 + 2 * v;
+        let past_left = 15 + v;
+        let past_right = 17 + v;
+        let past_up = 16 + v - w;
+        let past_down = 16 + v + w;
+        let after = count;
+        let slot = boardparts::slot_apart(edges, ends, code, left, past_left, after);
+        let after = boardparts::count_after(
+            slot,
+            after,
+            decide_none(edges, ends, log, kind, slot, after),
+        );
+        let slot = boardparts::slot_apart(edges, ends, code, right, past_right, after);
+        let after = boardparts::count_after(
+            slot,
+            after,
+            decide_none(edges, ends, log, kind, slot, after),
+        );
+        let slot = boardparts::slot_apart(edges, ends, code, up, past_up, after);
+        let after = boardparts::count_after(
+            slot,
+            after,
+            decide_none(edges, ends, log, kind, slot, after),
+        );
+        let slot = boardparts::slot_apart(edges, ends, code, down, past_down, after);
+        let after = boardparts::count_after(
+            slot,
+            after,
+            decide_none(edges, ends, log, kind, slot, after),
+        );
+        if 2048 <= after {
+            return after;
+        }
+        let action = boardparts::action(edges, kind, w, v);
+        if action < 2 {
+            return boardparts::rest(action, after);
+        }
+        if 1024 <= action {
+            return decide_none(edges, ends, log, kind, action - 1024, after);
+        }
+        let pad = action / 2 - 16;
+        if action % 2 == 0 {
+            return decide_line_right(edges, ends, log, kind, pad, after);
+        }
+        return decide_line_down(edges, ends, log, kind, pad, after);
+    }
+    let action = boardparts::action(edges, kind, w, v);
+    if action < 2 {
+        return boardparts::rest(action, count);
+    }
+    if 1024 <= action {
+        return decide_none(edges, ends, log, kind, action - 1024, count);
+    }
+    let pad = action / 2 - 16;
+    if action % 2 == 0 {
+        return decide_line_right(edges, ends, log, kind, pad, count);
+    }
+    decide_line_down(edges, ends, log, kind, pad, count)
+}
