@@ -160,6 +160,7 @@ module _ (height width : ℕ) (cells : List ℤ) (ok : Accepted height width cel
       few-pads = few;
       mode = omega arith;
       room = omega (arith, room height width (ok .height-in-range) (ok .width-in-range) edges filled-edges);
+      entries = λ k below. absurd (omega arith);
       bytes = fresh-bytes (without-codes the-grid) few edges filled-edges;
       rim = fresh-rim (without-codes the-grid) few edges filled-edges;
       near = λ v w h e. rw (own-end the-grid cells ends few-cells filled-ends v w e) h;

@@ -11,7 +11,7 @@ use borrow.Author.Tests.{lt-ltb, le-ltb, ltb-true, ltb-false, le-leb, lt-leb, le
 use Rattle.rules.specs.Grid.{Edge, right, down, Grid, pads}
 use Rattle.rules.specs.Drawing.{Side, on-left, on-right}
 use Rattle.model.specs.Board.{Item, detour, corner, bar, detours, when, has-right, has-left, has-down, has-up, on-board, has-side, barred, corner-right, corner-left, shape-items}
-use Rattle.boardview.specs.View.{pick, slot, edge-of, slot-on, detour-at, corner-at, bar-at, beside}
+use Rattle.boardview.specs.View.{pick, slot, edge-of, second-pad, slot-on, detour-at, corner-at, bar-at, beside}
 use Rattle.boardview.specs.Bytes.{both-true, right-slot, down-slot, edge-on, on-slot}
 
 -- COLUMNS
@@ -413,3 +413,15 @@ module _ (g : Grid) (p : 2 ≤ g .width) (q : g .width ≤ 16) where
         ∙ ap (λ (x : List Item). when (has-right g v) (corner-right g v (right v) ∷ []) ++ x) (down-left-bar-is b eb _
         ∙ ap (λ (x : List Item). when (has-left g v) (bar (barred g on-left (g .height) v) (right (v - 1)) ∷ []) ++ x) (down-right-bar-is c ec L)))))
         ∙ rw on (simp append-assoc))
+
+-- the pads and the slot of an edge of the board
+pub slot-bounds : (g : Grid) → 2 ≤ g .width → g .width ≤ 16 → pads g ≤ 256 → (n : ℕ) → slot-on g n ≡ true → (32 ≤ n) × (n < 544) × (n / 2 - 16 < 256) × (second-pad (g .width) n < 256)
+unfolding edge-of
+slot-bounds g p q few n on = go (eqb (n % 2) 0) refl (on-slot g n on .1)
+  where
+    high : 32 ≤ n
+    high = on-slot g n on .0
+
+    go : (b : Bool) → eqb (n % 2) 0 ≡ b → on-board g (pick b (right (n / 2 - 16)) (down (n / 2 - 16))) ≡ true → (32 ≤ n) × (n < 544) × (n / 2 - 16 < 256) × (pick b (n / 2 - 15) (n / 2 - 16 + g .width) < 256)
+    go true e o = let h = right-on g p q (n / 2 - 16) o in let k = beyond-right g p q (n / 2 - 16) o in (high, omega (arith, high, h .1), omega (arith, h .1), omega (arith, k, high))
+    go false e o = let h = down-on g p q (n / 2 - 16) o in (high, omega (arith, high, h), omega (arith, h), omega (arith, h))

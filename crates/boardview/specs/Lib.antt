@@ -1,6 +1,7 @@
 pub mod View
 pub mod Bytes
 pub mod Ends
+pub mod Signed
 pub mod Unwind
 pub mod Geometry
 pub mod Stores

@@ -9,8 +9,8 @@ use lib.ListN.{getD, set, length, length-set}
 use lib.Seq.{getD-set-same, getD-set-other, set-set, set-getD}
 use lib.IntN.{ℤ, pos, negsuc, natAbs}
 use Rattle.model.specs.Board.{End, through, at-pad, at-clue, isThrough}
-use Rattle.boardview.specs.View.{Arrays, logged, pick, end-of, end-at, joined, unjoined, second-pad, slot-logged, undone-one, unwound, Since}
-use Rattle.boardview.specs.Ends.{Paired, unjoined-is}
+use Rattle.boardview.specs.View.{Arrays, logged, pick, end-of, put-number, unjoined, second-pad, slot-logged, undone-one, unwound, Since}
+use Rattle.boardview.specs.Ends.{length-put}
 
 -- UNDOING ENTRIES
 pub unwound-split : (w : ℕ) (log : List ℤ) (m j i : ℕ) (E : List ℕ × List ℤ) → unwound w log m (j + i) E ≡ unwound w log m j (unwound w log (m + j) i E)
@@ -113,3 +113,35 @@ since-one w s s′ h k b = record { more = 1; longer = h; kept = k; back = ap (�
   where
     place : logged s + 0 ≡ logged s
     place = omega arith
+
+-- ENTRY BY ENTRY
+pub unwound-step : (w : ℕ) (log : List ℤ) (least k : ℕ) (E : List ℕ × List ℤ) → least < k → unwound w log least (k - least) E ≡ unwound w log least (k - 1 - least) (undone-one w log (k - 1) E)
+unfolding unwound
+unwound-step w log least k E h = ap (λ (n : ℕ). unwound w log least n E) more ∙ ap (λ (n : ℕ). unwound w log least (k - 1 - least) (undone-one w log n E)) place
+  where
+    more : k - least ≡ suc (k - 1 - least)
+    more = omega arith
+
+    place : least + (k - 1 - least) ≡ k - 1
+    place = omega arith
+
+pub length-undone : (w : ℕ) (log : List ℤ) (k : ℕ) (E : List ℕ × List ℤ) → length (undone-one w log k E .1) ≡ length (E .1)
+unfolding undone-one unjoined
+length-undone w log k E = go (isThrough (end-of A))
+  where
+    A : ℤ
+    A = getD log (4 * k + 1) (pos 0)
+
+    B : ℤ
+    B = getD log (4 * k + 2) (pos 0)
+
+    v : ℕ
+    v = slot-logged log k / 2 - 16
+
+    q : ℕ
+    q = second-pad w (slot-logged log k)
+
+    go : (b : Bool) → length (pick b (E .1) (put-number (end-of B) (pos q) (put-number (end-of A) (pos v) (set (set (E .1) v A) q B)))) ≡ length (E .1)
+    go true = refl
+    go false = length-put (end-of B) (pos q) (put-number (end-of A) (pos v) (set (set (E .1) v A) q B)) ∙ (length-put (end-of A) (pos v) (set (set (E .1) v A) q B)
+        ∙ (length-set (set (E .1) v A) q B ∙ length-set (E .1) v A))

@@ -1,4 +1,4 @@
-use Rattle.boardparts.proofs.Signed.{code-sub, code-cast, code-is, no-code, negative, not-negative, end-read}
+use Rattle.boardview.specs.Signed.{code-sub, code-cast, code-is, no-code, negative, not-negative, end-read}
 use Rattle.boardview.specs.View.{code-number}
 use lib.IntN.{pos}
 use lib.ListN.{getD}

@@ -1,4 +1,4 @@
-use Rattle.boardparts.proofs.Signed.{no-pad, negative, not-negative, cast-pad, pad-is, end-read}
+use Rattle.boardview.specs.Signed.{no-pad, negative, not-negative, cast-pad, pad-is, end-read}
 use Rattle.boardview.specs.View.{pad-number}
 use lib.IntN.{pos}
 use lib.ListN.{getD}

@@ -1,4 +1,4 @@
-use Rattle.boardparts.proofs.Signed.{back, joined-1, joined-2, joined-3, joined-4}
+use Rattle.boardview.specs.Signed.{back, joined-1, joined-2, joined-3, joined-4}
 use lib.IntN.{pos}
 use lib.ListN.{getD}
 use borrow.Author.Needs.{needs}

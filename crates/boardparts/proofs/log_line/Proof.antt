@@ -1,4 +1,4 @@
-use Rattle.boardparts.proofs.Signed.{slot-number, end-copied}
+use Rattle.boardview.specs.Signed.{slot-number, end-copied}
 use mathlib.Core.Path.{_≡_, refl, sym, ap, _∙_}
 use borrow.Author.Needs.{needs}
 use Rattle.boardparts.proofs.log_line.Statement.{statement}

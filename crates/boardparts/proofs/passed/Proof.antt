@@ -1,4 +1,4 @@
-use Rattle.boardparts.proofs.Signed.{from-bits, not-passed, end-read}
+use Rattle.boardview.specs.Signed.{from-bits, not-passed, end-read}
 use Rattle.model.specs.Board.{isThrough}
 use Rattle.boardview.specs.View.{end-of}
 use lib.IntN.{pos}

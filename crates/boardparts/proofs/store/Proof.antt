@@ -1,4 +1,4 @@
-use Rattle.boardparts.proofs.Signed.{slot-number}
+use Rattle.boardview.specs.Signed.{slot-number}
 use mathlib.Core.Path.{_≡_, refl, sym, ap, _∙_}
 use borrow.Author.Needs.{needs}
 use Rattle.boardparts.proofs.store.Statement.{statement}

@@ -1,4 +1,5 @@
--- Laws of the end numbers as the code holds them: what the sign of an i32 says of the end, and that -1 - a is exact for a negative a.
+-- Laws of the end numbers as the code holds them: what the sign of an i32 says of the end, that -1 - a is exact for a negative a, and what
+-- the stores of step c and of undo leave. It rests on View.antt and on the kit's account of i32.
 use mathlib.Core.Path.{_≡_, refl, sym, ap, _∙_}
 use mathlib.Core.Bool.{Bool, true, false, not, _||_}
 use mathlib.Core.List.{List}
@@ -14,8 +15,8 @@ use mir.Val.{SFits, Fits, toZ, ofZ}
 use mir.ValLaws.{toZ-ofZ, toZ-pos}
 use borrow.Author.Tests.{ltb-true, lt-ltb, le-ltb, ne-eqb, eq-eqb, eqb-true, eqb-false}
 use Rattle.model.specs.Board.{End, through, at-pad, at-clue, isThrough, unequal-negative, isPad}
-use Rattle.boardview.specs.View.{pick, end-of, end-at, pad-number, code-number, rival, unjoinable, put-number, joined}
+use Rattle.boardview.specs.View.{pick, end-of, end-at, pad-number, code-number, rival, unjoinable, put-number, joined, unjoined}
 use Rattle.boardview.specs.Bytes.{default-free}
 
 pub back : (z : ℤ) → SFits w32 z → toZ w32 (ofZ w32 z) ≡ z
 back z f = toZ-ofZ w32 z f
@@ -188,3 +189,45 @@ slot-number n h = toZ-pos w32 n (omega arith)
 
 pub end-copied : (ends : List ℤ) (v : ℕ) → v < 512 → length ends ≡ 512 → SFits w32 (getD ends v (pos 0)) → toZ w32 (ofZ w32 (getD ends v (pos 0))) ≡ getD ends v (pos v)
 end-copied ends v h l f = back (getD ends v (pos 0)) f ∙ default-free ends v (pos 0) (pos v) (omega arith)
+
+-- UNDO'S STORES, by the pads that the logged ends name
+module _ (ends : List ℤ) (v q p o : ℕ) (A B a b x y : ℤ) (long : length ends ≡ 512) (ep : p ≡ pad-number (end-of A)) (eo : o ≡ pad-number (end-of B)) (ea : a ≡ A) (eb : b ≡ B) (ex : x ≡ pos v) (ey : y ≡ pos q) where
+  abbrev given : List ℤ
+  given = set (set ends v a) q b
+
+  given-long : length given ≡ 512
+  given-long = length-set (set ends v a) q b ∙ (length-set ends v a ∙ long)
+
+  module _ (n : isThrough (end-of A) ≡ false) where
+    unjoined-shape : unjoined v q A B ends ≡ put-number (end-of B) y (put-number (end-of A) x given)
+    unfolding unjoined
+    unjoined-shape = rw n (λ i. put-number (end-of B) (sym ey i) (put-number (end-of A) (sym ex i) (set (set ends v (sym ea i)) q (sym eb i))))
+
+    back-first : (l : List ℤ) → p < 512 → put-number (end-of A) x l ≡ set l p x
+    back-first l h = put-there (end-of A) x l (rw ep at h) ∙ rw ep refl
+
+    back-second : (l : List ℤ) → o < 512 → put-number (end-of B) y l ≡ set l o y
+    back-second l h = put-there (end-of B) y l (rw eo at h) ∙ rw eo refl
+
+    pub unjoined-1 : p < 512 → o < 512 → set (set given p x) o y ≡ unjoined v q A B ends
+    unjoined-1 h k = sym (unjoined-shape ∙ (ap (put-number (end-of B) y) (back-first given h) ∙ back-second (set given p x) k))
+
+    pub unjoined-2 : p < 512 → 512 ≤ o → set given p x ≡ unjoined v q A B ends
+    unjoined-2 h k = sym (unjoined-shape ∙ (ap (put-number (end-of B) y) (back-first given h) ∙ put-nowhere (end-of B) y (set given p x) (rw eo at k) (length-set given p x ∙ given-long)))
+
+    pub unjoined-3 : 512 ≤ p → o < 512 → set given o y ≡ unjoined v q A B ends
+    unjoined-3 h k = sym (unjoined-shape ∙ (ap (put-number (end-of B) y) (put-nowhere (end-of A) x given (rw ep at h) given-long) ∙ back-second given k))
+
+    pub unjoined-4 : 512 ≤ p → 512 ≤ o → given ≡ unjoined v q A B ends
+    unjoined-4 h k = sym (unjoined-shape ∙ (ap (put-number (end-of B) y) (put-nowhere (end-of A) x given (rw ep at h) given-long) ∙ put-nowhere (end-of B) y given (rw eo at k) given-long))
+
+pub unjoined-0 : (ends : List ℤ) (v q : ℕ) (A B : ℤ) → SFits w32 A → ofZ w32 A ≡ 4294967295 → ends ≡ unjoined v q A B ends
+unfolding unjoined end-of
+unjoined-0 ends v q A B f e = rw (from-bits A 4294967295 f e) refl
+
+-- A SLOT in the log
+pub slot-cast : (z : ℤ) (n : ℕ) → SFits w32 z → z ≡ pos n → T (nonNeg (toZ w32 (ofZ w32 z))) × Fits w64 (natAbs (toZ w32 (ofZ w32 z)))
+slot-cast z n f e = cast-pad z f (n, e, let g = rw e at f in g .sfits)
+
+pub slot-read : (z : ℤ) → SFits w32 z → natAbs (toZ w32 (ofZ w32 z)) ≡ natAbs z
+slot-read z f = ap natAbs (back z f)

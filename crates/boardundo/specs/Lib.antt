@@ -1,0 +1,1 @@
+-- Undo states its promises with the definitions of boardview; there are none here.
