@@ -10,6 +10,12 @@ ghost use Rattle.rules.specs.Drawing.{num};
 ghost use Rattle.model.specs.Board.{at-pad, isThrough};
 ghost use Rattle.boardview.specs.View.{pick, stopped, ended, going, end-at, has-bit, grid-in, second-pad, joined, unjoinable, pad-number, code-number, rival, keeps-apart, some-apart, clue-apart, undecided-around, degree-around, first-around, action-around};
 ghost use Rattle.boardview.specs.Unwind.{log-stored, log-joined};
+use grid::Edge;
+
+// The bytes of an edge's states, as the edge type names them.
+const UNDECIDED: u8 = Edge::UNDECIDED.0;
+
+const LINE: u8 = Edge::LINE.0;
 
 // A byte as a number.
 pub fn wide(byte: u8) -> usize
@@ -228,7 +234,7 @@ pub fn keeps_apart(
     requires { ⌜ (slot < 1024) × (past < 528) × (getD (now edges) slot 0 ≡ 0 → 16 ≤ past) × (length (now ends) ≡ 512) ⌝ }
     ensures { λ r. ⌜ r ≡ keeps-apart (now (edges .entry)) (now (ends .entry)) code slot (past - 16) ⌝ }
 {
-    if edges[slot] == 0 {
+    if edges[slot] == UNDECIDED {
         return rivals(code, end_code(ends, past - 16));
     }
     false
@@ -310,10 +316,10 @@ pub fn undecided_around(edges: &[u8; 1024], width: usize, v: usize) -> u8
     requires { ⌜ (v < 256) × (width ≤ 16) ⌝ }
     ensures { λ r. ⌜ (r ≡ undecided-around (now (edges .entry)) width v) × (r ≤ 4) ⌝ }
 {
-    is(edges[30 + 2 * v], 0)
-        + is(edges[32 + 2 * v], 0)
-        + is(edges[33 + 2 * v - 2 * width], 0)
-        + is(edges[33 + 2 * v], 0)
+    is(edges[30 + 2 * v], UNDECIDED)
+        + is(edges[32 + 2 * v], UNDECIDED)
+        + is(edges[33 + 2 * v - 2 * width], UNDECIDED)
+        + is(edges[33 + 2 * v], UNDECIDED)
 }
 
 // The lines at a pad, plus 1 for a clue.
@@ -322,10 +328,10 @@ pub fn degree_around(edges: &[u8; 1024], kind: &[u8; 1024], width: usize, v: usi
     ensures { λ r. ⌜ (r ≡ degree-around (now (kind .entry)) (now (edges .entry)) width v) × (r ≤ 5) ⌝ }
 {
     one_if(has(kind, v, 1))
-        + is(edges[30 + 2 * v], 1)
-        + is(edges[32 + 2 * v], 1)
-        + is(edges[33 + 2 * v - 2 * width], 1)
-        + is(edges[33 + 2 * v], 1)
+        + is(edges[30 + 2 * v], LINE)
+        + is(edges[32 + 2 * v], LINE)
+        + is(edges[33 + 2 * v - 2 * width], LINE)
+        + is(edges[33 + 2 * v], LINE)
 }
 
 // The first of three slots whose byte is 0, or the fourth.
@@ -333,13 +339,13 @@ pub fn first_of(left: u8, right: u8, up: u8, width: usize, v: usize) -> usize
     requires { ⌜ (v < 256) × (width ≤ 16) ⌝ }
     ensures { λ r. ⌜ (r ≡ pick (eqb left 0) (30 + 2 * v) (pick (eqb right 0) (32 + 2 * v) (pick (eqb up 0) (33 + 2 * v - 2 * width) (33 + 2 * v)))) × (r < 1024) ⌝ }
 {
-    if left == 0 {
+    if left == UNDECIDED {
         return 30 + 2 * v;
     }
-    if right == 0 {
+    if right == UNDECIDED {
         return 32 + 2 * v;
     }
-    if up == 0 {
+    if up == UNDECIDED {
         return 33 + 2 * v - 2 * width;
     }
     33 + 2 * v

@@ -10,6 +10,14 @@ ghost use Rattle.rules.specs.Grid.{right, down, pads};
 ghost use Rattle.rules.specs.Drawing.{on-left, on-right};
 ghost use Rattle.model.specs.Board.{line, on-board};
 ghost use Rattle.boardview.specs.View.{Arrays, grid-in, has-bit, slot-on, Kinds, Ready, Decided, Done, NoneAt, detour-at, corner-at, bar-at, check-at};
+use grid::Edge;
+
+// The bytes of an edge's states, as the edge type names them.
+const UNDECIDED: u8 = Edge::UNDECIDED.0;
+
+const LINE: u8 = Edge::LINE.0;
+
+const NONE: u8 = Edge::NONE.0;
 
 // Steps a, b and f: an edge is to have no line. At a slot off the board nothing changes.
 pub fn decide_none(
@@ -24,14 +32,17 @@ pub fn decide_none(
     ensures { λ r. ⌜ NoneAt (grid-in (now (kind .entry))) (record { edges = now (edges .entry); ends = now (ends .entry); log = now (log .entry); count = count }) slot (record { edges = now (edges .exit); ends = now (ends .exit); log = now (log .exit); count = r }) ⌝ }
 {
     let old = edges[slot];
-    if old == 0 {
-        boardparts::store(edges, log, slot, 2, count);
+    if old == UNDECIDED {
+        boardparts::store(edges, log, slot, NONE, count);
         let v = boardparts::first_pad(slot);
         let q = boardparts::second_pad(slot, boardparts::width(kind));
         let after = check(edges, ends, log, kind, v, boardparts::go_on(count) + 1);
+        if 2048 <= after {
+            return boardparts::end(after);
+        }
         return boardparts::end(check(edges, ends, log, kind, q, after));
     }
-    if old == 1 {
+    if old == LINE {
         return boardparts::stop(count);
     }
     boardparts::end(count)
@@ -51,7 +62,7 @@ pub fn decide_line_right(
 {
     let slot = 32 + 2 * v;
     let old = edges[slot];
-    if old == 0 {
+    if old == UNDECIDED {
         let w = boardparts::width(kind);
         let q = v + 1;
         let up_left = 33 + 2 * v - 2 * w;
@@ -63,14 +74,14 @@ pub fn decide_line_right(
         let right_below = v + w + 1;
         let left_below = v + w;
         if boardparts::cannot_join(ends, v, q) {
-            boardparts::store(edges, log, slot, 1, count);
+            boardparts::store(edges, log, slot, LINE, count);
             return boardparts::stop(count) + 1;
         }
         let a = boardparts::end_pad(ends, v);
         let b = boardparts::end_pad(ends, q);
         boardparts::log_line(ends, log, slot, v, q, count);
         boardparts::join_ends(ends, v, q);
-        edges[slot] = 1;
+        edges[slot] = LINE;
         let after = boardparts::go_on(count) + 1;
         let after = detour(edges, ends, log, kind, up_left, up_right, up, after);
         let after = detour(edges, ends, log, kind, up_right, up_left, up, after);
@@ -82,12 +93,24 @@ pub fn decide_line_right(
         let after = corner_left(edges, ends, log, kind, left_below, right, after);
         let after = bar(edges, ends, log, kind, v, 2, left, after);
         let after = bar(edges, ends, log, kind, q, 4, right, after);
+        if 2048 <= after {
+            return boardparts::end(after);
+        }
         let after = check(edges, ends, log, kind, v, after);
+        if 2048 <= after {
+            return boardparts::end(after);
+        }
         let after = check(edges, ends, log, kind, q, after);
+        if 2048 <= after {
+            return boardparts::end(after);
+        }
         let after = check(edges, ends, log, kind, a, after);
+        if 2048 <= after {
+            return boardparts::end(after);
+        }
         return boardparts::end(check(edges, ends, log, kind, b, after));
     }
-    if old == 1 {
+    if old == LINE {
         return boardparts::end(count);
     }
     boardparts::stop(count)
@@ -107,7 +130,7 @@ pub fn decide_line_down(
 {
     let slot = 33 + 2 * v;
     let old = edges[slot];
-    if old == 0 {
+    if old == UNDECIDED {
         let w = boardparts::width(kind);
         let q = v + w;
         let left = 30 + 2 * v;
@@ -121,14 +144,14 @@ pub fn decide_line_down(
         let if_left = boardparts::slot_where(kind, v, 16, far_left);
         let if_right = boardparts::slot_where(kind, v, 8, far_right);
         if boardparts::cannot_join(ends, v, q) {
-            boardparts::store(edges, log, slot, 1, count);
+            boardparts::store(edges, log, slot, LINE, count);
             return boardparts::stop(count) + 1;
         }
         let a = boardparts::end_pad(ends, v);
         let b = boardparts::end_pad(ends, q);
         boardparts::log_line(ends, log, slot, v, q, count);
         boardparts::join_ends(ends, v, q);
-        edges[slot] = 1;
+        edges[slot] = LINE;
         let after = boardparts::go_on(count) + 1;
         let after = detour(edges, ends, log, kind, left, left_below, far_left, after);
         let after = detour(edges, ends, log, kind, left_below, left, far_left, after);
@@ -140,12 +163,24 @@ pub fn decide_line_down(
         let after = corner_right(edges, ends, log, kind, pad_right, right, after);
         let after = bar(edges, ends, log, kind, v, 4, left, after);
         let after = bar(edges, ends, log, kind, v, 2, right, after);
+        if 2048 <= after {
+            return boardparts::end(after);
+        }
         let after = check(edges, ends, log, kind, v, after);
+        if 2048 <= after {
+            return boardparts::end(after);
+        }
         let after = check(edges, ends, log, kind, q, after);
+        if 2048 <= after {
+            return boardparts::end(after);
+        }
         let after = check(edges, ends, log, kind, a, after);
+        if 2048 <= after {
+            return boardparts::end(after);
+        }
         return boardparts::end(check(edges, ends, log, kind, b, after));
     }
-    if old == 1 {
+    if old == LINE {
         return boardparts::end(count);
     }
     boardparts::stop(count)
@@ -168,7 +203,7 @@ pub fn detour(
     if 2048 <= count {
         return count;
     }
-    if edges[a] != 1 {
+    if edges[a] != LINE {
         return count;
     }
     let after = decide_none(edges, ends, log, kind, b, count);
@@ -194,7 +229,7 @@ pub fn corner_right(
     if 2048 <= count {
         return count;
     }
-    if edges[a] != 1 {
+    if edges[a] != LINE {
         return count;
     }
     if boardparts::has(kind, q, 1) {
@@ -224,7 +259,7 @@ pub fn corner_left(
     if 2048 <= count {
         return count;
     }
-    if edges[a] != 1 {
+    if edges[a] != LINE {
         return count;
     }
     if boardparts::has(kind, q, 1) {
