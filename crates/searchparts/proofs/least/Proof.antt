@@ -1,0 +1,13 @@
+-- The smaller of the two, by the test. Assumes nothing.
+use Rattle.searchview.specs.ShownLaws.{least-low, least-high}
+use Rattle.searchparts.proofs.least.Statement.{statement}
+use Rattle.searchparts.proofs.least.Tie as tie
+
+returns : tie.Need-returns
+returns c = least-low _ _ (c .if1 .taken)
+
+returns-2 : tie.Need-returns-2
+returns-2 c = least-high _ _ (c .if1 .left)
+
+pub least-spec : {M : Type 1} → statement M
+least-spec = tie.close (tie.spec returns returns-2)

@@ -1,0 +1,1 @@
+-- The leaves of the search state their promises with the definitions of searchview; there are none here.

@@ -1,0 +1,174 @@
+// The leaves of the search: what only reads the board's lent arrays and chooses, and what writes one record. Each equals a definition of
+// searchview's Shown.antt. Nothing here decides an edge.
+ghost use mathlib.Core.Path.{_≡_};
+ghost use Prim.Native.Nat.{ℕ, _+_, _*_, _-_, _≤_, _<_};
+ghost use lib.Dec.{eqb};
+ghost use lib.ListN.{length, getD};
+ghost use Rattle.rules.specs.Grid.{places};
+ghost use Rattle.rules.specs.Drawing.{num};
+ghost use Rattle.rules.specs.Record.{record-lines};
+ghost use Rattle.model.specs.Search as model;
+ghost use Rattle.boardview.specs.View.{grid-in, Kinds, has-bit, clue-bit};
+ghost use Rattle.searchview.specs.Progress.{put-bytes};
+ghost use Rattle.searchview.specs.Shown.{EdgesReady, edges-only, is-tried, place-shown, record-shown, last-row, NextPad, Added};
+
+// A byte as a number.
+fn wide(x: u8) -> usize
+    ensures { λ r. ⌜ r ≡ x ⌝ }
+{
+    x as usize
+}
+
+// The number of columns, which the kinds hold behind the pads.
+fn width_of(kind: &[u8; 1024]) -> usize
+    requires { ⌜ length (now kind) ≡ 1024 ⌝ }
+    ensures { λ r. ⌜ r ≡ grid-in (now (kind .entry)) .width ⌝ }
+{
+    wide(kind[511])
+}
+
+// The number of rows.
+fn height_of(kind: &[u8; 1024]) -> usize
+    requires { ⌜ length (now kind) ≡ 1024 ⌝ }
+    ensures { λ r. ⌜ r ≡ grid-in (now (kind .entry)) .height ⌝ }
+{
+    wide(kind[510])
+}
+
+// The first pad of the last row.
+pub fn first_of_last_row(kind: &[u8; 1024]) -> usize
+    requires { ⌜ Kinds (now kind) ⌝ }
+    ensures { λ r. ⌜ r ≡ last-row (grid-in (now (kind .entry))) ⌝ }
+{
+    (height_of(kind) - 1) * width_of(kind)
+}
+
+// The number of places, which is the length of a record.
+fn record_size(kind: &[u8; 1024]) -> usize
+    requires { ⌜ Kinds (now kind) ⌝ }
+    ensures { λ r. ⌜ r ≡ places (grid-in (now (kind .entry)) .height) (grid-in (now (kind .entry)) .width) ⌝ }
+{
+    (2 * height_of(kind) - 1) * (2 * width_of(kind) - 1)
+}
+
+// 1 if it is so, else 0.
+fn one_if(b: bool) -> u8
+    ensures { λ r. ⌜ (r ≡ num b) × (r ≤ 1) ⌝ }
+{
+    if b { 1 } else { 0 }
+}
+
+// 1 for a clue, 0 for a blank pad.
+fn clue_at(kind: &[u8; 1024], v: usize) -> u8
+    requires { ⌜ (v < 1024) × (length (now kind) ≡ 1024) ⌝ }
+    ensures { λ r. ⌜ (r ≡ num (has-bit (now (kind .entry)) v clue-bit)) × (r ≤ 1) ⌝ }
+{
+    if kind[v] & 1 == 0 { 0 } else { 1 }
+}
+
+// 1 for a line, 0 for any other byte.
+fn line_at(edges: &[u8; 1024], s: usize) -> u8
+    requires { ⌜ (s < 1024) × (length (now edges) ≡ 1024) ⌝ }
+    ensures { λ r. ⌜ (r ≡ num (eqb (getD (now (edges .entry)) s 0) 1)) × (r ≤ 1) ⌝ }
+{
+    if edges[s] == 1 { 1 } else { 0 }
+}
+
+// Whether right and down are tried at a pad: where clue + lines is 0 or 2.
+pub fn tried(edges: &[u8; 1024], kind: &[u8; 1024], v: usize, right: bool, down: bool) -> bool
+    requires { ⌜ (v < 256) × Kinds (now kind) × EdgesReady (grid-in (now kind)) (now edges) ⌝ }
+    ensures { λ r. ⌜ r ≡ is-tried (grid-in (now (kind .entry))) v (edges-only (now (edges .entry))) right down ⌝ }
+{
+    let left = line_at(edges, 30 + 2 * v);
+    let up = line_at(edges, 33 + 2 * v - 2 * width_of(kind));
+    let degree = clue_at(kind, v) + left + up + one_if(right) + one_if(down);
+    if degree == 0 {
+        return true;
+    }
+    degree == 2
+}
+
+// From a pad on, the first one above the last row with its right edge undecided, else the first of the last row.
+pub fn next_pad(edges: &[u8; 1024], last: usize, from: usize) -> usize
+    requires { ⌜ (from ≤ last) × (last ≤ 256) × (length (now edges) ≡ 1024) ⌝ }
+    ensures { λ r. ⌜ NextPad (now (edges .entry)) last from r ⌝ }
+{
+    let mut v = from;
+    while v < last {
+        if edges[32 + 2 * v] == 0 {
+            return v;
+        }
+        v += 1;
+    }
+    v
+}
+
+// The byte at a place of the record.
+fn place_byte(edges: &[u8; 1024], kind: &[u8; 1024], row: usize, column: usize) -> u8
+    requires { ⌜ (row < 31) × (column < 31) × Kinds (now kind) × EdgesReady (grid-in (now kind)) (now edges) ⌝ }
+    ensures { λ r. ⌜ r ≡ place-shown (grid-in (now (kind .entry)) .width) (now (edges .entry)) row column ⌝ }
+{
+    let v = row / 2 * width_of(kind) + column / 2;
+    if row % 2 == 0 {
+        if column % 2 == 0 {
+            return 0;
+        }
+        return edges[32 + 2 * v];
+    }
+    if column % 2 == 0 {
+        return edges[33 + 2 * v];
+    }
+    0
+}
+
+// Writes the record into the buffer and counts its lines.
+fn write_record(edges: &[u8; 1024], kind: &[u8; 1024], buffer: &mut [u8], at: usize) -> usize
+    requires { ⌜ Kinds (now kind) × EdgesReady (grid-in (now kind)) (now edges)
+        × (at + places (grid-in (now kind) .height) (grid-in (now kind) .width) ≤ length (now buffer)) ⌝ }
+    ensures { λ r. ⌜ (now (buffer .exit) ≡ put-bytes at (record-shown (grid-in (now (kind .entry))) (now (edges .entry))) (now (buffer .entry)))
+        × (r ≡ record-lines (record-shown (grid-in (now (kind .entry))) (now (edges .entry)))) ⌝ }
+{
+    let size = record_size(kind);
+    let side = 2 * width_of(kind) - 1;
+    let mut lines: usize = 0;
+    let mut i = 0;
+    while i < size {
+        let byte = place_byte(edges, kind, i / side, i % side);
+        buffer[at + i] = byte;
+        lines += wide(one_if(byte == 1));
+        i += 1;
+    }
+    lines
+}
+
+// The lesser of two.
+fn least(a: usize, b: usize) -> usize
+    ensures { λ r. ⌜ r ≡ model.least a b ⌝ }
+{
+    if a <= b { a } else { b }
+}
+
+// A layout is complete: its record is put into the buffer and counted, or the buffer is full.
+pub fn add_layout(
+    edges: &[u8; 1024],
+    kind: &[u8; 1024],
+    buffer: &mut [u8],
+    layouts: &mut usize,
+    fewest: &mut usize,
+) -> u8
+    requires { ⌜ Kinds (now kind) × EdgesReady (grid-in (now kind)) (now edges)
+        × (now layouts * places (grid-in (now kind) .height) (grid-in (now kind) .width) ≤ length (now buffer)) ⌝ }
+    ensures { λ r. ⌜ Added (grid-in (now (kind .entry))) (now (edges .entry))
+        (now (layouts .entry)) (now (fewest .entry)) (now (buffer .entry))
+        r (now (layouts .exit)) (now (fewest .exit)) (now (buffer .exit)) ⌝ }
+{
+    let size = record_size(kind);
+    let at = *layouts * size;
+    if buffer.len() - at < size {
+        return 2;
+    }
+    let lines = write_record(edges, kind, buffer, at);
+    *fewest = least(*fewest, lines);
+    *layouts += 1;
+    0
+}

@@ -1,0 +1,69 @@
+-- What the lent arrays show of the search: the state of the edges alone, whether an m is tried, the record of a layout byte by byte, and
+-- which pad comes next. The contracts of the search's small functions cite these; Laws about them stand in ShownLaws.antt. Nothing is
+-- proved here.
+use Prim.Native.Nat.{ℕ, zero, suc, _+_, _*_, _-_, _%_, _/_, _≤_, _<_}
+use mathlib.Core.Path.{_≡_}
+use mathlib.Core.Bool.{Bool, true, false, _||_}
+use mathlib.Core.List.{List, [], _∷_}
+use lib.Dec.{eqb}
+use lib.ListN.{getD, length}
+use lib.IntN.{ℤ, pos}
+use Rattle.rules.specs.Grid.{Edge, right, down, Grid, pads, places, field-side, place-at}
+use Rattle.rules.specs.Drawing.{num}
+use Rattle.rules.specs.Record.{byte-at-place, tabulate}
+use Rattle.model.specs.Board.{State}
+use Rattle.model.specs.Calls.{state-byte}
+use Rattle.model.specs.Search.{degree-so-far, Event, layout}
+use Rattle.searchview.specs.Progress.{Progress, advance}
+use Rattle.boardview.specs.View.{Arrays, slot, slot-on, state-of, view, logged}
+
+-- the state that the edges show, with nothing said of ends and flag
+unfoldable pub edges-only : List ℕ → State
+edges-only edges = view (record { edges = edges; ends = []; log = []; count = 0 })
+
+-- what is true of the edges of every board: as READY of the board says it
+pub record EdgesReady (g : Grid) (edges : List ℕ) : Type 0 where
+  pub long : length edges ≡ 1024
+  pub bytes : (n : ℕ) → getD edges n 2 ≤ 2
+  pub rim : (n : ℕ) → n < 1024 → slot-on g n ≡ false → getD edges n 0 ≡ 2
+
+-- an m is tried where clue + lines is 0 or 2
+unfoldable pub is-tried : Grid → ℕ → State → Bool → Bool → Bool
+is-tried g v S go-right go-down = let degree = degree-so-far g v S + num go-right + num go-down in eqb degree 0 || eqb degree 2
+
+-- the byte at a place of the record, and the whole record
+unfoldable pub place-shown : ℕ → List ℕ → ℕ → ℕ → ℕ
+place-shown width edges row column = byte-at-place (λ e. state-byte (edges-only edges .edge e)) (place-at width row column)
+
+unfoldable pub record-shown : Grid → List ℕ → List ℕ
+record-shown g edges = tabulate (λ i. place-shown (g .width) edges (i / field-side (g .width)) (i % field-side (g .width))) 0 (places (g .height) (g .width))
+
+-- the first pad of the last row
+abbrev pub last-row : Grid → ℕ
+last-row g = (g .height - 1) * g .width
+
+-- from a pad on, the first one above the last row with its right edge undecided, else the first of the last row
+pub record NextPad (edges : List ℕ) (last from r : ℕ) : Type 0 where
+  pub above : r ≤ last
+  pub later : from ≤ r
+  pub passed : (k : ℕ) → from ≤ k → k < r → getD edges (32 + 2 * k) 0 ≡ 0 → ⊥
+  pub found : r < last → getD edges (32 + 2 * r) 0 ≡ 0
+
+-- RESTORED: edges and ends are as before, and so is the log up to its length
+pub record Restored (s s′ : Arrays) : Type 0 where
+  pub edges-back : s′ .edges ≡ s .edges
+  pub ends-back : s′ .ends ≡ s .ends
+  pub log-kept : (i : ℕ) → i < 4 * logged s → getD (s′ .log) i (pos 0) ≡ getD (s .log) i (pos 0)
+  pub log-long : length (s′ .log) ≡ length (s .log)
+
+-- how far the search has come, as the code keeps it: each layout so far fills one record of the buffer
+abbrev pub progress : (size outcome visited layouts fewest-lines : ℕ) → List ℕ → Progress
+progress size outcome visited layouts fewest-lines buffer = record
+    { outcome = outcome; visited = visited; layouts = layouts; fewest-lines = fewest-lines; used = layouts * size; buffer = buffer }
+
+-- what adding a layout does to the counts and the buffer, whatever limit and visited boards
+pub record Added (g : Grid) (edges : List ℕ) (layouts fewest-lines : ℕ) (buffer : List ℕ) (outcome layouts′ fewest-lines′ : ℕ) (buffer′ : List ℕ) : Type 0 where
+  pub advanced : (limit visited : ℕ) → progress (places (g .height) (g .width)) outcome visited layouts′ fewest-lines′ buffer′
+      ≡ advance limit (places (g .height) (g .width)) (progress (places (g .height) (g .width)) 0 visited layouts fewest-lines buffer) (layout (record-shown g edges) ∷ [])
+  pub inside : layouts′ * places (g .height) (g .width) ≤ length buffer′
+  pub same-length : length buffer′ ≡ length buffer

@@ -1,0 +1,59 @@
+-- Every record of the search is as long as the field has places.
+use Prim.Native.Nat.{ℕ, zero, suc, _+_, _*_, _-_}
+use mathlib.Core.Path.{_≡_, refl}
+use mathlib.Core.Bool.{Bool, true, false, _&&_, _||_}
+use mathlib.Core.List.{List, [], _∷_, _++_}
+use lib.Dec.{eqb}
+use lib.ListN.{length}
+use Rattle.rules.specs.Grid.{Edge, right, down, Grid, pads, places}
+use Rattle.rules.specs.Drawing.{num}
+use Rattle.rules.specs.RecordLaws.{length-field}
+use Rattle.model.specs.Board.{State, has-down, decide, enough, line-or-none, fresh}
+use Rattle.model.specs.Calls.{state-byte}
+use Rattle.model.specs.Search.{Event, visit, layout, board-record, next-pad, degree-so-far, try, backtrack, search}
+use Rattle.searchview.specs.Progress.{Sized}
+
+pub sized-append : (size : ℕ) (a b : List Event) → Sized size a → Sized size b → Sized size (a ++ b)
+unfolding Sized
+sized-append size [] b p q = q
+sized-append size (visit ∷ a) b p q = sized-append size a b p q
+sized-append size (layout r ∷ a) b (long, p) q = (long, sized-append size a b p q)
+
+module _ (g : Grid) where
+  abbrev size : ℕ
+  size = places (g .height) (g .width)
+
+  record-length : (S : State) → length (board-record g S) ≡ size
+  unfolding board-record
+  record-length S = length-field (g .height) (g .width) (λ e. state-byte (S .edge e))
+
+  try-sized : (continue : ℕ → State → List Event) → ((u : ℕ) (T : State) → Sized size (continue u T)) → (v : ℕ) (S : State) (r d : Bool) → Sized size (try g continue v S r d)
+  unfolding try
+  try-sized continue all v S r d = go (eqb degree 0 || eqb degree 2) refl (T .flag) refl
+    where
+      degree : ℕ
+      degree = degree-so-far g v S + num r + num d
+
+      T : State
+      T = decide g (enough g) (down v) (line-or-none d) (decide g (enough g) (right v) (line-or-none r) S)
+
+      go : (a : Bool) → (eqb degree 0 || eqb degree 2) ≡ a → (b : Bool) → T .flag ≡ b → Sized size (try g continue v S r d)
+      go false h b k = rw (h, try) (unfold Sized in tt)
+      go true h true k = rw (h, try) (rw k (unfold Sized in tt))
+      go true h false k = rw (h, try) (rw k (all (next-pad g (pads g) v T) T))
+
+  pub backtrack-sized : (n v : ℕ) (S : State) → Sized size (backtrack g n v S)
+  unfolding backtrack
+  backtrack-sized zero v S = unfold Sized in tt
+  backtrack-sized (suc n) v S = go (has-down g v) refl (λ u T. backtrack-sized n u T)
+    where
+      go : (b : Bool) → has-down g v ≡ b → ((u : ℕ) (T : State) → Sized size (backtrack g n u T)) → Sized size (backtrack g (suc n) v S)
+      go false h all = unfold Sized in (rw (h, backtrack) (record-length S, tt))
+      go true h all = unfold Sized in (rw (h, backtrack) (sized-append size (try g (λ u T. backtrack g n u T) v S false false) _ (try-sized (λ u T. backtrack g n u T) all v S false false)
+          (sized-append size (try g (λ u T. backtrack g n u T) v S true false) _ (try-sized (λ u T. backtrack g n u T) all v S true false)
+          (sized-append size (try g (λ u T. backtrack g n u T) v S false true) _ (try-sized (λ u T. backtrack g n u T) all v S false true)
+          (try-sized (λ u T. backtrack g n u T) all v S true true)))))
+
+  pub search-sized : Sized size (search g)
+  unfolding search
+  search-sized = backtrack-sized (pads g) 0 (fresh g)

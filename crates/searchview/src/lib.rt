@@ -1,0 +1,1 @@
+// The search in theory; no code.

@@ -1,0 +1,29 @@
+-- A refused grid leaves everything as it was; for an accepted one the counts from nothing are the model's result. Assumes nothing.
+use native.Mathlib.Omega.{arith}
+use Prim.Native.Nat.{ℕ}
+use native.Mathlib.Nat.{zero-mul}
+use mathlib.Core.Path.{refl, sym, _∙_, ap}
+use Rattle.model.specs.RefusalLaws.{not-refused}
+use Rattle.solver.specs.SolveLaws.{solve-refused, solve-accepted}
+use borrow.Author.Needs.{needs}
+use Rattle.solver.proofs.solve.Statement.{statement}
+use Rattle.solver.proofs.solve.Tie as tie
+
+grid-refusal-requires : tie.Need-grid-refusal-requires
+grid-refusal-requires c κs = search needs
+
+returns : tie.Need-returns
+returns c = solve-refused _ _ _ _ _ _ _ (c .before .grid-refusal .ensures) (c .if1 .taken)
+
+search-requires : tie.Need-search-requires
+search-requires c κs = record { accepted = not-refused _ _ _ (sym (ap (λ (p : ℕ × ℕ). p .0) (c .before .before .grid-refusal .ensures)) ∙ c .before .if1 .left); none-yet = refl; inside = rw zero-mul (omega arith) }
+
+same-length : tie.Need-same-length
+same-length c = search needs
+
+returns-2 : tie.Need-returns-2
+returns-2 c = solve-accepted _ _ _ _ _ (sym (ap (λ (p : ℕ × ℕ). p .0) (c .before .before .before .before .before .grid-refusal .ensures)) ∙ c .before .before .before .before .if1 .left) _ _ (c .before .before .search .ensures)
+
+pub solve-spec : {M : Type 1} → statement M
+solve-spec =
+    tie.close (tie.spec grid-refusal-requires returns search-requires same-length returns-2)

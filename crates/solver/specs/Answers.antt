@@ -1,0 +1,47 @@
+-- What `solve` answers, as the model says it, and its whole promise in one record. `Solves` is the contract of `solve`; the equation with
+-- the model is its first part, and demands 2 and 3 are its second.
+use Prim.Native.Nat.{ℕ, _*_, _≤_}
+use mathlib.Core.Path.{_≡_}
+use mathlib.Core.List.{List}
+use lib.ListN.{length}
+use lib.IntN.{ℤ}
+use Rattle.rules.specs.Grid.{grid-of, places, Accepted}
+use Rattle.model.specs.Refusals.{grid-refusal}
+use Rattle.model.specs.Search as model
+use Rattle.solver.specs.declared.Solved.{Solved}
+use Rattle.solver.specs.declared.Tally.{Tally}
+use Rattle.searchview.specs.Progress.{Progress, advance}
+use Rattle.searchview.specs.Shown.{progress}
+use Rattle.solver.specs.Promise.{Promise}
+
+-- the answer and the buffer after it, as the model's result
+abbrev pub answer-says : Solved → List ℕ → model.Solved
+answer-says r buffer = record
+    { number = r .number; index = r .index; outcome = r .outcome; layouts = r .layouts; visited = r .visited; fewest-lines = r .fewest; buffer = buffer }
+
+-- the run of the search with no board visited before
+abbrev pub run-of : ℕ → ℕ → List ℤ → ℕ → List ℕ → model.Run
+run-of height width cells limit buffer = model.scan limit (places height width) 0 (length buffer) (model.search (grid-of height width cells))
+
+pub record Solves (height width : ℕ) (cells : List ℤ) (limit : ℕ) (buffer : List ℕ) (r : Solved) (buffer′ : List ℕ) : Type 0 where
+  -- the result and every byte of the buffer, for a refused grid too
+  pub equal : answer-says r buffer′ ≡ model.solve height width cells limit buffer
+  -- where it is not refused they are those of this run
+  pub of-run : grid-refusal height width cells .0 ≡ 0 → answer-says r buffer′ ≡ model.solved (run-of height width cells limit buffer) buffer
+  -- and demands 2 and 3 hold of it
+  pub promise : grid-refusal height width cells .0 ≡ 0 → Promise (grid-of height width cells) limit (length buffer) (run-of height width cells limit buffer)
+
+-- a tally and the buffer, as the progress of a search
+abbrev pub tally-says : ℕ → ℕ → Tally → List ℕ → Progress
+tally-says height width t buffer = progress (places height width) (t .outcome) (t .visited) (t .layouts) (t .fewest) buffer
+
+-- what the counts may be when a search begins: each layout so far has its record in the buffer
+pub record Ready (height width : ℕ) (cells : List ℤ) (t : Tally) (buffer : List ℕ) : Type 0 where
+  pub accepted : Accepted height width cells
+  pub none-yet : t .outcome ≡ 0
+  pub inside : t .layouts * places height width ≤ length buffer
+
+-- the tally and the buffer after the search of the whole grid
+pub record Counted (height width : ℕ) (cells : List ℤ) (limit : ℕ) (t : Tally) (buffer : List ℕ) (t′ : Tally) (buffer′ : List ℕ) : Type 0 where
+  pub advanced : tally-says height width t′ buffer′ ≡ advance limit (places height width) (tally-says height width t buffer) (model.search (grid-of height width cells))
+  pub same-length : length buffer′ ≡ length buffer
