@@ -1,0 +1,145 @@
+-- Record k of a buffer: when there is one, and what its line is then. And the records that were put into a buffer one after the other, each
+-- as long as the field has places, are found there again: their lines are the lines of the records. It rests on Listing.antt.
+use Prim.Native.Nat.{ℕ, zero, suc, _+_, _*_, _-_, _≤_, _<_}
+use mathlib.Core.Path.{_≡_, refl, sym, ap, _∙_}
+use mathlib.Core.Bool.{Bool, true, false, _&&_}
+use mathlib.Core.List.{List, [], _∷_, _++_, append-assoc}
+use native.Mathlib.Nat.{mul-pos}
+use native.Mathlib.Omega.{arith}
+use borrow.Author.Tests.{ltb-true, leb-true, lt-ltb, le-leb}
+use lib.Dec.{ltb, leb}
+use lib.ListN.{length, take, drop, length-append, length-drop}
+use lib.Seq.{length-take-le, take-at, drop-at}
+use Rattle.rules.specs.Grid.{places}
+use Rattle.model.specs.Bounds.{is-size}
+use Rattle.model.specs.RefusalLaws.{and-both, size-of-test}
+use Rattle.model.specs.Records.{record-length, has-record, record-at}
+use Rattle.model.specs.Search.{Event, visit, layout, scan, concat}
+use Rattle.model.specs.Printed.{layout-line, layout-lines}
+use Rattle.printed.specs.Written.{layout-text}
+use Rattle.searchview.specs.Progress.{Sized}
+use Rattle.listing.specs.Listing.{line-text}
+
+-- ## Whether there is a record k
+
+module _ (height width count k room : ℕ) where
+  -- sound sizes, k below the count, and the record ends in time
+  pub record There : Type 0 where
+    pub tall : is-size height ≡ true
+    pub wide : is-size width ≡ true
+    pub counted : k < count
+    pub inside : k * places height width + places height width ≤ room
+
+  pub there : has-record height width count k room ≡ true → There
+  unfolding has-record record-length
+  there e =
+      let (abc, d) = and-both (is-size height && is-size width && ltb k count) (leb (k * places height width + places height width) room) e in
+      let (ab, c) = and-both (is-size height && is-size width) (ltb k count) abc in
+      let (a, b) = and-both (is-size height) (is-size width) ab in
+      record { tall = a; wide = b; counted = ltb-true _ _ c; inside = leb-true _ _ d }
+
+  pub has-there : There → has-record height width count k room ≡ true
+  unfolding has-record record-length
+  has-there t = rw (t .tall, t .wide, lt-ltb _ _ (t .counted), le-leb _ _ (t .inside)) refl
+
+pub some-places : (height width : ℕ) → is-size height ≡ true → is-size width ≡ true → 0 < places height width
+some-places height width h w =
+    let a : 0 < 2 * height - 1 = omega (arith, size-of-test height h .0) in
+    let b : 0 < 2 * width - 1 = omega (arith, size-of-test width w .0) in
+    mul-pos a b
+
+-- ## The line of record k
+
+module _ (height width count k : ℕ) (buffer : List ℕ) where
+  -- the part of the buffer from k times the length on
+  pub that-part : There height width count k (length buffer) → record-at height width count k buffer ≡ take (places height width) (drop (k * places height width) buffer)
+  unfolding record-at record-length
+  that-part t = rw (has-there _ _ _ _ _ t) refl
+
+  part-length : There height width count k (length buffer) → length (record-at height width count k buffer) ≡ places height width
+  part-length t = rw (that-part t) (length-take-le _ _ (rw length-drop (omega (arith, t .inside))))
+
+  pub that-line : There height width count k (length buffer) → line-text height width count k buffer ≡ layout-line height width (k + 1) (record-at height width count k buffer)
+  unfolding line-text
+  that-line t = rw (has-there _ _ _ _ _ t) refl
+
+  -- an empty part is no record, and nothing is printed for it
+  pub no-line : length (record-at height width count k buffer) ≡ 0 → line-text height width count k buffer ≡ []
+  unfolding line-text
+  no-line e = go (has-record height width count k (length buffer)) refl
+    where
+      go : (b : Bool) → has-record height width count k (length buffer) ≡ b → line-text height width count k buffer ≡ []
+      go false h = rw h refl
+      go true h =
+          let t = there _ _ _ _ _ h in
+          absurd (omega (arith, part-length t, some-places height width (t .tall) (t .wide)))
+
+  -- any other part is record k
+  pub some-line : (length (record-at height width count k buffer) ≡ 0 → ⊥) → There height width count k (length buffer)
+  unfolding record-at
+  some-line e = go (has-record height width count k (length buffer)) refl
+    where
+      go : (b : Bool) → has-record height width count k (length buffer) ≡ b → There height width count k (length buffer)
+      go true h = there _ _ _ _ _ h
+      go false h = absurd (e (rw h refl))
+
+  pub line-by-parts : (part : List ℕ) → part ≡ record-at height width count k buffer → There height width count k (length buffer)
+      → layout-text height width (k + 1) part ≡ line-text height width count k buffer
+  unfolding layout-text
+  line-by-parts part e t = rw (that-line t, t .tall, t .wide, e) refl
+
+-- ## Records one after the other
+
+-- each of them is so long
+unfoldable pub AllLong : ℕ → List (List ℕ) → Type 0
+AllLong size [] = Unit {0}
+AllLong size (r ∷ records) = (length r ≡ size) × AllLong size records
+
+-- the lines of so many layouts from layout k on
+unfoldable pub lines-from : ℕ → ℕ → ℕ → List ℕ → ℕ → ℕ → List ℕ
+lines-from height width layouts buffer zero k = []
+lines-from height width layouts buffer (suc more) k = line-text height width layouts k buffer ++ lines-from height width layouts buffer more (k + 1)
+
+module _ (height width layouts : ℕ) (tall : is-size height ≡ true) (wide : is-size width ≡ true) where
+  abbrev size : ℕ
+  size = places height width
+
+  -- the record that stands after the front is record k
+  module _ (front r rest : List ℕ) (k : ℕ) (at : length front ≡ k * size) (long : length r ≡ size) (below : k < layouts) where
+    abbrev buffer : List ℕ
+    buffer = front ++ (r ++ rest)
+
+    here : There height width layouts k (length buffer)
+    here = record { tall = tall; wide = wide; counted = below; inside = rw (length-append front (r ++ rest), length-append r rest) (omega arith) }
+
+    pub record-here : record-at height width layouts k buffer ≡ r
+    record-here = that-part height width layouts k buffer here ∙ ap (λ (l : List ℕ). take size l) (drop-at front (r ++ rest) (k * size) at) ∙ take-at r rest size long
+
+    pub line-here : line-text height width layouts k buffer ≡ layout-line height width (k + 1) r
+    line-here = that-line height width layouts k buffer here ∙ ap (λ (l : List ℕ). layout-line height width (k + 1) l) record-here
+
+  pub lines-there : (records : List (List ℕ)) → AllLong size records → (front rest : List ℕ) (k : ℕ) → length front ≡ k * size → k + length records ≤ layouts
+      → lines-from height width layouts (front ++ (concat records ++ rest)) (length records) k ≡ layout-lines height width (k + 1) records
+  unfolding AllLong lines-from layout-lines concat
+  lines-there [] all front rest k at few = refl
+  lines-there (r ∷ records) (long, all) front rest k at few =
+      ap (λ (l : List ℕ). line-text height width layouts k l ++ lines-from height width layouts l (length records) (k + 1)) (ap (λ (l : List ℕ). front ++ l) (append-assoc r (concat records) rest))
+      ∙ ap (λ (l : List ℕ). l ++ lines-from height width layouts (front ++ (r ++ (concat records ++ rest))) (length records) (k + 1)) (line-here front r (concat records ++ rest) k at long (omega arith))
+      ∙ ap (λ (l : List ℕ). layout-line height width (k + 1) r ++ l)
+      (ap (λ (l : List ℕ). lines-from height width layouts l (length records) (k + 1)) (sym (append-assoc front r (concat records ++ rest)))
+      ∙ lines-there records all (front ++ r) rest (k + 1) (rw length-append (omega arith)) (omega arith))
+
+-- the records of a run are those of events, so they are as long
+pub scan-long : (limit size : ℕ) (events : List Event) → Sized size events → (visited room : ℕ) → AllLong size (scan limit size visited room events .records)
+unfolding scan AllLong Sized
+scan-long limit size [] s visited room = tt
+scan-long limit size (visit ∷ events) s visited room = go (ltb visited limit) refl (scan-long limit size events s (visited + 1) room)
+  where
+    go : (b : Bool) → ltb visited limit ≡ b → AllLong size (scan limit size (visited + 1) room events .records) → AllLong size (scan limit size visited room (visit ∷ events) .records)
+    go true h rest = rw (h, AllLong) rest
+    go false h rest = rw (h, AllLong) tt
+scan-long limit size (layout r ∷ events) (long, s) visited room = go (ltb room size) refl (scan-long limit size events s visited (room - size))
+  where
+    go : (b : Bool) → ltb room size ≡ b → AllLong size (scan limit size visited (room - size) events .records) → AllLong size (scan limit size visited room (layout r ∷ events) .records)
+    go true h rest = rw (h, AllLong) tt
+    go false h rest = rw (h, AllLong) (long, rest)

@@ -1,0 +1,93 @@
+-- The head of the text, from what the reader and the search answer: `refused-head` for a refused file, `accepted-head` for an accepted one.
+-- They rest on the laws of the reader and on the contract of `solve`.
+use Prim.Native.Nat.{ℕ, zero, suc, _+_, _*_, _≤_}
+use mathlib.Core.Path.{_≡_, refl, sym, ap, _∙_}
+use mathlib.Core.Bool.{Bool, true, false}
+use mathlib.Core.List.{List, [], _∷_, _++_}
+use native.Mathlib.Omega.{arith}
+use lib.ListN.{length, take, drop}
+use lib.IntN.{ℤ}
+use Rattle.rules.specs.Grid.{grid-of, places}
+use Rattle.model.specs.Refusals.{grid-refusal}
+use Rattle.model.specs.RefusalLaws.{accepted-is-not-refused}
+use Rattle.model.specs.Search as model
+use Rattle.model.specs.GridFile.{Reading, Standing, read, read-from, start, accepted, declined, refusal, is-complete, after}
+use Rattle.model.specs.Printed.{summary-line, refusal-line}
+use Rattle.model.specs.Routes.{routes-limit}
+use Rattle.printed.specs.Written.{Written}
+use Rattle.reading.specs.ReadingLaws.{SoundReading, read-sound}
+use Rattle.solver.specs.declared.Solved.{Solved}
+use Rattle.solver.specs.Answers.{Solves, answer-says, run-of}
+use Rattle.listing.specs.declared.Heading.{Heading}
+use Rattle.listing.specs.Listing.{found-within, grid-found, reading-head, reading-records, put-records, Refused, Headed}
+
+-- ## A refused file
+
+-- a declined grid is 0 by 0
+pub declined-sizes : (s : Standing) (bytes : List ℕ) → (read-from s bytes .number ≡ 0 → ⊥) → (read-from s bytes .height ≡ 0) × (read-from s bytes .width ≡ 0)
+unfolding read-from accepted declined
+declined-sizes s [] n = go (is-complete s) refl
+  where
+    go : (b : Bool) → is-complete s ≡ b → (read-from s [] .height ≡ 0) × (read-from s [] .width ≡ 0)
+    go true h = absurd (n (rw (h, read-from) refl))
+    go false h = rw (h, read-from) (refl, refl)
+declined-sizes s (byte ∷ bytes) n = go (refusal s byte) refl (declined-sizes (after s byte) bytes)
+  where
+    go : (m : ℕ) → refusal s byte ≡ m → ((read-from (after s byte) bytes .number ≡ 0 → ⊥) → (read-from (after s byte) bytes .height ≡ 0) × (read-from (after s byte) bytes .width ≡ 0))
+        → (read-from s (byte ∷ bytes) .height ≡ 0) × (read-from s (byte ∷ bytes) .width ≡ 0)
+    go zero h rest = rw (h, read-from) (rest (rw (h, read-from) at n))
+    go (suc m) h rest = rw (h, read-from) (refl, refl)
+
+module _ (file : List ℕ) (reading : Reading) (same : reading ≡ read file) where
+  -- what the reader says of sizes and cells
+  pub pads-fit : reading .height * reading .width ≤ 256
+  pads-fit = rw same (read-sound file .pads-in-cells)
+
+  pub cells-fit : length (reading .cells) ≡ 256
+  cells-fit = rw same (read-sound file .cell-count)
+
+  refused-sizes : (reading .number ≡ 0 → ⊥) → (reading .height ≡ 0) × (reading .width ≡ 0)
+  unfolding read
+  refused-sizes n = rw same (declined-sizes start file (rw same at n))
+
+  module _ (buffer : List ℕ) (refuses : reading .number ≡ 0 → ⊥) (r : Heading) (refused : Refused (reading .number) (reading .line) (reading .field) r) where
+    pub refused-head : Headed file buffer r buffer
+    unfolding reading-head reading-records put-records model.concat
+    refused-head = go (reading .number) refl
+      where
+        go : (m : ℕ) → reading .number ≡ m → Headed file buffer r buffer
+        go zero e = absurd (refuses e)
+        go (suc m) e = record {
+          text = rw (← same, e) (rw e at (refused .text));
+          height = rw (← same) (refused .height ∙ sym (refused-sizes refuses .0));
+          width = rw (← same) (refused .width ∙ sym (refused-sizes refuses .1));
+          layouts = rw (← same, e) (refused .layouts);
+          after = rw (← same, e) refl;
+        }
+
+  -- ## An accepted file
+
+  module _ (buffer : List ℕ) (accepts : reading .number ≡ 0) (found : Solved) (buffer′ : List ℕ)
+      (solves : Solves (reading .height) (reading .width) (take (reading .height * reading .width) (reading .cells)) routes-limit buffer found buffer′) where
+    abbrev cells : List ℤ
+    cells = take (reading .height * reading .width) (reading .cells)
+
+    abbrev run : model.Run
+    run = run-of (reading .height) (reading .width) cells routes-limit buffer
+
+    not-refused : grid-refusal (reading .height) (reading .width) cells .0 ≡ 0
+    not-refused = ap (λ (x : ℕ × ℕ). x .0) (accepted-is-not-refused (reading .height) (reading .width) cells (rw same (read-sound file .in-range (rw same at accepts))))
+
+    says : answer-says found buffer′ ≡ model.solved run buffer
+    says = solves .of-run not-refused
+
+    pub accepted-head : (bytes : List ℕ) (long : ℕ) → Written 67 (summary-line (found .layouts) (found .visited) (found .fewest) (found .outcome)) bytes long
+        → Headed file buffer (record { bytes = bytes; length = long; height = reading .height; width = reading .width; layouts = found .layouts }) buffer′
+    unfolding reading-head reading-records put-records grid-found found-within
+    accepted-head bytes long written = record {
+      text = rw (← same, accepts) (rw (ap (λ (s : model.Solved). s .layouts) says, ap (λ (s : model.Solved). s .visited) says, ap (λ (s : model.Solved). s .fewest-lines) says, ap (λ (s : model.Solved). s .outcome) says) at written);
+      height = rw (← same) refl;
+      width = rw (← same) refl;
+      layouts = rw (← same, accepts) (ap (λ (s : model.Solved). s .layouts) says);
+      after = rw (← same, accepts) (ap (λ (s : model.Solved). s .buffer) says);
+    }
