@@ -1,0 +1,38 @@
+-- `Board::decide_edge` meets its contract: no place, a line, none, no state. Assumes nothing.
+use Rattle.board.specs.SlotLaws.{declined-decision, on-it, says-line, says-none, says-no-state}
+use borrow.Author.Needs.{needs}
+use Rattle.board.proofs.Board.decide_edge.Statement.{statement}
+use Rattle.board.proofs.Board.decide_edge.Tie as tie
+
+slot-at-requires : tie.Need-slot-at-requires
+slot-at-requires c κs = search needs
+
+returns : tie.Need-returns
+returns c = λ B held. declined-decision _ B held _ _ _ (c .before .slot-at .ensures) (c .if1 .taken) _
+
+decided-requires : tie.Need-decided-requires
+decided-requires c κs = (c .before .before .before .before .before .before .before .pre, on-it _ _ (c .before .before .before .before .before .before .before .pre .1) _ _ _ (c .before .before .before .before .slot-at .ensures) (c .before .before .before .if1 .left))
+
+returns-2 : tie.Need-returns-2
+returns-2 c = λ B held. says-line _ B held _ _ _ (c .before .before .before .before .before .slot-at .ensures) (c .before .before .before .before .if1 .left) _ (c .before .if2 .taken) (c .decided .ensures B held)
+
+decided-requires-2 : tie.Need-decided-requires-2
+decided-requires-2 c κs = (c .before .before .before .before .before .before .before .before .before .before .pre, on-it _ _ (c .before .before .before .before .before .before .before .before .before .before .pre .1) _ _ _ (c .before .before .before .before .before .before .before .slot-at .ensures) (c .before .before .before .before .before .before .if1 .left))
+
+returns-3 : tie.Need-returns-3
+returns-3 c = λ B held. says-none _ B held _ _ _ (c .before .before .before .before .before .before .before .before .slot-at .ensures) (c .before .before .before .before .before .before .before .if1 .left) _ (c .before .before .before .before .if2 .left) (c .before .if3 .taken) (c .decided2 .ensures B held)
+
+returns-4 : tie.Need-returns-4
+returns-4 c = λ B held. says-no-state _ B held _ _ _ (c .before .before .before .before .before .before .before .slot-at .ensures) (c .before .before .before .before .before .before .if1 .left) _ (c .before .before .before .if2 .left) (c .if3 .left)
+
+pub decide-edge-spec : {M : Type 1} → statement M
+decide-edge-spec =
+    tie.close
+    (tie.spec
+    slot-at-requires
+    returns
+    decided-requires
+    returns-2
+    decided-requires-2
+    returns-3
+    returns-4)

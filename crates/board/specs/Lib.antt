@@ -1,0 +1,8 @@
+-- What the board's calls say of the model's, and why.
+pub mod Past
+pub mod PlaceLaws
+pub mod Held
+pub mod CallLaws
+pub mod ShowLaws
+pub mod DecisionLaws
+pub mod SlotLaws

@@ -1,0 +1,407 @@
+// The port of board.rs: the board by value, with a method for each call. Its fields are private, so that a board can only come from
+// these calls. What each call does is said in the crate `model`, specs/Calls.antt there; specs/Held.antt says what a board of this crate
+// holds of a board there.
+ghost use mathlib.Core.Path.{_≡_};
+ghost use mathlib.Core.Bool.{Bool, true, false};
+ghost use mathlib.Core.List.{List};
+ghost use Prim.Native.Nat.{ℕ, _+_, _*_, _-_, _%_, _≤_, _<_};
+ghost use lib.ListN.{length, take};
+ghost use lib.IntN.{ℤ};
+ghost use Rattle.rules.specs.Grid.{Accepted, grid-of, pads, places};
+ghost use Rattle.rules.specs.Drawing.{num};
+ghost use Rattle.model.specs.Board.{line-or-none};
+ghost use Rattle.model.specs.Calls as model;
+ghost use Rattle.boardview.specs.View.{Arrays, flag-in, grid-in, slot-on, edge-of, Kinds, Ready, Decided};
+ghost use Rattle.board.specs.Held.{Held, IsBoard, Says, Shows};
+ghost use Rattle.board.specs.PlaceLaws.{slot-of-place, shown-byte, shown-at};
+ghost use Rattle.board.specs.ShowLaws.{Laid, end-at-index};
+ghost use Rattle.board.specs.CallLaws.{CanGoBack, board-back};
+use grid::Edge;
+
+// The most checkpoints that may stand.
+const MOST_CHECKPOINTS: usize = 256;
+
+// A byte for each edge, an end number for each pad, the log of decided edges, what is told of the grid, the log's length with the flag,
+// and the marks of the standing checkpoints: the count that stood then.
+pub struct Board {
+    edges: [u8; 1024],
+    ends: [i32; 512],
+    log: [i32; 2048],
+    kind: [u8; 1024],
+    count: usize,
+    marks: [usize; 256],
+    standing: usize,
+}
+
+// What a call hands back: document 01's number, 0 if accepted; its answer, 0 beside a number; the board.
+pub struct Answer {
+    pub number: u8,
+    pub answer: usize,
+    pub board: Board,
+}
+
+// What a board shows: its sizes, the record of its edges, its end numbers, its flag.
+pub struct Shown {
+    pub height: usize,
+    pub width: usize,
+    pub edges: [u8; 961],
+    pub ends: [i32; 256],
+    pub flag: bool,
+}
+
+fn wide(byte: u8) -> usize
+    ensures { λ r. ⌜ r ≡ byte ⌝ }
+{
+    byte as usize
+}
+
+// The number of rows.
+fn height_of(kind: &[u8; 1024]) -> usize
+    requires { ⌜ Kinds (now kind) ⌝ }
+    ensures { λ r. ⌜ r ≡ grid-in (now (kind .entry)) .height ⌝ }
+{
+    wide(kind[510])
+}
+
+// The number of columns.
+fn width_of(kind: &[u8; 1024]) -> usize
+    requires { ⌜ Kinds (now kind) ⌝ }
+    ensures { λ r. ⌜ r ≡ grid-in (now (kind .entry)) .width ⌝ }
+{
+    wide(kind[511])
+}
+
+// The slot of the edge at a place of the field, any numbers; 0 where there is no edge.
+fn slot_at(kind: &[u8; 1024], y: usize, x: usize) -> usize
+    requires { ⌜ Kinds (now kind) ⌝ }
+    ensures { λ r. ⌜ r ≡ slot-of-place (model.edge-at (grid-in (now (kind .entry))) y x) ⌝ }
+{
+    let width = width_of(kind);
+    if y >= 2 * height_of(kind) - 1 {
+        return 0;
+    }
+    if x >= 2 * width - 1 {
+        return 0;
+    }
+    let pad = y / 2 * width + x / 2;
+    if y % 2 == 0 {
+        if x % 2 == 0 {
+            return 0;
+        }
+        return 32 + 2 * pad;
+    }
+    if x % 2 == 0 {
+        return 33 + 2 * pad;
+    }
+    0
+}
+
+// The byte at a place of the record.
+fn byte_at(edges: &[u8; 1024], kind: &[u8; 1024], y: usize, x: usize) -> u8
+    requires { ⌜ Kinds (now kind) × (length (now edges) ≡ 1024) ⌝ }
+    ensures { λ r. ⌜ r ≡ shown-byte (now (edges .entry)) (model.edge-at (grid-in (now (kind .entry))) y x) ⌝ }
+{
+    let slot = slot_at(kind, y, x);
+    if slot == 0 {
+        return 0;
+    }
+    edges[slot]
+}
+
+// Decides the edge at a slot of the board.
+fn decide_slot(
+    edges: &mut [u8; 1024],
+    ends: &mut [i32; 512],
+    log: &mut [i32; 2048],
+    kind: &[u8; 1024],
+    slot: usize,
+    line: bool,
+    count: usize,
+) -> usize
+    requires { ⌜ (slot-on (grid-in (now kind)) slot ≡ true) × Kinds (now kind) × Ready (grid-in (now kind)) (record { edges = now edges; ends = now ends; log = now log; count = count }) ⌝ }
+    ensures { λ r. ⌜ Decided (grid-in (now (kind .entry))) (record { edges = now (edges .entry); ends = now (ends .entry); log = now (log .entry); count = count }) (edge-of slot) (line-or-none line) (record { edges = now (edges .exit); ends = now (ends .exit); log = now (log .exit); count = r }) ⌝ }
+{
+    if line {
+        let v = slot / 2 - 16;
+        if slot % 2 == 0 {
+            return decision::decide_line_right(edges, ends, log, kind, v, count);
+        }
+        return decision::decide_line_down(edges, ends, log, kind, v, count);
+    }
+    decision::decide_none(edges, ends, log, kind, slot, count)
+}
+
+// 1 if the flag is set.
+fn flag_number(count: usize) -> usize
+    ensures { λ r. ⌜ r ≡ num (flag-in count) ⌝ }
+{
+    if count < 1024 { 0 } else { 1 }
+}
+
+fn no_entries() -> [i32; 2048]
+    ensures { λ r. ⌜ length r ≡ 2048 ⌝ }
+{
+    [0; 2048]
+}
+
+fn no_bytes() -> [u8; 961]
+    ensures { λ r. ⌜ length r ≡ 961 ⌝ }
+{
+    [0; 961]
+}
+
+fn no_ends() -> [i32; 256]
+    ensures { λ r. ⌜ length r ≡ 256 ⌝ }
+{
+    [0; 256]
+}
+
+fn no_marks() -> [usize; 256]
+    ensures { λ r. ⌜ length r ≡ 256 ⌝ }
+{
+    [0; 256]
+}
+
+// The fresh board of an accepted grid.
+fn fresh(height: usize, width: usize, cells: &[i32]) -> Board
+    requires { ⌜ Accepted height width (now cells) ⌝ }
+    ensures { λ r. ⌜ Held r (model.fresh-board (grid-of height width (now (cells .entry)))) ⌝ }
+{
+    let arrays = boardfresh::fresh_board(height, width, cells);
+    let edges = arrays.edges;
+    let ends = arrays.ends;
+    let kind = arrays.kind;
+    Board {
+        edges,
+        ends,
+        log: no_entries(),
+        kind,
+        count: 0,
+        marks: no_marks(),
+        standing: 0,
+    }
+}
+
+// The fresh 2 by 2 blank board.
+fn blank() -> Board
+    ensures { λ r. ⌜ Held r model.blank-board ⌝ }
+{
+    fresh(2, 2, &[-1, -1, -1, -1])
+}
+
+// The board and the flag after the edge at a slot is decided.
+fn decided(board: Board, slot: usize, line: bool) -> Answer
+    requires { ⌜ IsBoard board × (slot-on (grid-in (board .kind)) slot ≡ true) ⌝ }
+    ensures { λ r. ⌜ ((B : model.Board) → Held board B → Says r (model.decided B (edge-of slot) (line-or-none line))) ⌝ }
+{
+    let mut edges = board.edges;
+    let mut ends = board.ends;
+    let mut log = board.log;
+    let kind = board.kind;
+    let marks = board.marks;
+    let count = decide_slot(
+        &mut edges,
+        &mut ends,
+        &mut log,
+        &kind,
+        slot,
+        line,
+        board.count,
+    );
+    Answer {
+        number: 0,
+        answer: flag_number(count),
+        board: Board {
+            edges,
+            ends,
+            log,
+            kind,
+            count,
+            marks,
+            standing: board.standing,
+        },
+    }
+}
+
+// The board after undoing the entries of the log since a mark, with so many checkpoints standing.
+fn back_to(board: Board, mark: usize, standing: usize) -> Board
+    requires { ⌜ CanGoBack board mark ⌝ }
+    ensures { λ r. ⌜ r ≡ board-back board mark standing ⌝ }
+{
+    let mut edges = board.edges;
+    let mut ends = board.ends;
+    let log = board.log;
+    let kind = board.kind;
+    let marks = board.marks;
+    let count = board.count;
+    boardundo::undo(
+        &mut edges,
+        &mut ends,
+        &log,
+        &kind,
+        count % 1024,
+        mark % 1024,
+    );
+    Board {
+        edges,
+        ends,
+        log,
+        kind,
+        count: mark,
+        marks,
+        standing,
+    }
+}
+
+// The record of the edges; past it the bytes are of no account.
+fn record_of(edges: &[u8; 1024], kind: &[u8; 1024]) -> [u8; 961]
+    requires { ⌜ Kinds (now kind) × (length (now edges) ≡ 1024) ⌝ }
+    ensures { λ r. ⌜ Laid (shown-at (grid-in (now (kind .entry))) (now (edges .entry))) 961 r (places (grid-in (now (kind .entry)) .height) (grid-in (now (kind .entry)) .width)) ⌝ }
+{
+    let side = 2 * width_of(kind) - 1;
+    let places = (2 * height_of(kind) - 1) * side;
+    let mut bytes = no_bytes();
+    let mut i = 0;
+    while i < places {
+        bytes[i] = byte_at(edges, kind, i / side, i % side);
+        i += 1;
+    }
+    bytes
+}
+
+// The ends of the first 256 pads.
+fn shown_ends(ends: &[i32; 512]) -> [i32; 256]
+    requires { ⌜ length (now ends) ≡ 512 ⌝ }
+    ensures { λ r. ⌜ Laid (end-at-index (now (ends .entry))) 256 r 256 ⌝ }
+{
+    let mut shown = no_ends();
+    let mut i = 0;
+    while i < 256 {
+        shown[i] = ends[i];
+        i += 1;
+    }
+    shown
+}
+
+impl Board {
+    // The fresh board of a grid; 7, 8 or 9 with the index of the first bad cell, and the fresh 2 by 2 blank board.
+    pub fn new(height: usize, width: usize, cells: &[i32]) -> Answer
+        ensures { λ r. ⌜ Says r (model.new height width (now (cells .entry))) ⌝ }
+    {
+        let refusal = grid::grid_refusal(height, width, cells);
+        if refusal.number != 0 {
+            return Answer {
+                number: refusal.number,
+                answer: refusal.index,
+                board: blank(),
+            };
+        }
+        Answer {
+            number: 0,
+            answer: 0,
+            board: fresh(height, width, cells),
+        }
+    }
+
+    // Decides the edge at a place, any numbers; 10 no such edge place, then 11 a state neither 1 nor 2; accepted, the answer is the flag.
+    pub fn decide_edge(self, y: usize, x: usize, state: Edge) -> Answer
+        requires { ⌜ IsBoard self ⌝ }
+        ensures { λ r. ⌜ ((B : model.Board) → Held self B → Says r (model.decide-edge B y x (state .0))) ⌝ }
+    {
+        let kind = self.kind;
+        let slot = slot_at(&kind, y, x);
+        if slot == 0 {
+            return Answer {
+                number: 10,
+                answer: 0,
+                board: self,
+            };
+        }
+        if state.0 == Edge::LINE.0 {
+            return decided(self, slot, true);
+        }
+        if state.0 == Edge::NONE.0 {
+            return decided(self, slot, false);
+        }
+        Answer {
+            number: 11,
+            answer: 0,
+            board: self,
+        }
+    }
+
+    // Reads the edge at a place, any numbers; 10 no such edge place; accepted, the answer is the edge's byte.
+    pub fn get_edge(self, y: usize, x: usize) -> Answer
+        requires { ⌜ IsBoard self ⌝ }
+        ensures { λ r. ⌜ ((B : model.Board) → Held self B → Says r (model.read-edge B y x)) ⌝ }
+    {
+        let kind = self.kind;
+        let edges = self.edges;
+        let slot = slot_at(&kind, y, x);
+        if slot == 0 {
+            return Answer {
+                number: 10,
+                answer: 0,
+                board: self,
+            };
+        }
+        Answer {
+            number: 0,
+            answer: wide(edges[slot]),
+            board: self,
+        }
+    }
+
+    // A checkpoint; 12 with 256 standing.
+    pub fn add_checkpoint(self) -> Answer
+        requires { ⌜ IsBoard self ⌝ }
+        ensures { λ r. ⌜ ((B : model.Board) → Held self B → Says r (model.add-checkpoint B)) ⌝ }
+    {
+        let standing = self.standing;
+        if standing >= MOST_CHECKPOINTS {
+            return Answer {
+                number: 12,
+                answer: 0,
+                board: self,
+            };
+        }
+        let mut board = self;
+        board.marks[standing] = self.count;
+        board.standing = standing + 1;
+        Answer {
+            number: 0,
+            answer: 0,
+            board,
+        }
+    }
+
+    // Back to the last checkpoint not yet undone, or to the fresh board.
+    pub fn undo(self) -> Board
+        requires { ⌜ IsBoard self ⌝ }
+        ensures { λ r. ⌜ ((B : model.Board) → Held self B → Held r (model.undo B)) ⌝ }
+    {
+        let standing = self.standing;
+        if standing == 0 {
+            return back_to(self, 0, 0);
+        }
+        let mark = self.marks[standing - 1];
+        back_to(self, mark, standing - 1)
+    }
+
+    // Edges, ends and flag.
+    pub fn shown(self) -> Shown
+        requires { ⌜ IsBoard self ⌝ }
+        ensures { λ r. ⌜ ((B : model.Board) → Held self B → Shows r B) ⌝ }
+    {
+        let kind = self.kind;
+        let edges = self.edges;
+        let ends = self.ends;
+        Shown {
+            height: height_of(&kind),
+            width: width_of(&kind),
+            edges: record_of(&edges, &kind),
+            ends: shown_ends(&ends),
+            flag: self.count >= 1024,
+        }
+    }
+}
