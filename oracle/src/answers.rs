@@ -138,7 +138,7 @@ pub struct Run {
 }
 
 impl Run {
-    fn new() -> Self {
+    pub fn new() -> Self {
         Run {
             outcome: 0,
             layouts: 0,

@@ -60,7 +60,7 @@ pub fn check_beginning(all: &Run, run: &Run, limit: u64, room: usize, length: us
 }
 
 /// Limits and rooms about the places where a run ends.
-fn runs_of(random: &mut Random, all: &Run, length: usize, kind: usize) -> Vec<(u64, usize)> {
+pub fn runs_of(random: &mut Random, all: &Run, length: usize, kind: usize) -> Vec<(u64, usize)> {
     let fitting = all.layouts.min(ROOM / length) * length;
     let mut runs = vec![(LIMIT, ROOM)];
     match kind % 4 {

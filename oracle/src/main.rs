@@ -12,13 +12,76 @@ mod sequences;
 mod stream;
 mod time;
 
+#[cfg(library)]
+mod bench;
+#[cfg(library)]
+mod cases;
+#[cfg(library)]
+mod chosen;
+#[cfg(library)]
+mod compare;
+#[cfg(library)]
+mod expected;
+#[cfg(library)]
+mod library;
+#[cfg(library)]
+mod smallest;
+
 const USAGE: &str = "usage:
   oracle calls FILE                     the answers to the calls of a text, as JSON
   oracle sequences SEED STREAM ANSWERS  write a stream of board calls and its answers
   oracle grids SEED STREAM ANSWERS      write a stream of grids and the answers of their searches
   oracle steps STREAM NUMBER            one sequence of a stream, call by call
   oracle routes < GRID-FILE             what the program `routes` prints
-  oracle time GRID-FILE..               how long the reference takes";
+  oracle time GRID-FILE..               how long the reference takes
+and, where it is built with the library:
+  oracle compare seconds S [SEED]       compare the library with the reference for so long
+  oracle compare counts CALLS SEARCHES FILES [SEED]
+  oracle case 'TEXT'                    one case, as the comparison printed it
+  oracle bench GRID-FILE..              the table of times of the library and the reference";
+
+/// The commands that need the library; false for any other.
+#[cfg(library)]
+fn with_library(words: &[&str]) -> bool {
+    let number = |text: &str| text.parse::<u64>().expect("a number");
+    let seed = |given: &[&str]| given.first().map_or_else(seed_of_now, |text| number(text));
+    match words {
+        ["compare", "seconds", seconds, given @ ..] => {
+            compare::compare_for(number(seconds), seed(given));
+        }
+        ["compare", "counts", calls, searches, files, given @ ..] => {
+            let wanted = compare::Counts {
+                calls: number(calls) as usize,
+                searches: number(searches) as usize,
+                files: number(files) as usize,
+            };
+            compare::compare_counts(wanted, seed(given));
+        }
+        ["case", text] => {
+            if !compare::replay_case(text) {
+                std::process::exit(1);
+            }
+        }
+        ["bench", files @ ..] => bench::print_table(&named(files)),
+        _ => return false,
+    }
+    true
+}
+
+#[cfg(library)]
+fn seed_of_now() -> u64 {
+    let now = std::time::SystemTime::now().duration_since(std::time::UNIX_EPOCH);
+    now.expect("a clock").as_secs()
+}
+
+#[cfg(not(library))]
+fn with_library(_: &[&str]) -> bool {
+    false
+}
+
+fn named<'a>(files: &[&'a str]) -> Vec<(&'a str, Vec<u8>)> {
+    files.iter().map(|file| (*file, read(file))).collect()
+}
 
 fn read(file: &str) -> Vec<u8> {
     std::fs::read(file).unwrap_or_else(|error| panic!("{file}: {error}"))
@@ -46,11 +109,7 @@ fn main() {
         ["steps", stream, number] => {
             sequences::print_steps(&read(stream), number.parse().expect("a number"));
         }
-        ["time", files @ ..] => {
-            let named: Vec<(&str, Vec<u8>)> =
-                files.iter().map(|file| (*file, read(file))).collect();
-            time::print_times(&named);
-        }
+        ["time", files @ ..] => time::print_times(&named(files)),
         ["routes"] => {
             let mut file = Vec::new();
             std::io::stdin()
@@ -58,9 +117,11 @@ fn main() {
                 .expect("standard input");
             print!("{}", routes::printed(&file));
         }
-        _ => {
-            eprintln!("{USAGE}");
-            std::process::exit(2);
+        words => {
+            if !with_library(words) {
+                eprintln!("{USAGE}");
+                std::process::exit(2);
+            }
         }
     }
 }

@@ -30,7 +30,7 @@ impl Random {
         self.below(100) < percent
     }
 
-    fn choose<T: Copy>(&mut self, items: &[T]) -> T {
+    pub fn choose<T: Copy>(&mut self, items: &[T]) -> T {
         items[self.below(items.len())]
     }
 }

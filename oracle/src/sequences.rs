@@ -55,7 +55,7 @@ fn usual_calls(random: &mut Random, pads: &Pads, number: usize) -> Vec<Call> {
 
 /// 256 checkpoints with decisions between them, then every one undone, and
 /// two undos more.
-fn checkpoint_calls(random: &mut Random, pads: &Pads) -> Vec<Call> {
+pub fn checkpoint_calls(random: &mut Random, pads: &Pads) -> Vec<Call> {
     let careful = if random.chance(50) { 99 } else { 0 };
     let mut chooser = Chooser::new(random, pads);
     chooser.decide(careful, 50);

@@ -27,19 +27,21 @@ fn processor_time() -> f64 {
     time.whole as f64 + time.billionths as f64 * 1e-9
 }
 
-/// Seconds for one turn of the work, best of five.
-pub fn best_of_five(mut work: impl FnMut()) -> f64 {
-    let mut best = f64::INFINITY;
-    for _ in 0..5 {
-        let start = processor_time();
-        let mut turns = 0;
-        while turns == 0 || processor_time() - start < 0.2 {
-            work();
-            turns += 1;
-        }
-        best = best.min((processor_time() - start) / turns as f64);
+/// Seconds for one turn of the work, which is repeated until it takes 0.2.
+pub fn seconds_each(mut work: impl FnMut()) -> f64 {
+    let start = processor_time();
+    let mut turns = 0;
+    while turns == 0 || processor_time() - start < 0.2 {
+        work();
+        turns += 1;
     }
-    best
+    (processor_time() - start) / turns as f64
+}
+
+fn best_of_five(mut work: impl FnMut()) -> f64 {
+    (0..5)
+        .map(|_| seconds_each(&mut work))
+        .fold(f64::INFINITY, f64::min)
 }
 
 fn line(name: &str, pads: &Pads) -> f64 {

@@ -1,11 +1,13 @@
 -- The last part of the pad check and its first test, as the code's branches come to them.
 use mathlib.Core.Path.{_≡_, refl, sym, ap, _∙_}
 use mathlib.Core.Bool.{Bool, true, false, _||_}
-use mathlib.Core.List.{List}
-use Prim.Native.Nat.{ℕ, _+_, _-_, _*_, _≤_, _<_}
+use mathlib.Core.List.{List, [], _∷_}
+use Prim.Native.Nat.{ℕ, zero, suc, _+_, _-_, _*_, _%_, _/_, _≤_, _<_}
 use native.Mathlib.Omega.{arith}
 use lib.Dec.{eqb, ltb}
 use lib.IntN.{ℤ}
+use lib.ListN.{getD}
+use Rattle.rules.specs.Drawing.{num}
 use borrow.Author.Tests.{lt-ltb, le-ltb, eq-eqb, ne-eqb}
 use Rattle.boardview.specs.View.{pick, end-at, code-number, keeps-apart, some-apart, clue-apart, undecided-around, degree-around, first-around, action-around}
 
@@ -84,3 +86,49 @@ module _ (edges : List ℕ) (ends : List ℤ) (w v code : ℕ) (e : code ≡ cod
         pub apart-4 : keeps-apart edges ends code (33 + 2 * v - 2 * w) (16 + v - w - 16) ≡ false → keeps-apart edges ends code (33 + 2 * v) (16 + v + w - 16) ≡ clue-apart edges ends w v
         unfolding clue-apart some-apart
         apart-4 t = rw (← e, ne-eqb code 0 n, ← left, t₁, ← right, t₂, ← up, t, ← down) refl
+
+-- A BYTE of an edge, counted by sums
+pub small-read : (l : List ℕ) (i : ℕ) → getD l i 2 ≤ 2 → getD l i 0 ≤ 2
+small-read [] i h = omega arith
+small-read (x ∷ l) zero h = h
+small-read (x ∷ l) (suc i) h = small-read l i h
+
+pub line-count : (b : ℕ) → b ≤ 2 → num (eqb b 1) ≡ b % 2
+line-count zero h = refl
+line-count (suc zero) h = refl
+line-count (suc (suc zero)) h = refl
+line-count (suc (suc (suc b))) h = absurd (omega arith)
+
+pub undecided-count : (b : ℕ) → b ≤ 2 → 2 * num (eqb b 0) + (b + b % 2) ≡ 2
+undecided-count zero h = refl
+undecided-count (suc zero) h = refl
+undecided-count (suc (suc zero)) h = refl
+undecided-count (suc (suc (suc b))) h = absurd (omega arith)
+
+half-of : (s m : ℕ) → s + 2 * m ≡ 8 → (4 - s / 2 ≡ m) × (s / 2 ≤ 4)
+half-of s m h = (omega arith, omega arith)
+
+-- the sum of four bytes and their rests tells how many are 0
+module _ (a b c d : ℕ) (ha : a ≤ 2) (hb : b ≤ 2) (hc : c ≤ 2) (hd : d ≤ 2) where
+  abbrev whole : ℕ
+  whole = a + b + c + d + a % 2 + b % 2 + c % 2 + d % 2
+
+  abbrev zeros : ℕ
+  zeros = num (eqb a 0) + num (eqb b 0) + num (eqb c 0) + num (eqb d 0)
+
+  add-up : (na nb nc nd pa pb pc pd : ℕ) → 2 * na + (a + pa) ≡ 2 → 2 * nb + (b + pb) ≡ 2 → 2 * nc + (c + pc) ≡ 2 → 2 * nd + (d + pd) ≡ 2
+      → (a + b + c + d + pa + pb + pc + pd) + 2 * (na + nb + nc + nd) ≡ 8
+  add-up na nb nc nd pa pb pc pd p q r s = omega arith
+
+  together : whole + 2 * zeros ≡ 8
+  together = add-up (num (eqb a 0)) (num (eqb b 0)) (num (eqb c 0)) (num (eqb d 0)) (a % 2) (b % 2) (c % 2) (d % 2)
+      (undecided-count a ha) (undecided-count b hb) (undecided-count c hc) (undecided-count d hd)
+
+  pub zeros-half : whole / 2 ≤ 4
+  zeros-half = half-of whole zeros together .1
+
+  pub zeros-are : 4 - whole / 2 ≡ zeros
+  zeros-are = half-of whole zeros together .0
+
+  pub few-zeros : 4 - whole / 2 ≤ 4
+  few-zeros = omega arith

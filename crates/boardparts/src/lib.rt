@@ -15,8 +15,6 @@ use grid::Edge;
 // The bytes of an edge's states, as the edge type names them.
 const UNDECIDED: u8 = Edge::UNDECIDED.0;
 
-const LINE: u8 = Edge::LINE.0;
-
 // A byte as a number.
 pub fn wide(byte: u8) -> usize
     ensures { λ r. ⌜ r ≡ byte ⌝ }
@@ -292,16 +290,6 @@ pub fn some_apart(edges: &[u8; 1024], ends: &[i32; 512], width: usize, v: usize)
     keeps_apart(edges, ends, code, 33 + 2 * v, 16 + v + width)
 }
 
-// 1 if a byte is this, else 0.
-pub fn is(byte: u8, this: u8) -> u8
-    ensures { λ r. ⌜ (r ≡ num (eqb byte this)) × (r ≤ 1) ⌝ }
-{
-    if byte == this {
-        return 1;
-    }
-    0
-}
-
 pub fn one_if(test: bool) -> u8
     ensures { λ r. ⌜ (r ≡ num test) × (r ≤ 1) ⌝ }
 {
@@ -311,27 +299,28 @@ pub fn one_if(test: bool) -> u8
     0
 }
 
-// The undecided edges at a pad.
+// The undecided edges at a pad: each of its four bytes is 0, 1 or 2, and all but 0 have the half of itself and its rest by 2 as 1.
 pub fn undecided_around(edges: &[u8; 1024], width: usize, v: usize) -> u8
-    requires { ⌜ (v < 256) × (width ≤ 16) ⌝ }
+    requires { ⌜ (v < 256) × (width ≤ 16) × ((n : ℕ) → getD (now edges) n 2 ≤ 2) ⌝ }
     ensures { λ r. ⌜ (r ≡ undecided-around (now (edges .entry)) width v) × (r ≤ 4) ⌝ }
 {
-    is(edges[30 + 2 * v], UNDECIDED)
-        + is(edges[32 + 2 * v], UNDECIDED)
-        + is(edges[33 + 2 * v - 2 * width], UNDECIDED)
-        + is(edges[33 + 2 * v], UNDECIDED)
+    let left = edges[30 + 2 * v];
+    let right = edges[32 + 2 * v];
+    let up = edges[33 + 2 * v - 2 * width];
+    let down = edges[33 + 2 * v];
+    4 - (left + right + up + down + left % 2 + right % 2 + up % 2 + down % 2) / 2
 }
 
-// The lines at a pad, plus 1 for a clue.
+// The lines at a pad, plus 1 for a clue: a byte is 1 where its rest by 2 is 1.
 pub fn degree_around(edges: &[u8; 1024], kind: &[u8; 1024], width: usize, v: usize) -> u8
-    requires { ⌜ (v < 256) × (width ≤ 16) ⌝ }
+    requires { ⌜ (v < 256) × (width ≤ 16) × ((n : ℕ) → getD (now edges) n 2 ≤ 2) ⌝ }
     ensures { λ r. ⌜ (r ≡ degree-around (now (kind .entry)) (now (edges .entry)) width v) × (r ≤ 5) ⌝ }
 {
-    one_if(has(kind, v, 1))
-        + is(edges[30 + 2 * v], LINE)
-        + is(edges[32 + 2 * v], LINE)
-        + is(edges[33 + 2 * v - 2 * width], LINE)
-        + is(edges[33 + 2 * v], LINE)
+    let left = edges[30 + 2 * v];
+    let right = edges[32 + 2 * v];
+    let up = edges[33 + 2 * v - 2 * width];
+    let down = edges[33 + 2 * v];
+    one_if(has(kind, v, 1)) + left % 2 + right % 2 + up % 2 + down % 2
 }
 
 // The first of three slots whose byte is 0, or the fourth.
@@ -367,7 +356,7 @@ pub fn first_around(edges: &[u8; 1024], width: usize, v: usize) -> usize
 
 // What the pad check does last: 0 nothing, 1 the flag, a slot: a line there, 1024 + a slot: none there.
 pub fn action(edges: &[u8; 1024], kind: &[u8; 1024], width: usize, v: usize) -> usize
-    requires { ⌜ (v < 256) × (width ≤ 16) ⌝ }
+    requires { ⌜ (v < 256) × (width ≤ 16) × ((n : ℕ) → getD (now edges) n 2 ≤ 2) ⌝ }
     ensures { λ r. ⌜ (r ≡ action-around (now (kind .entry)) (now (edges .entry)) width v) × (r < 2048) ⌝ }
 {
     let undecided = undecided_around(edges, width, v);

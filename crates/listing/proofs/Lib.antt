@@ -1,2 +1,2 @@
 -- Laws that the proofs of the crate share.
-mod HeadLaws
+mod TextLaws

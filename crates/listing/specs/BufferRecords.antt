@@ -24,23 +24,23 @@ use Rattle.listing.specs.Listing.{line-text}
 
 module _ (height width count k room : ℕ) where
   -- sound sizes, k below the count, and the record ends in time
-  pub record There : Type 0 where
+  pub record HasRecord : Type 0 where
     pub tall : is-size height ≡ true
     pub wide : is-size width ≡ true
     pub counted : k < count
     pub inside : k * places height width + places height width ≤ room
 
-  pub there : has-record height width count k room ≡ true → There
+  pub what-a-record-has : has-record height width count k room ≡ true → HasRecord
   unfolding has-record record-length
-  there e =
+  what-a-record-has e =
       let (abc, d) = and-both (is-size height && is-size width && ltb k count) (leb (k * places height width + places height width) room) e in
       let (ab, c) = and-both (is-size height && is-size width) (ltb k count) abc in
       let (a, b) = and-both (is-size height) (is-size width) ab in
       record { tall = a; wide = b; counted = ltb-true _ _ c; inside = leb-true _ _ d }
 
-  pub has-there : There → has-record height width count k room ≡ true
+  pub record-is-there : HasRecord → has-record height width count k room ≡ true
   unfolding has-record record-length
-  has-there t = rw (t .tall, t .wide, lt-ltb _ _ (t .counted), le-leb _ _ (t .inside)) refl
+  record-is-there t = rw (t .tall, t .wide, lt-ltb _ _ (t .counted), le-leb _ _ (t .inside)) refl
 
 pub some-places : (height width : ℕ) → is-size height ≡ true → is-size width ≡ true → 0 < places height width
 some-places height width h w =
@@ -52,16 +52,16 @@ some-places height width h w =
 
 module _ (height width count k : ℕ) (buffer : List ℕ) where
   -- the part of the buffer from k times the length on
-  pub that-part : There height width count k (length buffer) → record-at height width count k buffer ≡ take (places height width) (drop (k * places height width) buffer)
+  pub that-part : HasRecord height width count k (length buffer) → record-at height width count k buffer ≡ take (places height width) (drop (k * places height width) buffer)
   unfolding record-at record-length
-  that-part t = rw (has-there _ _ _ _ _ t) refl
+  that-part t = rw (record-is-there _ _ _ _ _ t) refl
 
-  part-length : There height width count k (length buffer) → length (record-at height width count k buffer) ≡ places height width
+  part-length : HasRecord height width count k (length buffer) → length (record-at height width count k buffer) ≡ places height width
   part-length t = rw (that-part t) (length-take-le _ _ (rw length-drop (omega (arith, t .inside))))
 
-  pub that-line : There height width count k (length buffer) → line-text height width count k buffer ≡ layout-line height width (k + 1) (record-at height width count k buffer)
+  pub that-line : HasRecord height width count k (length buffer) → line-text height width count k buffer ≡ layout-line height width (k + 1) (record-at height width count k buffer)
   unfolding line-text
-  that-line t = rw (has-there _ _ _ _ _ t) refl
+  that-line t = rw (record-is-there _ _ _ _ _ t) refl
 
   -- an empty part is no record, and nothing is printed for it
   pub no-line : length (record-at height width count k buffer) ≡ 0 → line-text height width count k buffer ≡ []
@@ -71,19 +71,19 @@ module _ (height width count k : ℕ) (buffer : List ℕ) where
       go : (b : Bool) → has-record height width count k (length buffer) ≡ b → line-text height width count k buffer ≡ []
       go false h = rw h refl
       go true h =
-          let t = there _ _ _ _ _ h in
+          let t = what-a-record-has _ _ _ _ _ h in
           absurd (omega (arith, part-length t, some-places height width (t .tall) (t .wide)))
 
   -- any other part is record k
-  pub some-line : (length (record-at height width count k buffer) ≡ 0 → ⊥) → There height width count k (length buffer)
+  pub some-line : (length (record-at height width count k buffer) ≡ 0 → ⊥) → HasRecord height width count k (length buffer)
   unfolding record-at
   some-line e = go (has-record height width count k (length buffer)) refl
     where
-      go : (b : Bool) → has-record height width count k (length buffer) ≡ b → There height width count k (length buffer)
-      go true h = there _ _ _ _ _ h
+      go : (b : Bool) → has-record height width count k (length buffer) ≡ b → HasRecord height width count k (length buffer)
+      go true h = what-a-record-has _ _ _ _ _ h
       go false h = absurd (e (rw h refl))
 
-  pub line-by-parts : (part : List ℕ) → part ≡ record-at height width count k buffer → There height width count k (length buffer)
+  pub line-by-parts : (part : List ℕ) → part ≡ record-at height width count k buffer → HasRecord height width count k (length buffer)
       → layout-text height width (k + 1) part ≡ line-text height width count k buffer
   unfolding layout-text
   line-by-parts part e t = rw (that-line t, t .tall, t .wide, e) refl
@@ -109,14 +109,14 @@ module _ (height width layouts : ℕ) (tall : is-size height ≡ true) (wide : i
     abbrev buffer : List ℕ
     buffer = front ++ (r ++ rest)
 
-    here : There height width layouts k (length buffer)
-    here = record { tall = tall; wide = wide; counted = below; inside = rw (length-append front (r ++ rest), length-append r rest) (omega arith) }
+    this-record : HasRecord height width layouts k (length buffer)
+    this-record = record { tall = tall; wide = wide; counted = below; inside = rw (length-append front (r ++ rest), length-append r rest) (omega arith) }
 
     pub record-here : record-at height width layouts k buffer ≡ r
-    record-here = that-part height width layouts k buffer here ∙ ap (λ (l : List ℕ). take size l) (drop-at front (r ++ rest) (k * size) at) ∙ take-at r rest size long
+    record-here = that-part height width layouts k buffer this-record ∙ ap (λ (l : List ℕ). take size l) (drop-at front (r ++ rest) (k * size) at) ∙ take-at r rest size long
 
     pub line-here : line-text height width layouts k buffer ≡ layout-line height width (k + 1) r
-    line-here = that-line height width layouts k buffer here ∙ ap (λ (l : List ℕ). layout-line height width (k + 1) l) record-here
+    line-here = that-line height width layouts k buffer this-record ∙ ap (λ (l : List ℕ). layout-line height width (k + 1) l) record-here
 
   pub lines-there : (records : List (List ℕ)) → AllLong size records → (front rest : List ℕ) (k : ℕ) → length front ≡ k * size → k + length records ≤ layouts
       → lines-from height width layouts (front ++ (concat records ++ rest)) (length records) k ≡ layout-lines height width (k + 1) records

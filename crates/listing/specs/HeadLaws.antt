@@ -1,21 +1,19 @@
 -- The head of the text, from what the reader and the search answer: `refused-head` for a refused file, `accepted-head` for an accepted one.
 -- They rest on the laws of the reader and on the contract of `solve`.
-use Prim.Native.Nat.{ℕ, zero, suc, _+_, _*_, _≤_}
+use Prim.Native.Nat.{ℕ, zero, suc, _*_, _≤_}
 use mathlib.Core.Path.{_≡_, refl, sym, ap, _∙_}
 use mathlib.Core.Bool.{Bool, true, false}
-use mathlib.Core.List.{List, [], _∷_, _++_}
-use native.Mathlib.Omega.{arith}
-use lib.ListN.{length, take, drop}
+use mathlib.Core.List.{List, [], _∷_}
+use lib.ListN.{length, take}
 use lib.IntN.{ℤ}
-use Rattle.rules.specs.Grid.{grid-of, places}
 use Rattle.model.specs.Refusals.{grid-refusal}
 use Rattle.model.specs.RefusalLaws.{accepted-is-not-refused}
 use Rattle.model.specs.Search as model
 use Rattle.model.specs.GridFile.{Reading, Standing, read, read-from, start, accepted, declined, refusal, is-complete, after}
-use Rattle.model.specs.Printed.{summary-line, refusal-line}
+use Rattle.model.specs.Printed.{summary-line}
 use Rattle.model.specs.Routes.{routes-limit}
 use Rattle.printed.specs.Written.{Written}
-use Rattle.reading.specs.ReadingLaws.{SoundReading, read-sound}
+use Rattle.reading.specs.ReadingLaws.{read-sound}
 use Rattle.solver.specs.declared.Solved.{Solved}
 use Rattle.solver.specs.Answers.{Solves, answer-says, run-of}
 use Rattle.listing.specs.declared.Heading.{Heading}

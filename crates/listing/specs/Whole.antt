@@ -1,31 +1,41 @@
--- The head and the lines together are the text that `routes` prints: for every file and every buffer (`whole`), and for a buffer of 61,504
--- bytes and the first 4,096 bytes of any standard input (`routes-whole`). It rests on the contract of `head` (Listing.antt), on
--- BufferRecords.antt, and on the laws of the reader.
-use Prim.Native.Nat.{ℕ, zero, suc, _+_, _*_, _-_, _≤_, _<_}
+-- The head and the lines together are the text that `routes` prints: for every file and every buffer (`whole`); for a buffer of 61,504 bytes
+-- and every file (`whole-file`); and for the first 4,096 bytes of any standard input (`routes-whole`). It rests on the contracts of `head`
+-- and `line` (Listing.antt), on BufferRecords.antt, and on the laws of the reader.
+use Prim.Native.Nat.{ℕ, zero, suc, _+_, _*_, _-_}
 use mathlib.Core.Path.{_≡_, refl, sym, ap, _∙_}
 use mathlib.Core.Bool.{true}
-use mathlib.Core.List.{List, [], _∷_, _++_, append-nil}
+use mathlib.Core.List.{List, [], _++_, append-nil}
 use native.Mathlib.Omega.{arith}
-use lib.ListN.{length, take, drop}
-use lib.Seq.{take-at, take-take}
+use lib.ListN.{length, take}
+use lib.Seq.{take-at}
 use Rattle.rules.specs.Grid.{grid-of, places, Accepted}
 use Rattle.model.specs.Bounds.{is-size}
 use Rattle.model.specs.RefusalLaws.{test-of-size}
-use Rattle.model.specs.Search.{search, scan, concat}
 use Rattle.model.specs.GridFile.{Reading, read}
 use Rattle.model.specs.Printed.{layout-lines, found-text, reading-text, printed}
-use Rattle.model.specs.Routes.{routes-limit, routes-room, routes-found, routes-text}
+use Rattle.model.specs.Routes.{routes-room, routes-found, routes-text}
 use Rattle.printed.specs.Written.{zeros, Written}
 use Rattle.reading.specs.ReadingLaws.{SoundReading, read-sound}
 use Rattle.reading.specs.LongFiles.{first-bytes-suffice}
 use Rattle.searchview.specs.Sizes.{search-sized}
+use Rattle.printed.specs.declared.LayoutLine.{LayoutLine}
 use Rattle.listing.specs.declared.Heading.{Heading}
-use Rattle.listing.specs.Listing.{found-within, grid-found, file-text, reading-head, reading-records, put-records, Headed}
+use Rattle.listing.specs.Listing.{found-within, grid-found, file-text, reading-head, reading-records, put-records, Headed, Lined}
 use Rattle.listing.specs.BufferRecords.{AllLong, lines-from, lines-there, scan-long}
 
 -- the bytes before the length are the text
 pub text-of-bytes : {size : ℕ} {text bytes : List ℕ} {long : ℕ} → Written size text bytes long → take long bytes ≡ text
 text-of-bytes {size} {text} {bytes} {long} w = ap (λ (l : List ℕ). take long l) (w .all-bytes) ∙ take-at text (zeros (size - length text)) long (sym (w .its-length))
+
+-- the bytes of so many lines from layout k on, each up to its length
+unfoldable pub line-bytes : (ℕ → LayoutLine) → ℕ → ℕ → List ℕ
+line-bytes line zero k = []
+line-bytes line (suc more) k = take (line k .length) (line k .bytes) ++ line-bytes line more (k + 1)
+
+-- the model's text is that of a buffer of 61,504 bytes
+room-of-routes : (input : List ℕ) → reading-text (found-within routes-room) (read (take 4096 input)) ≡ routes-text input
+unfolding routes-text printed routes-found found-within
+room-of-routes input = refl
 
 -- what head and lines say of a reading
 module _ (room : ℕ) (reading : Reading) (sound : SoundReading reading) (buffer : List ℕ) where
@@ -59,18 +69,31 @@ module _ (room : ℕ) (reading : Reading) (sound : SoundReading reading) (buffer
       go zero e = rw (found-lines e, e) refl
       go (suc n) e = rw e (append-nil _)
 
--- THE WHOLE TEXT, for every file and buffer
-module _ (file buffer : List ℕ) (r : Heading) (buffer′ : List ℕ) (headed : Headed file buffer r buffer′) where
+-- THE WHOLE TEXT, over the contracts alone: what `head` answers, and what `line` answers for each layout
+module _ (file buffer : List ℕ) (r : Heading) (buffer′ : List ℕ) (headed : Headed file buffer r buffer′)
+    (line : ℕ → LayoutLine) (lined : (k : ℕ) → Lined buffer′ (r .height) (r .width) (r .layouts) k (line k)) where
   -- the bytes of the head, and after them the bytes of the lines of the layouts 0, 1, .. in this order
-  abbrev pub all-bytes : List ℕ
-  all-bytes = take (r .length) (r .bytes) ++ lines-from (r .height) (r .width) (r .layouts) buffer′ (r .layouts) 0
+  unfoldable pub all-bytes : List ℕ
+  all-bytes = take (r .length) (r .bytes) ++ line-bytes line (r .layouts) 0
 
+  same-lines : (more k : ℕ) → line-bytes line more k ≡ lines-from (r .height) (r .width) (r .layouts) buffer′ more k
+  unfolding line-bytes lines-from
+  same-lines zero k = refl
+  same-lines (suc more) k = rw (text-of-bytes (lined k), same-lines more (k + 1)) refl
+
+  -- for every file and every buffer
   pub whole : all-bytes ≡ file-text (length buffer) file
-  unfolding file-text
-  whole = rw (text-of-bytes (headed .text), headed .height, headed .width, headed .layouts, headed .after) (reading-whole (length buffer) (read file) (read-sound file) buffer)
+  unfolding all-bytes file-text
+  whole = rw (same-lines (r .layouts) 0, text-of-bytes (headed .text), headed .height, headed .width, headed .layouts, headed .after) (reading-whole (length buffer) (read file) (read-sound file) buffer)
 
--- what `routes` prints, for every standard input: it hands over the first 4,096 bytes and lends 61,504
-pub routes-whole : (input buffer : List ℕ) (r : Heading) (buffer′ : List ℕ) (headed : Headed (take 4096 input) buffer r buffer′)
-    → length buffer ≡ routes-room → all-bytes (take 4096 input) buffer r buffer′ headed ≡ routes-text input
-unfolding routes-text printed file-text routes-found found-within
-routes-whole input buffer r buffer′ headed room = whole (take 4096 input) buffer r buffer′ headed ∙ ap (λ (n : ℕ). reading-text (found-within n) (read (take 4096 input))) room
+  -- for a buffer of 61,504 bytes: what `routes` prints for a file, however long
+  pub whole-file : length buffer ≡ routes-room → all-bytes ≡ routes-text file
+  unfolding file-text
+  whole-file room = whole ∙ ap (λ (n : ℕ). file-text n file) room ∙ ap (λ (reading : Reading). reading-text (found-within routes-room) reading) (sym (first-bytes-suffice file)) ∙ room-of-routes file
+
+-- WHAT `routes` PRINTS, for every standard input: it hands over the first 4,096 bytes and lends 61,504
+module _ (input buffer : List ℕ) (r : Heading) (buffer′ : List ℕ) (headed : Headed (take 4096 input) buffer r buffer′)
+    (line : ℕ → LayoutLine) (lined : (k : ℕ) → Lined buffer′ (r .height) (r .width) (r .layouts) k (line k)) where
+  pub routes-whole : length buffer ≡ routes-room → all-bytes (take 4096 input) buffer r buffer′ headed line lined ≡ routes-text input
+  unfolding file-text
+  routes-whole room = whole (take 4096 input) buffer r buffer′ headed line lined ∙ ap (λ (n : ℕ). file-text n (take 4096 input)) room ∙ room-of-routes input

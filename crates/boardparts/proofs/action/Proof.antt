@@ -11,11 +11,11 @@ use Rattle.boardparts.proofs.undecided_around.Reads as undecided-around
 
 -- src/lib.rt:323:9
 undecided-around-requires : tie.Need-undecided-around-requires
-undecided-around-requires c κs = search needs
+undecided-around-requires c κs = (c .pre .0, c .pre .1, c .pre .2)
 
 -- src/lib.rt:324:9
 degree-around-requires : tie.Need-degree-around-requires
-degree-around-requires c κs = search needs
+degree-around-requires c κs = (c .before .pre .0, c .before .pre .1, c .before .pre .2)
 
 -- src/lib.rt:326:9
 returns : tie.Need-returns

@@ -4,7 +4,7 @@ use native.Mathlib.Omega.{arith}
 use borrow.Author.Needs.{needs}
 use lib.ListN.{length}
 use Rattle.listing.specs.BufferRecords.{no-line, some-line, line-by-parts}
-use Rattle.listing.proofs.HeadLaws.{nothing-written, layout-written}
+use Rattle.listing.proofs.TextLaws.{nothing-written, layout-written}
 use Rattle.listing.proofs.line.Statement.{statement}
 use Rattle.listing.proofs.line.Tie as tie
 

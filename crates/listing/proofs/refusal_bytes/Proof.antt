@@ -5,7 +5,7 @@ use mathlib.Core.List.{_++_}
 use native.Mathlib.Omega.{arith}
 use lib.ListN.{length, take}
 use Rattle.printed.specs.Written.{zeros}
-use Rattle.listing.proofs.HeadLaws.{nothing-copied, one-copied, all-copied}
+use Rattle.listing.proofs.TextLaws.{nothing-copied, one-copied, all-copied}
 use Rattle.listing.proofs.refusal_bytes.Statement.{statement}
 use Rattle.listing.proofs.refusal_bytes.Tie as tie
 

@@ -1,7 +1,7 @@
 -- `listing::refused` meets its contract: the line of the refusal, in the longer array. Assumes nothing.
 use mathlib.Core.Path.{refl}
 use borrow.Author.Needs.{needs}
-use Rattle.listing.proofs.HeadLaws.{refusal-written}
+use Rattle.listing.proofs.TextLaws.{refusal-written}
 use Rattle.listing.proofs.refused.Statement.{statement}
 use Rattle.listing.proofs.refused.Tie as tie
 

@@ -1,12 +1,12 @@
--- Laws of the head: a refused file's line in the array of a summary line, and what the head of an accepted file is. They rest on the
--- model and on what `solve` says of its answer.
+-- Laws of texts in arrays: a refused file's line goes from its array of 54 bytes into one of 67, and a text may be said in other words.
+-- Assumes nothing.
 use Prim.Native.Nat.{ℕ, zero, suc, _+_, _-_, _≤_, _<_}
 use mathlib.Core.Path.{_≡_, refl, sym, ap, _∙_}
 use mathlib.Core.List.{List, [], _∷_, _++_, append-assoc}
 use native.Mathlib.Nat.{zero-add, suc-add}
 use native.Mathlib.Numerals.{add-one}
 use native.Mathlib.Omega.{arith}
-use lib.ListN.{length, take, drop, set, getD, length-append, length-replicate}
+use lib.ListN.{length, take, set, getD, length-append}
 use lib.Seq.{set-at, take-suc, take-all, length-take-le}
 use Rattle.printed.specs.Written.{zeros, Written}
 
@@ -48,7 +48,7 @@ refusal-written {text} {line} {bytes} {long} w size same =
     rest : 54 - length text + 13 ≡ 67 - length text
     rest = omega (arith, w .fits, w .its-length)
 
--- ## A line
+-- ## A layout's line
 
 pub nothing-written : (text : List ℕ) → text ≡ [] → Written 299 text (zeros 299) 0
 nothing-written text e = rw e (record { all-bytes = refl; its-length = refl; fits = omega arith })

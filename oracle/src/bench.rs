@@ -1,0 +1,94 @@
+// The library and the reference side by side: processor time of one search
+// with the limit and room of `routes`, best of five, the two taken in turn, a
+// short search repeated until it takes 0.2 seconds; as a table in Markdown.
+
+use crate::answers::{limited, Pads};
+use crate::grids::{LIMIT, ROOM};
+use crate::library;
+use crate::routes::read;
+use crate::time::seconds_each;
+use std::hint::black_box;
+
+struct Row {
+    name: String,
+    visited: u64,
+    reference: f64,
+    library: f64,
+}
+
+/// One search by the library; the visited boards.
+fn by_library(pads: &Pads, buffer: &mut [u8]) -> u64 {
+    let mut answer = [0; 6];
+    library::solve(
+        (pads.height, pads.width),
+        &pads.cells,
+        LIMIT,
+        buffer,
+        &mut answer,
+    );
+    answer[4]
+}
+
+fn measure(name: &str, pads: &Pads) -> Row {
+    let mut buffer = vec![0; ROOM];
+    let visited = limited(pads, LIMIT, ROOM).visited;
+    assert_eq!(
+        visited,
+        by_library(pads, &mut buffer),
+        "visited boards of {name}"
+    );
+    let mut row = Row {
+        name: name.to_string(),
+        visited,
+        reference: f64::INFINITY,
+        library: f64::INFINITY,
+    };
+    for _ in 0..5 {
+        let reference = seconds_each(|| {
+            black_box(limited(black_box(pads), LIMIT, ROOM));
+        });
+        let library = seconds_each(|| {
+            black_box(by_library(black_box(pads), &mut buffer));
+        });
+        row.reference = row.reference.min(reference);
+        row.library = row.library.min(library);
+    }
+    row
+}
+
+fn print_row(row: &Row) {
+    let each = |seconds: f64| seconds * 1e9 / row.visited as f64;
+    println!(
+        "| {} | {} | {:.0} | {:.0} | {:.2} |",
+        row.name,
+        row.visited,
+        each(row.reference),
+        each(row.library),
+        row.library / row.reference
+    );
+}
+
+/// A row for each file, and one for the sum of the times.
+pub fn print_table(files: &[(&str, Vec<u8>)]) {
+    println!("| grid | visited boards | Rust, ns for each | ours, ns for each | ratio |");
+    println!("|---|---|---|---|---|");
+    let mut total = Row {
+        name: "all".to_string(),
+        visited: 0,
+        reference: 0.0,
+        library: 0.0,
+    };
+    for (file, bytes) in files {
+        let name = file.rsplit('/').next().unwrap_or(file);
+        let name = name.strip_suffix(".csv").unwrap_or(name);
+        let Ok(pads) = read(bytes) else {
+            panic!("{file} is refused");
+        };
+        let row = measure(name, &pads);
+        print_row(&row);
+        total.visited += row.visited;
+        total.reference += row.reference;
+        total.library += row.library;
+    }
+    print_row(&total);
+}

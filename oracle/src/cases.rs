@@ -1,0 +1,192 @@
+// A case of the comparison: one call of the library with all that is lent to
+// it. It is written as one line of text, so that it can be replayed:
+//   board H,W CELLS LENT CALL;CALL;..   calls: fresh, decide ROW COLUMN STATE,
+//                                       read ROW COLUMN, checkpoint, undo
+//   search H,W CELLS LENT LIMIT ROOM
+//   record H,W LENT COUNT K ROOM
+//   file LENT CELLS-LENT HEXADECIMAL
+// CELLS are numbers parted by commas. LENT is the length of the slice that is
+// lent for the answer; `-` stands for an empty list.
+
+use std::fmt::Write;
+
+#[derive(Clone, Copy, Debug, PartialEq, Eq)]
+pub enum Asked {
+    Fresh,
+    Decide(u64, u64, u64),
+    Read(u64, u64),
+    Checkpoint,
+    Undo,
+}
+
+/// Any numbers: a grid that may be one that is declined.
+#[derive(Clone, Debug, PartialEq, Eq)]
+pub struct Given {
+    pub size: (usize, usize),
+    pub cells: Vec<i32>,
+}
+
+#[derive(Clone, Debug, PartialEq, Eq)]
+pub enum Case {
+    Board {
+        grid: Given,
+        lent: usize,
+        calls: Vec<Asked>,
+    },
+    Search {
+        grid: Given,
+        lent: usize,
+        limit: u64,
+        room: usize,
+    },
+    Record {
+        size: (usize, usize),
+        lent: usize,
+        count: usize,
+        k: usize,
+        room: usize,
+    },
+    File {
+        lent: usize,
+        cells_lent: usize,
+        bytes: Vec<u8>,
+    },
+}
+
+fn listed<T: ToString>(items: &[T], between: &str) -> String {
+    if items.is_empty() {
+        return "-".to_string();
+    }
+    let texts: Vec<String> = items.iter().map(|item| item.to_string()).collect();
+    texts.join(between)
+}
+
+impl std::fmt::Display for Asked {
+    fn fmt(&self, out: &mut std::fmt::Formatter<'_>) -> std::fmt::Result {
+        match self {
+            Asked::Fresh => write!(out, "fresh"),
+            Asked::Decide(row, column, state) => write!(out, "decide {row} {column} {state}"),
+            Asked::Read(row, column) => write!(out, "read {row} {column}"),
+            Asked::Checkpoint => write!(out, "checkpoint"),
+            Asked::Undo => write!(out, "undo"),
+        }
+    }
+}
+
+impl std::fmt::Display for Given {
+    fn fmt(&self, out: &mut std::fmt::Formatter<'_>) -> std::fmt::Result {
+        let (height, width) = self.size;
+        write!(out, "{height},{width} {}", listed(&self.cells, ","))
+    }
+}
+
+impl std::fmt::Display for Case {
+    fn fmt(&self, out: &mut std::fmt::Formatter<'_>) -> std::fmt::Result {
+        match self {
+            Case::Board { grid, lent, calls } => {
+                write!(out, "board {grid} {lent} {}", listed(calls, ";"))
+            }
+            Case::Search {
+                grid,
+                lent,
+                limit,
+                room,
+            } => write!(out, "search {grid} {lent} {limit} {room}"),
+            Case::Record {
+                size: (height, width),
+                lent,
+                count,
+                k,
+                room,
+            } => write!(out, "record {height},{width} {lent} {count} {k} {room}"),
+            Case::File {
+                lent,
+                cells_lent,
+                bytes,
+            } => {
+                let mut text = String::new();
+                for byte in bytes {
+                    write!(text, "{byte:02x}")?;
+                }
+                write!(out, "file {lent} {cells_lent} {text}")
+            }
+        }
+    }
+}
+
+fn number<T: std::str::FromStr>(text: &str) -> T {
+    let Ok(number) = text.parse() else {
+        panic!("no number: {text}");
+    };
+    number
+}
+
+fn numbers<T: std::str::FromStr>(text: &str) -> Vec<T> {
+    if text == "-" {
+        return Vec::new();
+    }
+    text.split(',').map(number).collect()
+}
+
+fn read_size(text: &str) -> (usize, usize) {
+    let (height, width) = text.split_once(',').expect("H,W");
+    (number(height), number(width))
+}
+
+fn read_asked(text: &str) -> Asked {
+    let words: Vec<&str> = text.split_whitespace().collect();
+    match words.as_slice() {
+        ["fresh"] => Asked::Fresh,
+        ["decide", row, column, state] => Asked::Decide(number(row), number(column), number(state)),
+        ["read", row, column] => Asked::Read(number(row), number(column)),
+        ["checkpoint"] => Asked::Checkpoint,
+        ["undo"] => Asked::Undo,
+        _ => panic!("no such call: {text}"),
+    }
+}
+
+fn read_hexadecimal(text: &str) -> Vec<u8> {
+    (0..text.len() / 2)
+        .map(|at| u8::from_str_radix(&text[2 * at..2 * at + 2], 16).expect("hexadecimal"))
+        .collect()
+}
+
+pub fn read_case(text: &str) -> Case {
+    let words: Vec<&str> = text.split_whitespace().collect();
+    let grid = || Given {
+        size: read_size(words[1]),
+        cells: numbers(words[2]),
+    };
+    match words[0] {
+        "board" => {
+            let calls = words[4..].join(" ");
+            let asked = calls.split(';').filter(|call| *call != "-");
+            Case::Board {
+                grid: grid(),
+                lent: number(words[3]),
+                calls: asked.map(read_asked).collect(),
+            }
+        }
+        "search" => Case::Search {
+            grid: grid(),
+            lent: number(words[3]),
+            limit: number(words[4]),
+            room: number(words[5]),
+        },
+        "record" => Case::Record {
+            size: read_size(words[1]),
+            lent: number(words[2]),
+            count: number(words[3]),
+            k: number(words[4]),
+            room: number(words[5]),
+        },
+        "file" => Case::File {
+            lent: number(words[1]),
+            cells_lent: number(words[2]),
+            bytes: words
+                .get(3)
+                .map_or(Vec::new(), |text| read_hexadecimal(text)),
+        },
+        word => panic!("no such case: {word}"),
+    }
+}

@@ -1,0 +1,346 @@
+// Cases chosen at random: sequences of board calls on all sizes with declined
+// calls between them, searches with limits and rooms, records, and damaged
+// copies of good files.
+
+use crate::answers::{Call, Pads, LINE, NONE};
+use crate::calls::grids_and_calls;
+use crate::cases::{Asked, Case, Given};
+use crate::expected::board_room;
+use crate::random::{any_pads, any_plan, wired_pads, Chooser, Random, LARGEST_CODE};
+use crate::sequences::checkpoint_calls;
+
+fn given(pads: &Pads) -> Given {
+    Given {
+        size: (pads.height, pads.width),
+        cells: pads.cells.clone(),
+    }
+}
+
+/// All sizes in turn.
+pub fn size_of(number: usize) -> (usize, usize) {
+    (2 + number / 15 % 15, 2 + number % 15)
+}
+
+/// A length that mostly suffices, sometimes with more, sometimes too short.
+fn any_lent(random: &mut Random, needed: usize) -> usize {
+    match random.below(50) {
+        0 => needed.saturating_sub(1),
+        1 => random.below(needed + 1),
+        2..=9 => needed + 1 + random.below(3),
+        _ => needed,
+    }
+}
+
+/// A grid that is mostly declined.
+fn odd_grid(random: &mut Random) -> Given {
+    let (height, width) = (2 + random.below(15), 2 + random.below(15));
+    let mut grid = given(&any_pads(random, height, width));
+    let pads = height * width;
+    let odd_size = random.choose(&[0, 1, 2, 16, 17, 18, 255, 258, 1 << 32, usize::MAX]);
+    match random.below(8) {
+        0 => grid.size.0 = odd_size,
+        1 => grid.size.1 = odd_size,
+        2 => grid.cells.truncate(random.below(pads)),
+        3 => grid.cells.resize(pads + 1 + random.below(3), -1),
+        4 => grid.cells.resize(random.choose(&[0, 256, 257]), 0),
+        _ => {
+            for _ in 0..1 + random.below(3) {
+                let bad = random.choose(&[-2, -3, i32::MIN, i32::MIN + 1, i32::MAX]);
+                grid.cells[random.below(pads)] = bad;
+            }
+        }
+    }
+    grid
+}
+
+fn asked(call: Call) -> Asked {
+    match call {
+        Call::Decide(row, column, state) => Asked::Decide(row as u64, column as u64, state as u64),
+        Call::Read(row, column) => Asked::Read(row as u64, column as u64),
+        Call::Checkpoint => Asked::Checkpoint,
+        Call::Undo => Asked::Undo,
+    }
+}
+
+/// A call that is mostly declined: no such place, or no such state.
+fn odd_call(random: &mut Random, (height, width): (usize, usize)) -> Asked {
+    let far = random.choose(&[
+        31,
+        32,
+        33,
+        255,
+        256,
+        1 << 32,
+        1 << 63,
+        u64::MAX - 1,
+        u64::MAX,
+    ]);
+    let (rows, columns) = (2 * height as u64 - 1, 2 * width as u64 - 1);
+    let row = random.next() % rows;
+    let column = random.next() % columns;
+    let state = random.choose(&[1, 2]);
+    let odd_state = random.choose(&[0, 3, 255, 256, 257, 258, 1 << 32, u64::MAX]);
+    let (row, column, state) = match random.below(7) {
+        0 => (row, row % 2, state),
+        1 => (rows, column, state),
+        2 => (row, columns, state),
+        3 => (far, column, state),
+        4 => (row, far, state),
+        5 => (rows + 1, columns + random.next() % 3, odd_state),
+        _ => (row, (row + 1) % 2, odd_state),
+    };
+    if random.chance(30) {
+        Asked::Read(row, column)
+    } else {
+        Asked::Decide(row, column, state)
+    }
+}
+
+/// The calls with declined ones between them, and now and then a fresh board.
+fn with_odd_calls(random: &mut Random, size: (usize, usize), calls: &[Call]) -> Vec<Asked> {
+    let mut found = vec![Asked::Fresh];
+    for call in calls {
+        if random.chance(6) {
+            found.push(odd_call(random, size));
+        }
+        found.push(asked(*call));
+        if random.below(400) == 0 {
+            found.push(Asked::Fresh);
+        }
+    }
+    found
+}
+
+/// Half of the sequences go on after the flag is set; some agree with a
+/// layout for a while; some have 256 checkpoints and more.
+fn board_calls(random: &mut Random, pads: &Pads, number: usize) -> Vec<Call> {
+    if number % 400 == 399 {
+        return checkpoint_calls(random, pads);
+    }
+    let mut plan = any_plan(random, if number % 2 == 0 { 0 } else { 6 });
+    plan.calls += random.below(60);
+    let mut chooser = Chooser::new(random, pads);
+    if number % 60 == 0 {
+        chooser.follow_layout(pads, plan.calls / 2);
+    }
+    chooser.follow(plan);
+    chooser.calls
+}
+
+/// The sequences of the two texts show slips that random calls seldom show.
+pub fn known_sequences() -> Vec<(Pads, Vec<Call>)> {
+    let mut known = grids_and_calls(include_str!("../dozen.txt"));
+    known.extend(grids_and_calls(include_str!("../rare.txt")));
+    known
+}
+
+/// A known sequence with a few pads and calls changed.
+pub fn varied_case(random: &mut Random, known: &[(Pads, Vec<Call>)]) -> Case {
+    let (mut pads, mut calls) = known[random.below(known.len())].clone();
+    for _ in 0..random.below(5) {
+        let at = random.below(calls.len());
+        let pad = random.below(pads.cells.len());
+        let row = random.below(2 * pads.height - 1);
+        let column = 2 * random.below(pads.width) + 1 - row % 2;
+        let any = Call::Decide(
+            row,
+            column % (2 * pads.width - 1),
+            random.choose(&[LINE, NONE]),
+        );
+        match random.below(6) {
+            0 => pads.cells[pad] = -1,
+            1 => pads.cells[pad] = random.below(4) as i32,
+            2 if calls.len() > 1 => {
+                calls.remove(at);
+            }
+            3 => calls.insert(at, random.choose(&[Call::Checkpoint, Call::Undo])),
+            4 => calls[at] = any,
+            _ => calls.insert(at, any),
+        }
+    }
+    let calls = with_odd_calls(random, (pads.height, pads.width), &calls);
+    let grid = given(&pads);
+    let lent = any_lent(random, board_room(&grid, calls.len()));
+    Case::Board { grid, lent, calls }
+}
+
+pub fn board_case(random: &mut Random, number: usize) -> Case {
+    if random.chance(1) {
+        let grid = odd_grid(random);
+        let calls: Vec<Asked> = (0..20).map(|_| odd_call(random, (2, 2))).collect();
+        let calls = [vec![Asked::Fresh, Asked::Checkpoint], calls].concat();
+        let lent = any_lent(random, board_room(&grid, calls.len()));
+        return Case::Board { grid, lent, calls };
+    }
+    let (height, width) = size_of(number);
+    let pads = any_pads(random, height, width);
+    let calls = board_calls(random, &pads, number);
+    let mut calls = with_odd_calls(random, (height, width), &calls);
+    if number % 400 == 399 {
+        for at in [300, 280, 260] {
+            calls.insert(at, Asked::Checkpoint);
+        }
+    }
+    let grid = given(&pads);
+    let lent = any_lent(random, board_room(&grid, calls.len()));
+    Case::Board { grid, lent, calls }
+}
+
+/// A grid for a search; every second one has a layout.
+pub fn search_pads(random: &mut Random, number: usize) -> Pads {
+    let (height, width) = if number % 3 == 0 {
+        (2 + random.below(5), 2 + random.below(5))
+    } else {
+        size_of(number)
+    };
+    if number % 2 == 0 {
+        wired_pads(random, height, width)
+    } else {
+        any_pads(random, height, width)
+    }
+}
+
+pub fn search_case(random: &mut Random, pads: &Pads, limit: u64, room: usize) -> Case {
+    Case::Search {
+        grid: given(pads),
+        lent: any_lent(random, 6),
+        limit,
+        room,
+    }
+}
+
+pub fn declined_search(random: &mut Random) -> Case {
+    let limit = random.choose(&[0, 1, 1000, u64::MAX]);
+    Case::Search {
+        grid: odd_grid(random),
+        lent: any_lent(random, 6),
+        limit: limit.min(1000),
+        room: random.below(2000),
+    }
+}
+
+pub fn record_case(random: &mut Random) -> Case {
+    let odd = random.choose(&[0, 1, 17, 1 << 60, usize::MAX]);
+    let (mut height, mut width) = (2 + random.below(15), 2 + random.below(15));
+    let length = (2 * height - 1) * (2 * width - 1);
+    let k = random.choose(&[0, 1, 2, 3, 7, 63, 64, 1 << 58, usize::MAX]);
+    let count = random.choose(&[k, k.saturating_add(1), k.saturating_sub(1), 5, usize::MAX]);
+    let room = length.saturating_mul(k.saturating_add(1)).min(61504);
+    let room = random.choose(&[room, room.saturating_sub(1), room + 1, room + length, 0]);
+    match random.below(12) {
+        0 => height = odd,
+        1 => width = odd,
+        _ => {}
+    }
+    Case::Record {
+        size: (height, width),
+        lent: any_lent(random, 2),
+        count,
+        k,
+        room,
+    }
+}
+
+/// A file of the grid, with leading zeros here and there.
+fn file_text(random: &mut Random, pads: &Pads) -> Vec<u8> {
+    let zeros = random.choose(&[1, 1, 2, 3, 10]);
+    let mut text = format!("{},{}\n", pads.height, pads.width);
+    for (index, cell) in pads.cells.iter().enumerate() {
+        match *cell {
+            -1 => {}
+            code if random.chance(20) => text += &format!("{code:0zeros$}"),
+            code if random.chance(5) => text += &(code ^ random.below(1 << 20) as i32).to_string(),
+            code => text += &code.to_string(),
+        }
+        let last = (index + 1) % pads.width == 0;
+        text.push(if last { '\n' } else { ',' });
+    }
+    text.into_bytes()
+}
+
+const FIELDS: [&str; 20] = [
+    "",
+    "0",
+    "007",
+    "1O",
+    "O1",
+    "1",
+    "2",
+    "16",
+    "17",
+    "02",
+    "0000000016",
+    "00000000002",
+    "-1",
+    "2147483646",
+    "2147483647",
+    "9999999999",
+    "4294967298",
+    "12345678901",
+    " 5",
+    "\"5\"",
+];
+
+/// One of the file's fields replaced; the header's as often as all others.
+fn replace_field(random: &mut Random, file: &mut Vec<u8>) {
+    let is_end = |byte: &u8| *byte == b',' || *byte == b'\n';
+    let ends: Vec<usize> = (0..file.len()).filter(|at| is_end(&file[*at])).collect();
+    if ends.is_empty() {
+        return;
+    }
+    let which = if random.chance(50) {
+        random.below(2.min(ends.len()))
+    } else {
+        random.below(ends.len())
+    };
+    let start = if which == 0 { 0 } else { ends[which - 1] + 1 };
+    let field = random.choose(&FIELDS);
+    file.splice(start..ends[which], field.bytes());
+}
+
+fn damage(random: &mut Random, file: &mut Vec<u8>) {
+    let at = random.below(file.len() + 1);
+    let byte = random.choose(b"0123456789,,,\n\n\nOl \r\t-\"#\0\xff/:");
+    match random.below(9) {
+        0 => file.truncate(at),
+        1 => file.insert(at, byte),
+        2 => file.push(byte),
+        3 if at < file.len() => file[at] = byte,
+        4 if at < file.len() => file[at] = random.below(256) as u8,
+        5 if at < file.len() => {
+            file.remove(at);
+        }
+        6 if !file.is_empty() => {
+            file.pop();
+        }
+        7 => {
+            let end = (at + random.below(12)).min(file.len());
+            let part = file[at..end].to_vec();
+            file.splice(at..at, part);
+        }
+        _ => replace_field(random, file),
+    }
+}
+
+pub fn file_case(random: &mut Random) -> Case {
+    let (height, width) = if random.chance(70) {
+        (2 + random.below(3), 2 + random.below(3))
+    } else {
+        (2 + random.below(15), 2 + random.below(15))
+    };
+    let mut pads = any_pads(random, height, width);
+    if random.chance(20) {
+        for cell in pads.cells.iter_mut() {
+            *cell = LARGEST_CODE - random.below(3) as i32;
+        }
+    }
+    let mut bytes = file_text(random, &pads);
+    for _ in 0..random.choose(&[0, 1, 1, 1, 1, 2, 3]) {
+        damage(random, &mut bytes);
+    }
+    Case::File {
+        lent: any_lent(random, 5),
+        cells_lent: any_lent(random, 256),
+        bytes,
+    }
+}

@@ -1,0 +1,250 @@
+// Compares the proved library with the reference: board calls, searches,
+// records and files, chosen by a seed, until the time or the counts are
+// reached. The first case that differs is made smaller and printed.
+
+use crate::answers::{limited, whole, Call, Pads, Run};
+use crate::cases::{read_case, Case};
+use crate::chosen::{
+    board_case, declined_search, file_case, known_sequences, record_case, search_case, search_pads,
+    varied_case,
+};
+use crate::expected::{by_library, expected, search_answer, Answer};
+use crate::grids::{check_beginning, runs_of};
+use crate::random::Random;
+use crate::smallest::smallest;
+use std::time::{Duration, Instant};
+
+/// How far the comparison goes, and how far it has come.
+#[derive(Clone, Copy, Default)]
+pub struct Counts {
+    pub calls: usize,
+    pub searches: usize,
+    pub files: usize,
+}
+
+/// Each kind of case has numbers of its own, so that a seed gives the same
+/// cases however long the others take.
+struct Comparison {
+    boards: Random,
+    grid_numbers: Random,
+    declined: Random,
+    file_numbers: Random,
+    known: Vec<(Pads, Vec<Call>)>,
+    done: Counts,
+    whole_searches: usize,
+    records: usize,
+    sequences: usize,
+    grids: usize,
+    visited: u64,
+    started: Instant,
+    shown: Instant,
+}
+
+impl Comparison {
+    fn new(seed: u64) -> Self {
+        Comparison {
+            boards: Random::new(seed),
+            grid_numbers: Random::new(seed.wrapping_add(1 << 32)),
+            declined: Random::new(seed.wrapping_add(2 << 32)),
+            file_numbers: Random::new(seed.wrapping_add(3 << 32)),
+            known: known_sequences(),
+            done: Counts::default(),
+            whole_searches: 0,
+            records: 0,
+            sequences: 0,
+            grids: 0,
+            visited: 0,
+            started: Instant::now(),
+            shown: Instant::now(),
+        }
+    }
+
+    fn figures(&self) -> String {
+        format!(
+            "{:.0} s: {} board calls in {} sequences; {} searches ({} of them whole, against solve), {} visited boards; {} records; {} files",
+            self.started.elapsed().as_secs_f64(),
+            self.done.calls,
+            self.sequences,
+            self.done.searches,
+            self.whole_searches,
+            self.visited,
+            self.records,
+            self.done.files
+        )
+    }
+
+    fn show_progress(&mut self) {
+        if self.shown.elapsed() > Duration::from_secs(2) {
+            eprintln!("{}", self.figures());
+            self.shown = Instant::now();
+        }
+    }
+
+    /// Ends the program where the library differs.
+    fn hold(&self, case: &Case, answer: &Answer) {
+        let found = by_library(case);
+        if found != *answer {
+            println!("{}", self.figures());
+            report(case);
+            std::process::exit(1);
+        }
+    }
+
+    fn compare_board(&mut self) {
+        let case = if self.sequences % 4 == 3 {
+            varied_case(&mut self.boards, &self.known)
+        } else {
+            board_case(&mut self.boards, self.sequences)
+        };
+        self.hold(&case, &expected(&case));
+        self.sequences += 1;
+        if let Case::Board { calls, .. } = case {
+            self.done.calls += calls.len();
+        }
+    }
+
+    fn compare_run(&mut self, pads: &Pads, run: &Run, limit: u64, room: usize) {
+        let case = search_case(&mut self.grid_numbers, pads, limit, room);
+        if let Case::Search { lent, .. } = case {
+            self.hold(&case, &search_answer((0, 0), run, lent, room));
+        }
+        self.done.searches += 1;
+        self.visited += run.visited;
+    }
+
+    /// The whole list against `solve`, and runs that are beginnings of it; a
+    /// grid whose search does not end in reasonable time only with a limit.
+    fn compare_search(&mut self) {
+        let reasonable = if self.grids % 100 == 0 { 100000 } else { 2000 };
+        let pads = search_pads(&mut self.grid_numbers, self.grids);
+        self.grids += 1;
+        let probe = limited(&pads, reasonable, usize::MAX);
+        if probe.outcome != 0 {
+            let room = self.grid_numbers.below(20000);
+            let limit = self.grid_numbers.below(reasonable as usize) as u64;
+            return self.compare_run(&pads, &limited(&pads, limit, room), limit, room);
+        }
+        let all = whole(&pads);
+        assert!(probe == all, "backtrack written again differs: {pads:?}");
+        let length = pads.record_length();
+        let room = all.bytes.len() + self.grid_numbers.below(2 * length);
+        self.compare_run(&pads, &all, all.visited, room);
+        self.compare_run(&pads, &all, u64::MAX, all.bytes.len());
+        self.whole_searches += 2;
+        for (limit, room) in runs_of(&mut self.grid_numbers, &all, length, self.grids) {
+            let run = limited(&pads, limit, room);
+            check_beginning(&all, &run, limit, room, length);
+            self.compare_run(&pads, &run, limit, room);
+        }
+    }
+
+    fn compare_declined(&mut self) {
+        let case = declined_search(&mut self.declined);
+        self.hold(&case, &expected(&case));
+        self.done.searches += 1;
+        for _ in 0..5 {
+            let case = record_case(&mut self.declined);
+            self.hold(&case, &expected(&case));
+            self.records += 1;
+        }
+    }
+
+    fn compare_file(&mut self) {
+        let case = file_case(&mut self.file_numbers);
+        self.hold(&case, &expected(&case));
+        self.done.files += 1;
+    }
+
+    /// Cases of one kind for a twentieth of a second.
+    fn turn(&mut self, compare: fn(&mut Comparison)) {
+        let start = Instant::now();
+        while start.elapsed() < Duration::from_millis(50) {
+            compare(self);
+        }
+    }
+}
+
+/// The case, made as small as can be, and where the answers differ.
+fn report(case: &Case) {
+    println!("DIFFERENT, as first found:\n  {case}");
+    let small = smallest(case);
+    println!("the smallest found:\n  {small}");
+    println!("to replay it: oracle case '{small}'");
+    show(&small);
+}
+
+/// Prints what a case must give and what the library gives.
+fn show(case: &Case) -> bool {
+    let (wanted, found) = (expected(case), by_library(case));
+    println!(
+        "returned: {} wanted, {} found",
+        wanted.returned, found.returned
+    );
+    let signed = |answer: &Answer| answer.signed.iter().map(|n| *n as i128).collect();
+    let numbers = |answer: &Answer| answer.numbers.iter().map(|n| *n as i128).collect();
+    let cells = |answer: &Answer| answer.cells.iter().map(|n| *n as i128).collect();
+    let bytes = |answer: &Answer| answer.bytes.iter().map(|n| *n as i128).collect();
+    show_first("answers", signed(&wanted), signed(&found));
+    show_first("answer", numbers(&wanted), numbers(&found));
+    show_first("cells", cells(&wanted), cells(&found));
+    show_first("buffer", bytes(&wanted), bytes(&found));
+    let same = wanted == found;
+    println!("{}", if same { "no difference" } else { "DIFFERENT" });
+    same
+}
+
+fn show_first(name: &str, wanted: Vec<i128>, found: Vec<i128>) {
+    let differs = (0..wanted.len()).find(|at| wanted[*at] != found[*at]);
+    if let Some(at) = differs {
+        println!("{name}[{at}]: {} wanted, {} found", wanted[at], found[at]);
+    }
+}
+
+/// Replays one case that was printed; true where nothing differs.
+pub fn replay_case(text: &str) -> bool {
+    show(&read_case(text))
+}
+
+/// Compares for so many seconds, a third of the time on each kind.
+pub fn compare_for(seconds: u64, seed: u64) {
+    println!("seed {seed}");
+    let mut comparison = Comparison::new(seed);
+    let end = Instant::now() + Duration::from_secs(seconds);
+    while Instant::now() < end {
+        comparison.turn(|comparison| comparison.compare_board());
+        comparison.turn(|comparison| comparison.compare_search());
+        comparison.turn(|comparison| comparison.compare_file());
+        comparison.compare_declined();
+        comparison.show_progress();
+    }
+    println!("{}; no difference", comparison.figures());
+}
+
+/// Compares until so many board calls, searches and files are done.
+pub fn compare_counts(wanted: Counts, seed: u64) {
+    println!("seed {seed}");
+    let mut comparison = Comparison::new(seed);
+    loop {
+        let left = |done, wanted| done < wanted;
+        let more_calls = left(comparison.done.calls, wanted.calls);
+        let more_searches = left(comparison.done.searches, wanted.searches);
+        let more_files = left(comparison.done.files, wanted.files);
+        if !(more_calls || more_searches || more_files) {
+            break;
+        }
+        for _ in 0..10 {
+            if more_calls {
+                comparison.compare_board();
+            }
+            if more_searches {
+                comparison.compare_search();
+            }
+            if more_files {
+                comparison.compare_file();
+            }
+        }
+        comparison.compare_declined();
+        comparison.show_progress();
+    }
+    println!("{}; no difference", comparison.figures());
+}

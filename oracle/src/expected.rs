@@ -1,0 +1,308 @@
+// What a case must give: by the reference where the call is accepted, by the
+// numbers of document 01 where it is declined, and for a file by the reader
+// of routes.rs. And what the library gives for the same case.
+
+use crate::answers::{limited, make_call, read_state, whole, Call, Pads, Run, State};
+use crate::cases::{Asked, Case, Given};
+use crate::{library, routes};
+use reference::board::Board;
+
+/// What fills each lent slice before a call, so that a stray store shows.
+pub const FILL: u8 = 7;
+
+const LARGEST_CODE: i32 = 2147483646;
+const MOST_CHECKPOINTS: usize = 256;
+
+/// What the call returned, and every lent number and byte after it.
+#[derive(Clone, Debug, Default, PartialEq, Eq)]
+pub struct Answer {
+    pub returned: usize,
+    pub numbers: Vec<u64>,
+    pub signed: Vec<i64>,
+    pub cells: Vec<i32>,
+    pub bytes: Vec<u8>,
+}
+
+/// The refusals 7, 8 and 9 of a grid, with the index of the first bad cell.
+pub fn grid_refusal(grid: &Given) -> (u64, u64) {
+    let (height, width) = grid.size;
+    if !(2..=16).contains(&height) || !(2..=16).contains(&width) {
+        return (7, 0);
+    }
+    if grid.cells.len() != height * width {
+        return (8, 0);
+    }
+    let bad = |cell: &i32| *cell < -1 || *cell > LARGEST_CODE;
+    grid.cells
+        .iter()
+        .position(bad)
+        .map_or((0, 0), |index| (9, index as u64))
+}
+
+/// The grid of a board: the given one, or 2 by 2 blank where it is declined.
+fn board_pads(grid: &Given) -> Pads {
+    if grid_refusal(grid) != (0, 0) {
+        return Pads {
+            height: 2,
+            width: 2,
+            cells: vec![-1; 4],
+        };
+    }
+    Pads {
+        height: grid.size.0,
+        width: grid.size.1,
+        cells: grid.cells.clone(),
+    }
+}
+
+/// The numbers that the calls of a board case write.
+pub fn board_room(grid: &Given, calls: usize) -> usize {
+    let pads = board_pads(grid);
+    calls * (3 + pads.record_length() + pads.cells.len())
+}
+
+/// A board of the reference with the refusals of document 01.
+struct Guarded {
+    refusal: (u64, u64),
+    pads: Pads,
+    board: Board,
+    standing: usize,
+}
+
+impl Guarded {
+    fn new(grid: &Given) -> Self {
+        let pads = board_pads(grid);
+        Guarded {
+            refusal: grid_refusal(grid),
+            board: Board::new(pads.problem()),
+            pads,
+            standing: 0,
+        }
+    }
+
+    fn is_edge(&self, row: u64, column: u64) -> bool {
+        let rows = 2 * self.pads.height as u64 - 1;
+        let columns = 2 * self.pads.width as u64 - 1;
+        row < rows && column < columns && row % 2 != column % 2
+    }
+
+    fn accepted(&mut self, call: Call) -> (u64, u64) {
+        (0, make_call(&mut self.board, call) as u64)
+    }
+
+    /// Number and answer of one call.
+    fn make(&mut self, asked: Asked) -> (u64, u64) {
+        match asked {
+            Asked::Fresh => {
+                self.board = Board::new(self.pads.problem());
+                self.standing = 0;
+                self.refusal
+            }
+            Asked::Decide(row, column, _) | Asked::Read(row, column)
+                if !self.is_edge(row, column) =>
+            {
+                (10, 0)
+            }
+            Asked::Decide(_, _, state) if state != 1 && state != 2 => (11, 0),
+            Asked::Decide(row, column, state) => {
+                self.accepted(Call::Decide(row as usize, column as usize, state as u8))
+            }
+            Asked::Read(row, column) => self.accepted(Call::Read(row as usize, column as usize)),
+            Asked::Checkpoint if self.standing == MOST_CHECKPOINTS => (12, 0),
+            Asked::Checkpoint => {
+                self.standing += 1;
+                self.accepted(Call::Checkpoint)
+            }
+            Asked::Undo => {
+                self.standing = self.standing.saturating_sub(1);
+                self.accepted(Call::Undo)
+            }
+        }
+    }
+}
+
+fn expected_board(grid: &Given, lent: usize, calls: &[Asked]) -> Answer {
+    let mut answer = Answer::default();
+    if board_room(grid, calls.len()) <= lent {
+        answer.signed.reserve(lent);
+        let mut board = Guarded::new(grid);
+        let mut state = State::default();
+        for call in calls {
+            let (number, given) = board.make(*call);
+            read_state(&board.board, &mut state);
+            let head = [number as i64, given as i64, state.flag as i64];
+            answer.signed.extend(head);
+            let edges = state.edges.iter().map(|byte| *byte as i64);
+            answer.signed.extend(edges);
+            answer
+                .signed
+                .extend(state.ends.iter().map(|end| *end as i64));
+        }
+    }
+    answer.returned = answer.signed.len();
+    answer.signed.resize(lent, FILL as i64);
+    answer
+}
+
+/// The answer of a search whose run is known.
+pub fn search_answer(refusal: (u64, u64), run: &Run, lent: usize, room: usize) -> Answer {
+    let mut answer = Answer::default();
+    if lent >= 6 {
+        answer.returned = 6;
+        answer.numbers = vec![
+            refusal.0,
+            refusal.1,
+            run.outcome as u64,
+            run.layouts as u64,
+            run.visited,
+            run.fewest as u64,
+        ];
+        answer.bytes = run.bytes.clone();
+    }
+    answer.numbers.resize(lent, FILL as u64);
+    answer.bytes.resize(room, FILL);
+    answer
+}
+
+fn expected_search(grid: &Given, lent: usize, limit: u64, room: usize) -> Answer {
+    let refusal = grid_refusal(grid);
+    if refusal != (0, 0) {
+        return search_answer(refusal, &Run::new(), lent, room);
+    }
+    let pads = board_pads(grid);
+    let run = limited(&pads, limit, room);
+    if run.outcome == 0 {
+        assert!(run == whole(&pads), "backtrack written again differs");
+    }
+    search_answer(refusal, &run, lent, room)
+}
+
+fn expected_record(
+    size: (usize, usize),
+    lent: usize,
+    asked: (usize, usize),
+    room: usize,
+) -> Answer {
+    let mut answer = Answer::default();
+    if lent >= 2 {
+        let (height, width) = size;
+        let (count, k) = asked;
+        let sized = (2..=16).contains(&height) && (2..=16).contains(&width);
+        let length = if sized {
+            (2 * height - 1) * (2 * width - 1)
+        } else {
+            1
+        };
+        let end = (k as u128 + 1) * length as u128;
+        let there = sized && k < count && end <= room as u128;
+        answer.returned = 2;
+        answer.numbers = if there {
+            vec![(k * length) as u64, length as u64]
+        } else {
+            vec![0, 0]
+        };
+    }
+    answer.numbers.resize(lent, FILL as u64);
+    answer
+}
+
+fn expected_file(lent: usize, cells_lent: usize, bytes: &[u8]) -> Answer {
+    let mut answer = Answer::default();
+    if lent >= 5 && cells_lent >= 256 {
+        answer.returned = 5;
+        match routes::read(bytes) {
+            Ok(pads) => {
+                answer.numbers = vec![0, 0, 0, pads.height as u64, pads.width as u64];
+                answer.cells = pads.cells;
+            }
+            Err((number, line, field)) => {
+                answer.numbers = vec![number as u64, line as u64, field as u64, 0, 0];
+            }
+        }
+        answer.cells.resize(256, -1);
+    }
+    answer.numbers.resize(lent, FILL as u64);
+    answer.cells.resize(cells_lent, FILL as i32);
+    answer
+}
+
+pub fn expected(case: &Case) -> Answer {
+    match case {
+        Case::Board { grid, lent, calls } => expected_board(grid, *lent, calls),
+        Case::Search {
+            grid,
+            lent,
+            limit,
+            room,
+        } => expected_search(grid, *lent, *limit, *room),
+        Case::Record {
+            size,
+            lent,
+            count,
+            k,
+            room,
+        } => expected_record(*size, *lent, (*count, *k), *room),
+        Case::File {
+            lent,
+            cells_lent,
+            bytes,
+        } => expected_file(*lent, *cells_lent, bytes),
+    }
+}
+
+/// Four numbers for each call: kind, row, column, state.
+fn call_numbers(calls: &[Asked]) -> Vec<u64> {
+    calls
+        .iter()
+        .flat_map(|call| match *call {
+            Asked::Fresh => [0, 0, 0, 0],
+            Asked::Decide(row, column, state) => [1, row, column, state],
+            Asked::Read(row, column) => [2, row, column, 0],
+            Asked::Checkpoint => [3, 0, 0, 0],
+            Asked::Undo => [4, 0, 0, 0],
+        })
+        .collect()
+}
+
+pub fn by_library(case: &Case) -> Answer {
+    let mut answer = Answer::default();
+    match case {
+        Case::Board { grid, lent, calls } => {
+            let numbers = call_numbers(calls);
+            answer.signed = vec![FILL as i64; *lent];
+            answer.returned = library::replay(grid.size, &grid.cells, &numbers, &mut answer.signed);
+        }
+        Case::Search {
+            grid,
+            lent,
+            limit,
+            room,
+        } => {
+            answer.numbers = vec![FILL as u64; *lent];
+            answer.bytes = vec![FILL; *room];
+            let (bytes, numbers) = (&mut answer.bytes, &mut answer.numbers);
+            answer.returned = library::solve(grid.size, &grid.cells, *limit, bytes, numbers);
+        }
+        Case::Record {
+            size,
+            lent,
+            count,
+            k,
+            room,
+        } => {
+            answer.numbers = vec![FILL as u64; *lent];
+            let buffer = vec![FILL; *room];
+            answer.returned = library::record(*size, (*count, *k), &buffer, &mut answer.numbers);
+        }
+        Case::File {
+            lent,
+            cells_lent,
+            bytes,
+        } => {
+            answer.numbers = vec![FILL as u64; *lent];
+            answer.cells = vec![FILL as i32; *cells_lent];
+            answer.returned = library::read(bytes, &mut answer.numbers, &mut answer.cells);
+        }
+    }
+    answer
+}

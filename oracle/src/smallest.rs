@@ -1,0 +1,178 @@
+// Makes a failing case smaller as long as it still fails: calls left out,
+// rows and columns cut off, codes blanked, bytes of a file left out.
+
+use crate::cases::{Asked, Case, Given};
+use crate::expected::{board_room, by_library, expected};
+use std::time::{Duration, Instant};
+
+pub fn differs(case: &Case) -> bool {
+    expected(case) != by_library(case)
+}
+
+/// The smallest case found in at most half a minute.
+pub fn smallest(case: &Case) -> Case {
+    let until = Instant::now() + Duration::from_secs(30);
+    let mut found = case.clone();
+    while let Some(smaller) = smaller_cases(&found)
+        .into_iter()
+        .take_while(|_| Instant::now() < until)
+        .find(differs)
+    {
+        found = smaller;
+    }
+    found
+}
+
+fn smaller_cases(case: &Case) -> Vec<Case> {
+    match case {
+        Case::Board { grid, lent, calls } => {
+            let short = *lent < board_room(grid, calls.len());
+            smaller_boards(grid, calls)
+                .into_iter()
+                .map(|(grid, calls)| Case::Board {
+                    lent: board_room(&grid, calls.len()).saturating_sub(short as usize),
+                    grid,
+                    calls,
+                })
+                .collect()
+        }
+        Case::Search {
+            grid,
+            lent,
+            limit,
+            room,
+        } => smaller_searches(grid, *lent, *limit, *room),
+        Case::File {
+            lent,
+            cells_lent,
+            bytes,
+        } => parts(bytes)
+            .into_iter()
+            .map(|bytes| Case::File {
+                lent: *lent,
+                cells_lent: *cells_lent,
+                bytes,
+            })
+            .collect(),
+        Case::Record { .. } => Vec::new(),
+    }
+}
+
+/// The list with its second half left out, its first half, each quarter and
+/// so on, down to each single item.
+fn parts<T: Clone>(items: &[T]) -> Vec<Vec<T>> {
+    let mut found = Vec::new();
+    let mut size = items.len();
+    while size > 0 {
+        let mut end = items.len();
+        while end > 0 {
+            let start = end.saturating_sub(size);
+            found.push([&items[..start], &items[end..]].concat());
+            end = start;
+        }
+        size /= 2;
+    }
+    found
+}
+
+fn smaller_boards(grid: &Given, calls: &[Asked]) -> Vec<(Given, Vec<Asked>)> {
+    let mut found: Vec<(Given, Vec<Asked>)> = parts(calls)
+        .into_iter()
+        .map(|calls| (grid.clone(), calls))
+        .collect();
+    for (cut, rows, columns) in cuts(grid) {
+        let on_cut = |call: &Asked| moved(*call, cut.size, rows, columns);
+        let kept = calls.iter().filter_map(on_cut).collect();
+        found.push((cut, kept));
+    }
+    for blanked in blanked_grids(grid) {
+        found.push((blanked, calls.to_vec()));
+    }
+    found
+}
+
+fn smaller_searches(grid: &Given, lent: usize, limit: u64, room: usize) -> Vec<Case> {
+    let mut grids: Vec<Given> = cuts(grid).into_iter().map(|(cut, _, _)| cut).collect();
+    grids.extend(blanked_grids(grid));
+    let case = |grid: Given, limit, room| Case::Search {
+        grid,
+        lent,
+        limit,
+        room,
+    };
+    let mut found: Vec<Case> = grids
+        .into_iter()
+        .map(|grid| case(grid, limit, room))
+        .collect();
+    for (smaller, less) in [(limit / 2, room), (limit, room / 2)] {
+        if (smaller, less) != (limit, room) {
+            found.push(case(grid.clone(), smaller, less));
+        }
+    }
+    if limit > 0 && limit < 100 {
+        found.push(case(grid.clone(), limit - 1, room));
+    }
+    found
+}
+
+/// A code at a time made blank, or else the least code.
+fn blanked_grids(grid: &Given) -> Vec<Given> {
+    let mut found = Vec::new();
+    for (index, cell) in grid.cells.iter().enumerate() {
+        for less in [-1, 0, 1] {
+            if *cell > less {
+                let mut blanked = grid.clone();
+                blanked.cells[index] = less;
+                found.push(blanked);
+            }
+        }
+    }
+    found
+}
+
+/// The grid without its last or first row or column, and by how much the
+/// places of what is left move up and to the left.
+fn cuts(grid: &Given) -> Vec<(Given, u64, u64)> {
+    let (height, width) = grid.size;
+    let mut found = Vec::new();
+    if grid.cells.len() != height.saturating_mul(width) {
+        return found;
+    }
+    let keep = |kept: &dyn Fn(usize, usize) -> bool| -> Vec<i32> {
+        let cells = grid.cells.iter().enumerate();
+        cells
+            .filter(|(index, _)| kept(index / width, index % width))
+            .map(|(_, cell)| *cell)
+            .collect()
+    };
+    let mut add = |size, cells, rows, columns| found.push((Given { size, cells }, rows, columns));
+    if height > 2 {
+        let size = (height - 1, width);
+        add(size, keep(&|row, _| row < height - 1), 0, 0);
+        add(size, keep(&|row, _| row > 0), 2, 0);
+    }
+    if width > 2 {
+        let size = (height, width - 1);
+        add(size, keep(&|_, column| column < width - 1), 0, 0);
+        add(size, keep(&|_, column| column > 0), 0, 2);
+    }
+    found
+}
+
+/// The call at its new place, if that is still on the board.
+fn moved(call: Asked, size: (usize, usize), rows: u64, columns: u64) -> Option<Asked> {
+    let place = |row: u64, column: u64| {
+        let (row, column) = (row.checked_sub(rows)?, column.checked_sub(columns)?);
+        let on_board = row < 2 * size.0 as u64 - 1 && column < 2 * size.1 as u64 - 1;
+        on_board.then_some((row, column))
+    };
+    match call {
+        Asked::Decide(row, column, state) => {
+            place(row, column).map(|(row, column)| Asked::Decide(row, column, state))
+        }
+        Asked::Read(row, column) => {
+            place(row, column).map(|(row, column)| Asked::Read(row, column))
+        }
+        other => Some(other),
+    }
+}
