@@ -1,3 +1,4 @@
+-- What the arrays of a board show of the model, in the order in which the files build on each other.
 pub mod View
 pub mod Bytes
 pub mod Ends

@@ -1,3 +1,4 @@
+-- `boardparts::action` meets its contract.
 use Rattle.boardparts.proofs.Counts.{action-1, action-2, action-3, action-4, action-5, action-6, action-7}
 use native.Mathlib.Omega.{arith}
 use borrow.Author.Needs.{needs}

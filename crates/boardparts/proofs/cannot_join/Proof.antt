@@ -1,3 +1,4 @@
+-- `boardparts::cannot_join` meets its contract.
 use Rattle.boardview.specs.Signed.{unjoinable-1, unjoinable-2, unjoinable-3, unjoinable-4}
 use Rattle.boardview.specs.View.{end-at}
 use mathlib.Core.Path.{_≡_, refl, sym, ap, _∙_}

@@ -1,3 +1,4 @@
+-- `boardparts::count_after` meets its contract.
 use borrow.Author.Tests.{lt-ltb, le-ltb, eq-eqb, ne-eqb}
 use mathlib.Core.Path.{_≡_, refl, sym, ap, _∙_}
 use Rattle.boardparts.proofs.count_after.Statement.{statement}

@@ -1,3 +1,4 @@
+-- `boardparts::degree_around` meets its contract.
 use Rattle.boardparts.proofs.Counts.{small-read, line-count, zeros-half, zeros-are, few-zeros}
 use Rattle.boardparts.proofs.Counts.{small-read, line-count, undecided-count}
 use Rattle.rules.specs.Drawing.{num}

@@ -1,3 +1,4 @@
+-- `boardparts::end` meets its contract.
 use Rattle.boardview.specs.View.{ended}
 use borrow.Author.Tests.{lt-ltb, le-ltb, eq-eqb, ne-eqb}
 use mathlib.Core.Path.{_≡_, refl, sym, ap, _∙_}

@@ -1,3 +1,4 @@
+-- `boardparts::end_code` meets its contract.
 use Rattle.boardview.specs.Signed.{code-sub, code-cast, code-is, no-code, negative, not-negative, end-read}
 use Rattle.boardview.specs.View.{code-number}
 use lib.IntN.{pos}

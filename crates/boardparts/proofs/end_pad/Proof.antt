@@ -1,3 +1,4 @@
+-- `boardparts::end_pad` meets its contract.
 use Rattle.boardview.specs.Signed.{no-pad, negative, not-negative, cast-pad, pad-is, end-read}
 use Rattle.boardview.specs.View.{pad-number}
 use lib.IntN.{pos}

@@ -1,3 +1,4 @@
+-- `boardparts::first_around` meets its contract.
 use Rattle.boardview.specs.View.{first-around}
 use native.Mathlib.Omega.{arith}
 use mathlib.Core.Path.{_≡_, refl, sym, ap, _∙_}

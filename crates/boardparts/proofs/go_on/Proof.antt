@@ -1,3 +1,4 @@
+-- `boardparts::go_on` meets its contract.
 use Rattle.boardview.specs.View.{going}
 use borrow.Author.Tests.{lt-ltb, le-ltb, eq-eqb, ne-eqb}
 use mathlib.Core.Path.{_≡_, refl, sym, ap, _∙_}

@@ -1,3 +1,4 @@
+-- `boardparts::has` meets its contract.
 use Rattle.boardview.specs.View.{has-bit}
 use mathlib.Core.Path.{_≡_, refl, sym, ap, _∙_}
 use borrow.Author.Needs.{needs}

@@ -1,3 +1,4 @@
+-- `boardparts::join_ends` meets its contract.
 use Rattle.boardview.specs.Signed.{back, joined-1, joined-2, joined-3, joined-4}
 use lib.IntN.{pos}
 use lib.ListN.{getD}

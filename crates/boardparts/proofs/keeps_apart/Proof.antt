@@ -1,3 +1,4 @@
+-- `boardparts::keeps_apart` meets its contract.
 use Rattle.boardview.specs.View.{keeps-apart}
 use native.Mathlib.Omega.{arith}
 use borrow.Author.Tests.{lt-ltb, le-ltb, eq-eqb, ne-eqb}

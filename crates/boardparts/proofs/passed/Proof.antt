@@ -1,3 +1,4 @@
+-- `boardparts::passed` meets its contract.
 use Rattle.boardview.specs.Signed.{from-bits, not-passed, end-read}
 use Rattle.model.specs.Board.{isThrough}
 use Rattle.boardview.specs.View.{end-of}

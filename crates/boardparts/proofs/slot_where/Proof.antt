@@ -1,3 +1,4 @@
+-- `boardparts::slot_where` meets its contract.
 use mathlib.Core.Path.{_≡_, refl, sym, ap, _∙_}
 use borrow.Author.Needs.{needs}
 use Rattle.boardparts.proofs.slot_where.Statement.{statement}

@@ -1,3 +1,4 @@
+-- `boardparts::store` meets its contract.
 use Rattle.boardview.specs.Signed.{slot-number}
 use mathlib.Core.Path.{_≡_, refl, sym, ap, _∙_}
 use borrow.Author.Needs.{needs}

@@ -1,3 +1,4 @@
+-- `boardparts::undecided_around` meets its contract.
 use Rattle.boardparts.proofs.Counts.{small-read, line-count, zeros-half, zeros-are, few-zeros}
 use Rattle.boardview.specs.View.{undecided-around}
 use Prim.Native.Nat.{ℕ, _+_, _*_, _-_, _%_, _/_, _≤_, _<_}

@@ -1,3 +1,4 @@
+-- `boardparts::width` meets its contract.
 use Rattle.boardview.specs.View.{grid-in}
 use borrow.Author.Needs.{needs}
 use Rattle.boardparts.proofs.width.Statement.{statement}

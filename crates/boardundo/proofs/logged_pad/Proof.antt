@@ -1,3 +1,4 @@
+-- `boardundo::logged_pad` meets its contract.
 use Rattle.boardview.specs.Signed.{no-pad, negative, not-negative, cast-pad, pad-is}
 use lib.IntN.{pos}
 use lib.ListN.{getD}

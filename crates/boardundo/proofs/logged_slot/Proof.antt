@@ -1,3 +1,4 @@
+-- `boardundo::logged_slot` meets its contract.
 use Rattle.boardview.specs.Signed.{slot-cast, slot-read}
 use Prim.Native.Nat.{ℕ, _+_, _*_, _-_, _≤_, _<_}
 use lib.IntN.{pos}

@@ -1,3 +1,4 @@
+-- `boardundo::undo` meets its contract.
 use Rattle.boardview.specs.Unwind.{unwound-step, length-undone}
 use mathlib.Core.List.{List}
 use lib.IntN.{ℤ}

@@ -1,3 +1,4 @@
+-- `boardundo::undo_one` meets its contract.
 use Rattle.boardview.specs.Geometry.{slot-bounds}
 use Rattle.boardview.specs.View.{grid-in, undone-one}
 use Prim.Native.Nat.{ℕ, _+_, _*_, _-_, _≤_, _<_}

@@ -1,3 +1,4 @@
+-- `boardundo::unjoin` meets its contract.
 use Rattle.boardview.specs.Signed.{back, slot-number, not-passed, unjoined-0, unjoined-1, unjoined-2, unjoined-3, unjoined-4}
 use Prim.Native.Nat.{ℕ, _+_, _*_, _-_, _≤_, _<_}
 use lib.IntN.{pos}

@@ -1,3 +1,4 @@
+-- The functions of the cycle meet their contracts: each path through the code does the items that the contract names, and the number falls.
 use mathlib.Core.Path.{_≡_, refl, ap, sym, _∙_}
 use mathlib.Core.Bool.{true, false}
 use mathlib.Core.List.{[], _∷_}
