@@ -1,0 +1,143 @@
+/*
+ * hunekowha: the board router for other languages.
+ *
+ * The functions here are written in Rattle and proved: every call ends, is safe for all arguments that keep the rules
+ * below, and gives what is said here. Build the library with `rt staticlib hunekowha`; it is then
+ * target/staticlib/libhunekowha.a, for x86-64 Linux.
+ *
+ * Lent slices. A slice is lent as a pointer and a length in elements. The pointer must point to that many elements and be
+ * aligned as its type asks; where the length is 0, any pointer that is not null will do. A slice that a function writes
+ * must not overlap another slice of the same call. These rules of C are all that a caller owes: nothing else is assumed
+ * of any argument, and no function keeps a pointer.
+ *
+ * Answers. Each function writes its answer, several numbers, to the slice `answer`, and returns how many numbers it wrote
+ * there. It returns 0 where a lent slice is too short for the answer; then it has changed nothing that was lent. What lies
+ * past the written part of a slice keeps its values.
+ *
+ * The words. A grid has `height` rows and `width` columns, each 2 to 16. Pad (y, x) has the index y * width + x, and a
+ * grid is given by its cells in this order: -1 for a blank pad, or a code from 0 to 2147483646. An edge place is a row and
+ * a column of the field of 2 * height - 1 rows and 2 * width - 1 columns: place (2y, 2x + 1) joins pad (y, x) to the pad
+ * on its right, place (2y + 1, 2x) to the pad below. A record is this field row by row, one byte for each place: 1 a line,
+ * 2 no line, 0 undecided; the places that are no edge hold 0. A layout is a wiring of the grid, held as a record.
+ *
+ * Numbers of refusals. Reading a file:
+ *   1  a byte that is no digit, no comma and no line end (0A hexadecimal)
+ *   2  an eleventh digit in a field
+ *   3  a field above 2147483646
+ *   4  too few fields in a line, or too many
+ *   5  a height or width that is empty or outside 2 to 16
+ *   6  the file ends before its last row does, or goes on after it
+ * A grid, for a board or a search:
+ *   7  a height or width outside 2 to 16
+ *   8  the number of cells is not height * width
+ *   9  a cell below -1 or equal to 2147483647
+ * A call on a board:
+ *  10  no such edge place
+ *  11  a state that is neither 1 (line) nor 2 (none)
+ *  12  256 checkpoints are standing already
+ */
+#ifndef HUNEKOWHA_H
+#define HUNEKOWHA_H
+
+#include <stddef.h>
+#include <stdint.h>
+
+#ifdef __cplusplus
+extern "C" {
+#endif
+
+/*
+ * Reads a grid file: lines of fields parted by commas, each line ended by 0A; `H,W` first, then H lines of W fields, an
+ * empty field for a blank pad.
+ *
+ *   file, file_length      the bytes of the file
+ *   answer, answer_length  at least 5 numbers
+ *   cells, cells_length    at least 256 numbers
+ *
+ * Returns 5, or 0 where `answer` or `cells` is too short.
+ *   answer[0]  0 for a grid, else the number of the refusal, 1 to 6
+ *   answer[1]  the line that a refusal names, from 1; 0 for a grid
+ *   answer[2]  the field that a refusal names, from 1; 0 for a grid
+ *   answer[3]  the height; 0 beside a refusal
+ *   answer[4]  the width; 0 beside a refusal
+ * The first 256 cells are written: the height * width cells of the grid, and -1 in all others.
+ */
+size_t hunekowha_read(const uint8_t *file, size_t file_length, uint64_t *answer, size_t answer_length, int32_t *cells,
+                      size_t cells_length);
+
+/*
+ * Lists the layouts of a grid: each once, in ascending order, until all are found, until `limit` boards are visited, or
+ * until a layout is due and less than a record is left of the buffer.
+ *
+ *   height, width          the size of the grid
+ *   cells, cells_length    its cells, height * width of them
+ *   limit                  how many boards may be visited
+ *   buffer, buffer_length  where the records of the layouts go, one behind the other, from the start
+ *   answer, answer_length  at least 6 numbers
+ *
+ * Returns 6, or 0 where `answer` is too short.
+ *   answer[0]  0, or the number of the refusal, 7 to 9; beside a refusal no byte of the buffer is changed
+ *   answer[1]  the index of the first bad cell beside 9, else 0
+ *   answer[2]  the outcome: 0 the list is complete, 1 the limit is spent, 2 the buffer is full
+ *   answer[3]  how many layouts were written
+ *   answer[4]  how many boards were visited
+ *   answer[5]  the fewest lines of a written layout, 481 where none was written
+ * The bytes of the buffer after the last record keep their values.
+ */
+size_t hunekowha_solve(size_t height, size_t width, const int32_t *cells, size_t cells_length, uint64_t limit,
+                       uint8_t *buffer, size_t buffer_length, uint64_t *answer, size_t answer_length);
+
+/*
+ * Finds a record in the buffer that hunekowha_solve has filled.
+ *
+ *   height, width          the size of the grid
+ *   count                  how many layouts were written
+ *   k                      the layout that is asked for, from 0
+ *   buffer, buffer_length  the buffer; its bytes are not looked at
+ *   answer, answer_length  at least 2 numbers
+ *
+ * Returns 2, or 0 where `answer` is too short.
+ *   answer[0]  where the record begins in the buffer; 0 where there is no such record
+ *   answer[1]  how many bytes it has; 0 where there is no such record: height or width is outside 2 to 16, k is not below
+ *              count, or the buffer ends before the record does
+ */
+size_t hunekowha_record(size_t height, size_t width, size_t count, size_t k, const uint8_t *buffer, size_t buffer_length,
+                        uint64_t *answer, size_t answer_length);
+
+/*
+ * Makes calls on a board, one after another, and writes what the board shows after each. The board begins as the fresh
+ * board of the grid.
+ *
+ *   height, width          the size of the grid
+ *   cells, cells_length    its cells, height * width of them
+ *   calls, calls_length    four numbers for each call: kind, row, column, state; numbers that are too few for a call
+ *                          at the end are left aside
+ *     kind 1  decide the edge at (row, column): state 1 a line, 2 none
+ *     kind 2  read the edge at (row, column)
+ *     kind 3  add a checkpoint
+ *     kind 4  undo: back to the last checkpoint not yet undone, or to the fresh board
+ *     any other kind, such as 0: begin again with the fresh board of the grid
+ *   answer, answer_length  where the answers go
+ *
+ * Each call gives a block of 3 + (2 * height - 1) * (2 * width - 1) + height * width numbers:
+ *   number  0, or the number of the refusal: 10 or 11 for a decision (10 is tested first), 10 for a reading, 12 for a
+ *           checkpoint, 7 to 9 for a fresh board
+ *   answer  the flag (1 where the board is found to have no layout, else 0) after an accepted decision, the byte of the
+ *           edge for an accepted reading, the index of the first bad cell beside 9; in all other cases 0
+ *   flag    1 where the flag of the board is set, else 0
+ *   edges   the record of the board, (2 * height - 1) * (2 * width - 1) numbers
+ *   ends    a number for each pad, by index: -1 a line passes through it; -v - 2 it is the end of a chain that begins at
+ *           a clue of code v; else the index of the pad at the other end of its chain
+ * A declined call leaves the board as it was. Where the grid itself is declined (7 to 9), the board is the fresh blank
+ * board of 2 rows and 2 columns, and a block has 16 numbers.
+ *
+ * Returns how many numbers were written: the blocks of all calls. Returns 0 where `answer` is too short for them all.
+ */
+size_t hunekowha_replay(size_t height, size_t width, const int32_t *cells, size_t cells_length, const uint64_t *calls,
+                        size_t calls_length, int64_t *answer, size_t answer_length);
+
+#ifdef __cplusplus
+}
+#endif
+
+#endif

@@ -1,0 +1,93 @@
+-- When a lent slice is too short, and what is written where all are long enough. Assumes nothing.
+use mathlib.Core.Path.{_≡_, refl, sym, ap, _∙_}
+use mathlib.Core.Bool.{Bool, true, false, _&&_}
+use mathlib.Core.List.{List, [], _∷_, _++_}
+use Prim.Native.Nat.{ℕ, _+_, _*_, _≤_, _<_}
+use native.Mathlib.Nat.{zero-add, mul-zero}
+use native.Mathlib.Omega.{arith}
+use lib.Dec.{leb, ltb}
+use lib.ListN.{length, take, drop, length-drop}
+use lib.Seq.{paste, take-length, length-take-le}
+use lib.IntN.{ℤ}
+use borrow.Author.Tests.{le-leb, lt-leb, leb-true}
+use Rattle.model.specs.Bounds.{is-size}
+use Rattle.model.specs.GridFile.{Reading, read}
+use Rattle.model.specs.Records.{record-length, has-record, record-at}
+use Rattle.hunekowha.specs.Lent.{written, ReadGives, read-numbers, read-gives, NumbersGiven, record-place, record-gives, SolveGives, solve-numbers, solve-gives}
+use Rattle.model.specs.Search.{Solved, solve}
+
+false-is-not-true : false ≡ true → ⊥
+false-is-not-true same = let z : _≡_ {A = ℕ} 0 1 = cc in omega arith
+
+-- a copy of a whole list to the front
+pub front : {A : Type 0} (old new : List A) → paste old 0 new (length new) ≡ written new old
+front old new = rw (take-length, zero-add)
+
+-- READ
+module _ (file answer : List ℕ) (cells : List ℤ) where
+  pub read-short-answer : length answer < 5 → read-gives file answer cells ≡ record { returned = 0; answer = answer; cells = cells }
+  unfolding read-gives
+  read-short-answer short = rw (lt-leb 5 (length answer) short)
+
+  pub read-short-cells : 5 ≤ length answer → length cells < 256 → read-gives file answer cells ≡ record { returned = 0; answer = answer; cells = cells }
+  unfolding read-gives
+  read-short-cells long short = rw (le-leb 5 (length answer) long, lt-leb 256 (length cells) short)
+
+  pub read-whole : 5 ≤ length answer → 256 ≤ length cells → (r : Reading) → r ≡ read file → (answer-after : List ℕ) (cells-after : List ℤ)
+      → answer-after ≡ paste answer 0 (read-numbers r) 5 → cells-after ≡ paste cells 0 (r .cells) (length (r .cells))
+      → read-gives file answer cells ≡ record { returned = 5; answer = answer-after; cells = cells-after }
+  unfolding read-gives
+  read-whole long long-cells r same answer-after cells-after put put-cells =
+      rw (le-leb 5 (length answer) long, le-leb 256 (length cells) long-cells, put, put-cells, front cells (r .cells), same)
+
+-- RECORD
+last-of-four : (a b c d : Bool) → a && b && c && d ≡ true → d ≡ true
+last-of-four true true true d all = all
+last-of-four true true false d all = absurd (false-is-not-true all)
+last-of-four true false c d all = absurd (false-is-not-true all)
+last-of-four false b c d all = absurd (false-is-not-true all)
+
+module _ (height width count k : ℕ) (buffer : List ℕ) where
+  record-inside : has-record height width count k (length buffer) ≡ true → k * record-length height width + record-length height width ≤ length buffer
+  unfolding has-record
+  record-inside there = leb-true _ _ (last-of-four (is-size height) (is-size width) (ltb k count) _ there)
+
+  -- the part's length says where it begins, and it lies in the buffer
+  abbrev Placed : List ℕ → Type 0
+  Placed found = (k * length found ∷ length found ∷ [] ≡ record-place height width count k (length buffer)) × (k * length found ≤ length buffer)
+
+  placed-by : (found : List ℕ) → found ≡ record-at height width count k buffer → (b : Bool) → has-record height width count k (length buffer) ≡ b → Placed found
+  unfolding record-at record-place
+  placed-by found part true there =
+      let inside = record-inside there in
+      let long : length found ≡ record-length height width =
+      ap length part ∙ rw there (length-take-le (record-length height width) (drop (k * record-length height width) buffer) (simp length-drop (omega arith))) in
+      (rw (there, long), rw long (omega arith))
+  placed-by found part false none = let empty : length found ≡ 0 = ap length part ∙ rw none in (rw (none, empty, mul-zero), rw (empty, mul-zero) (omega arith))
+
+  placed : (found : List ℕ) → found ≡ record-at height width count k buffer → Placed found
+  placed found part = placed-by found part (has-record height width count k (length buffer)) refl
+
+  pub offset-inside : (found : List ℕ) → found ≡ record-at height width count k buffer → k * length found ≤ length buffer
+  offset-inside found part = placed found part .1
+
+  module _ (answer : List ℕ) where
+    pub record-short : length answer < 2 → record-gives height width count k buffer answer ≡ record { returned = 0; answer = answer }
+    unfolding record-gives
+    record-short short = rw (lt-leb 2 (length answer) short)
+
+    pub record-whole : 2 ≤ length answer → (found after : List ℕ) → found ≡ record-at height width count k buffer
+        → after ≡ paste answer 0 (k * length found ∷ length found ∷ []) 2 → record-gives height width count k buffer answer ≡ record { returned = 2; answer = after }
+    unfolding record-gives
+    record-whole long found after part put = rw (le-leb 2 (length answer) long, put, ← placed found part .0)
+
+-- SOLVE
+module _ (height width : ℕ) (cells : List ℤ) (limit : ℕ) (buffer answer : List ℕ) where
+  pub solve-short : length answer < 6 → solve-gives height width cells limit buffer answer ≡ record { returned = 0; buffer = buffer; answer = answer }
+  unfolding solve-gives
+  solve-short short = rw (lt-leb 6 (length answer) short)
+
+  pub solve-whole : 6 ≤ length answer → (r : Solved) (after : List ℕ) → r ≡ solve height width cells limit buffer
+      → after ≡ paste answer 0 (solve-numbers r) 6 → solve-gives height width cells limit buffer answer ≡ record { returned = 6; buffer = r .buffer; answer = after }
+  unfolding solve-gives
+  solve-whole long r after same put = rw (le-leb 6 (length answer) long, put, ← same)

@@ -1,0 +1,67 @@
+-- What each function for other languages returns and leaves in the slices that were lent to it. It rests on the model's definitions of the
+-- same calls; the numbers stand in the order that hunekowha.h gives them. A slice that is too short is left as it was, and so is every other.
+use Prim.Native.Nat.{ℕ, _+_, _*_}
+use mathlib.Core.Bool.{Bool, true, false, _&&_}
+use mathlib.Core.List.{List, [], _∷_, _++_}
+use lib.Dec.{leb}
+use lib.ListN.{length, drop}
+use lib.IntN.{ℤ}
+use Rattle.model.specs.Choice.{if_then_else_}
+use Rattle.model.specs.GridFile.{Reading, read}
+use Rattle.model.specs.Records.{record-length, has-record}
+use Rattle.model.specs.Search.{Solved, solve}
+
+-- a list whose first elements were overwritten
+abbrev pub written : {A : Type 0} → List A → List A → List A
+written new old = new ++ drop (length new) old
+
+-- READ: what is returned, and the two lent slices after the call
+pub record ReadGives : Type 0 where
+  pub returned : ℕ
+  pub answer : List ℕ
+  pub cells : List ℤ
+
+abbrev pub read-numbers : Reading → List ℕ
+read-numbers r = r .number ∷ r .line ∷ r .field ∷ r .height ∷ r .width ∷ []
+
+unfoldable pub read-gives : List ℕ → List ℕ → List ℤ → ReadGives
+read-gives file answer cells =
+    if leb 5 (length answer) && leb 256 (length cells)
+    then record { returned = 5; answer = written (read-numbers (read file)) answer; cells = written (read file .cells) cells }
+    else record { returned = 0; answer = answer; cells = cells }
+
+-- RECORD: where record k begins and how many bytes it has; 0 and 0 where there is none
+pub record NumbersGiven : Type 0 where
+  pub returned : ℕ
+  pub answer : List ℕ
+
+unfoldable pub record-place : ℕ → ℕ → ℕ → ℕ → ℕ → List ℕ
+record-place height width count k room =
+    if has-record height width count k room
+    then k * record-length height width ∷ record-length height width ∷ []
+    else 0 ∷ 0 ∷ []
+
+unfoldable pub record-gives : ℕ → ℕ → ℕ → ℕ → List ℕ → List ℕ → NumbersGiven
+record-gives height width count k buffer answer =
+    if leb 2 (length answer)
+    then record { returned = 2; answer = written (record-place height width count k (length buffer)) answer }
+    else record { returned = 0; answer = answer }
+
+-- SOLVE: what is returned, the buffer and the numbers after the call
+pub record SolveGives : Type 0 where
+  pub returned : ℕ
+  pub buffer : List ℕ
+  pub answer : List ℕ
+
+abbrev pub solve-numbers : Solved → List ℕ
+solve-numbers r = r .number ∷ r .index ∷ r .outcome ∷ r .layouts ∷ r .visited ∷ r .fewest-lines ∷ []
+
+unfoldable pub solve-gives : ℕ → ℕ → List ℤ → ℕ → List ℕ → List ℕ → SolveGives
+solve-gives height width cells limit buffer answer =
+    if leb 6 (length answer)
+    then record {
+      returned = 6;
+      buffer = solve height width cells limit buffer .buffer;
+      answer = written (solve-numbers (solve height width cells limit buffer)) answer;
+    }
+    else record { returned = 0; buffer = buffer; answer = answer }

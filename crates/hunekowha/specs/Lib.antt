@@ -1,0 +1,3 @@
+-- What the functions for other languages give, by the definitions of the crate `model`.
+pub mod Lent
+pub mod Replay

@@ -1,0 +1,218 @@
+// The router for other languages: reading a grid file, the search, a record's place, and board calls replayed. hunekowha.h beside
+// this folder explains each function, argument and number. Each result, and every lent number and byte after the call, is what
+// specs/Lent.antt says. No function asks anything of its caller beyond what the types say.
+ghost use mathlib.Core.Path.{_≡_};
+ghost use Rattle.model.specs.Calls as model;
+ghost use Rattle.board.specs.Held.{Held, IsBoard, Says};
+ghost use Rattle.hunekowha.specs.Replay.{state-asked, called, block, block-size, all-blocks, Writable, Replayable};
+ghost use Prim.Native.Nat.{_≤_};
+ghost use lib.ListN.{length};
+ghost use lib.Seq.{paste};
+use board::Answer;
+use board::Board;
+use grid::Edge;
+ghost use Rattle.hunekowha.specs.Lent.{ReadGives, read-gives, NumbersGiven, record-gives, SolveGives, solve-gives};
+ghost use Rattle.hunekowha.specs.Replay.{Given, SignedGiven, replay-gives};
+
+// Reads a grid file into five numbers and 256 cells.
+#[no_mangle]
+pub extern "C" fn hunekowha_read(file: &[u8], answer: &mut [u64], cells: &mut [i32]) -> usize
+    ensures { λ r. ⌜ read-gives (now (file .entry)) (now (answer .entry)) (now (cells .entry)) ≡ record { returned = r; answer = now (answer .exit); cells = now (cells .exit) } ⌝ }
+{
+    if answer.len() < 5 {
+        return 0;
+    }
+    if cells.len() < 256 {
+        return 0;
+    }
+    let reading = gridfile::read(file);
+    let numbers = [
+        reading.number as u64,
+        reading.line as u64,
+        reading.field as u64,
+        reading.height as u64,
+        reading.width as u64,
+    ];
+    lend::put_numbers(answer, 0, &numbers);
+    let read_cells = reading.cells;
+    lend::put_cells(cells, 0, &read_cells);
+    5
+}
+
+// Where record k of a filled buffer begins, and how many bytes it has.
+#[no_mangle]
+pub extern "C" fn hunekowha_record(
+    height: usize,
+    width: usize,
+    count: usize,
+    k: usize,
+    buffer: &[u8],
+    answer: &mut [u64],
+) -> usize
+    ensures { λ r. ⌜ record-gives height width count k (now (buffer .entry)) (now (answer .entry)) ≡ record { returned = r; answer = now (answer .exit) } ⌝ }
+{
+    if answer.len() < 2 {
+        return 0;
+    }
+    let length = records::record_at(height, width, count, k, buffer).len();
+    let numbers = [(k * length) as u64, length as u64];
+    lend::put_numbers(answer, 0, &numbers);
+    2
+}
+
+// A state as an edge: a byte as it is, and any larger number, which is no state, as undecided.
+fn edge_of(state: u64) -> Edge
+    ensures { λ r. ⌜ r .0 ≡ state-asked state ⌝ }
+{
+    if state < 256 {
+        return Edge(state as u8);
+    }
+    Edge::UNDECIDED
+}
+
+// One call of a list, on a board of the given grid.
+fn called(
+    board: Board,
+    height: usize,
+    width: usize,
+    cells: &[i32],
+    kind: u64,
+    row: usize,
+    column: usize,
+    state: u64,
+) -> Answer
+    requires { ⌜ IsBoard board ⌝ }
+    ensures { λ r. ⌜ ((B : model.Board) → Held board B → Says r (called (record { height = height; width = width; cells = now (cells .entry) }) B kind row column state)) ⌝ }
+{
+    if kind == 1 {
+        return board.decide_edge(row, column, edge_of(state));
+    }
+    if kind == 2 {
+        return board.get_edge(row, column);
+    }
+    if kind == 3 {
+        return board.add_checkpoint();
+    }
+    if kind == 4 {
+        return Answer {
+            number: 0,
+            answer: 0,
+            board: board.undo(),
+        };
+    }
+    Board::new(height, width, cells)
+}
+
+// The numbers of a block of a board.
+fn size_of_block(board: Board) -> usize
+    requires { ⌜ IsBoard board ⌝ }
+    ensures { λ r. ⌜ ((B : model.Board) → Held board B → r ≡ block-size B) ⌝ }
+{
+    let shown = board.shown();
+    let height = shown.height;
+    let width = shown.width;
+    3 + (2 * height - 1) * (2 * width - 1) + height * width
+}
+
+// Writes the block of an answer at a place.
+fn put_block(answer: &mut [i64], place: usize, made: Answer)
+    requires { ⌜ Writable made place (length (now answer)) ⌝ }
+    ensures { λ _. ⌜ ((A : model.Answer) → Says made A → now (answer .exit) ≡ paste (now (answer .entry)) place (block A) (length (block A))) ⌝ }
+{
+    let board = made.board;
+    let shown = board.shown();
+    let height = shown.height;
+    let width = shown.width;
+    let places = (2 * height - 1) * (2 * width - 1);
+    let edges = shown.edges;
+    let ends = shown.ends;
+    let flag = shown.flag;
+    let head = [made.number, made.answer as u8, flag as u8];
+    lend::put_bytes(answer, place, &head);
+    lend::put_bytes(answer, place + 3, &edges[..places]);
+    lend::put_ends(answer, place + 3 + places, &ends[..height * width]);
+}
+
+// Makes the calls of a list on a fresh board, and writes their blocks one behind the other.
+fn put_blocks(
+    answer: &mut [i64],
+    fresh: Board,
+    height: usize,
+    width: usize,
+    cells: &[i32],
+    calls: &[u64],
+    size: usize,
+    count: usize,
+)
+    requires { ⌜ Replayable (record { height = height; width = width; cells = now cells }) (now calls) fresh size count (length (now answer)) ⌝ }
+    ensures { λ _. ⌜ now (answer .exit) ≡ paste (now (answer .entry)) 0 (all-blocks (record { height = height; width = width; cells = now (cells .entry) }) (now (calls .entry))) (length (all-blocks (record { height = height; width = width; cells = now (cells .entry) }) (now (calls .entry)))) ⌝ }
+{
+    let mut board = fresh;
+    let mut i = 0;
+    while i < count {
+        let at = 4 * i;
+        let made = called(
+            board,
+            height,
+            width,
+            cells,
+            calls[at],
+            calls[at + 1] as usize,
+            calls[at + 2] as usize,
+            calls[at + 3],
+        );
+        put_block(answer, i * size, made);
+        board = made.board;
+        i += 1;
+    }
+}
+
+// Makes board calls one after another, and writes what the board shows after each.
+#[no_mangle]
+pub extern "C" fn hunekowha_replay(
+    height: usize,
+    width: usize,
+    cells: &[i32],
+    calls: &[u64],
+    answer: &mut [i64],
+) -> usize
+    ensures { λ r. ⌜ replay-gives (record { height = height; width = width; cells = now (cells .entry) }) (now (calls .entry)) (now (answer .entry)) ≡ record { returned = r; answer = now (answer .exit) } ⌝ }
+{
+    let first = Board::new(height, width, cells);
+    let fresh = first.board;
+    let size = size_of_block(fresh);
+    let count = calls.len() / 4;
+    if answer.len() / size < count {
+        return 0;
+    }
+    put_blocks(answer, fresh, height, width, cells, calls, size, count);
+    count * size
+}
+
+// Lists the layouts of a grid into the buffer, and writes six numbers.
+#[no_mangle]
+pub extern "C" fn hunekowha_solve(
+    height: usize,
+    width: usize,
+    cells: &[i32],
+    limit: u64,
+    buffer: &mut [u8],
+    answer: &mut [u64],
+) -> usize
+    ensures { λ r. ⌜ solve-gives height width (now (cells .entry)) limit (now (buffer .entry)) (now (answer .entry)) ≡ record { returned = r; buffer = now (buffer .exit); answer = now (answer .exit) } ⌝ }
+{
+    if answer.len() < 6 {
+        return 0;
+    }
+    let solved = solver::solve(height, width, cells, limit, buffer);
+    let numbers = [
+        solved.number as u64,
+        solved.index as u64,
+        solved.outcome as u64,
+        solved.layouts as u64,
+        solved.visited,
+        solved.fewest as u64,
+    ];
+    lend::put_numbers(answer, 0, &numbers);
+    6
+}
