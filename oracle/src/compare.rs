@@ -32,6 +32,7 @@ struct Comparison {
     known: Vec<(Pads, Vec<Call>)>,
     done: Counts,
     whole_searches: usize,
+    declined_searches: usize,
     records: usize,
     sequences: usize,
     grids: usize,
@@ -50,6 +51,7 @@ impl Comparison {
             known: known_sequences(),
             done: Counts::default(),
             whole_searches: 0,
+            declined_searches: 0,
             records: 0,
             sequences: 0,
             grids: 0,
@@ -61,13 +63,14 @@ impl Comparison {
 
     fn figures(&self) -> String {
         format!(
-            "{:.0} s: {} board calls in {} sequences; {} searches ({} of them whole, against solve), {} visited boards; {} records; {} files",
+            "{:.0} s: {} board calls in {} sequences; {} searches ({} of them whole, against solve), {} visited boards; {} declined searches; {} records; {} files",
             self.started.elapsed().as_secs_f64(),
             self.done.calls,
             self.sequences,
             self.done.searches,
             self.whole_searches,
             self.visited,
+            self.declined_searches,
             self.records,
             self.done.files
         )
@@ -141,7 +144,7 @@ impl Comparison {
     fn compare_declined(&mut self) {
         let case = declined_search(&mut self.declined);
         self.hold(&case, &expected(&case));
-        self.done.searches += 1;
+        self.declined_searches += 1;
         for _ in 0..5 {
             let case = record_case(&mut self.declined);
             self.hold(&case, &expected(&case));
