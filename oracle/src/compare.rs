@@ -3,7 +3,7 @@
 // reached. The first case that differs is made smaller and printed.
 
 use crate::answers::{limited, whole, Call, Pads, Run};
-use crate::cases::{read_case, Case};
+use crate::cases::{read_case, Asked, Case};
 use crate::chosen::{
     board_case, declined_search, file_case, known_sequences, record_case, search_case, search_pads,
     varied_case,
@@ -22,9 +22,44 @@ pub struct Counts {
     pub files: usize,
 }
 
+/// What the board calls that were compared have shown.
+#[derive(Default)]
+struct ShownCalls {
+    on_flagged: usize,
+    going_on: usize,
+    declined: [usize; 13],
+}
+
+impl ShownCalls {
+    /// Each call has a block: number, answer, flag, and the rest.
+    fn count(&mut self, calls: &[Asked], answer: &Answer) {
+        let (mut flagged, mut on_flagged) = (false, 0);
+        let size = answer.returned / calls.len();
+        for (index, call) in calls.iter().enumerate().take_while(|_| size > 0) {
+            let block = &answer.signed[index * size..];
+            let accepted = block[0] == 0;
+            self.declined[block[0] as usize] += !accepted as usize;
+            on_flagged += (flagged && accepted && matches!(call, Asked::Decide(..))) as usize;
+            flagged = block[2] == 1;
+        }
+        self.on_flagged += on_flagged;
+        self.going_on += (on_flagged >= 3) as usize;
+    }
+
+    fn figures(&self) -> String {
+        format!(
+            "{} decisions on flagged boards, {} sequences with three or more of them; declined calls and boards by number: {:?}",
+            self.on_flagged,
+            self.going_on,
+            (7..13).map(|number| (number, self.declined[number])).collect::<Vec<_>>()
+        )
+    }
+}
+
 /// Each kind of case has numbers of its own, so that a seed gives the same
 /// cases however long the others take.
 struct Comparison {
+    shown_calls: ShownCalls,
     boards: Random,
     grid_numbers: Random,
     declined: Random,
@@ -44,6 +79,7 @@ struct Comparison {
 impl Comparison {
     fn new(seed: u64) -> Self {
         Comparison {
+            shown_calls: ShownCalls::default(),
             boards: Random::new(seed),
             grid_numbers: Random::new(seed.wrapping_add(1 << 32)),
             declined: Random::new(seed.wrapping_add(2 << 32)),
@@ -97,12 +133,17 @@ impl Comparison {
         let case = if self.sequences % 4 == 3 {
             varied_case(&mut self.boards, &self.known)
         } else {
-            board_case(&mut self.boards, self.sequences)
+            board_case(
+                &mut self.boards,
+                self.sequences / 4 * 3 + self.sequences % 4,
+            )
         };
-        self.hold(&case, &expected(&case));
+        let answer = expected(&case);
+        self.hold(&case, &answer);
         self.sequences += 1;
-        if let Case::Board { calls, .. } = case {
+        if let Case::Board { calls, .. } = &case {
             self.done.calls += calls.len();
+            self.shown_calls.count(calls, &answer);
         }
     }
 
@@ -221,6 +262,7 @@ pub fn compare_for(seconds: u64, seed: u64) {
         comparison.show_progress();
     }
     println!("{}; no difference", comparison.figures());
+    println!("{}", comparison.shown_calls.figures());
 }
 
 /// Compares until so many board calls, searches and files are done.
@@ -250,4 +292,5 @@ pub fn compare_counts(wanted: Counts, seed: u64) {
         comparison.show_progress();
     }
     println!("{}; no difference", comparison.figures());
+    println!("{}", comparison.shown_calls.figures());
 }
