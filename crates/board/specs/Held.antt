@@ -37,6 +37,10 @@ pub record Says (r : Answer) (A : model.Answer) : Type 0 where
   pub answer : r .answer ≡ A .answer
   pub board : Held (r .board) (A .board)
 
+-- a declined call: its number, and the board as it was
+abbrev pub declined-with : ℕ → Board → Answer
+declined-with number b = record { number = number; answer = 0; board = b }
+
 -- WHAT A BOARD SHOWS: its sizes, edges as a record, ends and flag; past them the arrays are of no account
 pub record Shows (r : Shown) (B : model.Board) : Type 0 where
   pub height : r .height ≡ B .grid .height

@@ -12,11 +12,14 @@ ghost use Rattle.rules.specs.Drawing.{num};
 ghost use Rattle.model.specs.Board.{line-or-none};
 ghost use Rattle.model.specs.Calls as model;
 ghost use Rattle.boardview.specs.View.{Arrays, flag-in, grid-in, slot-on, edge-of, Kinds, Ready, Decided};
-ghost use Rattle.board.specs.Held.{Held, IsBoard, Says, Shows};
+ghost use Rattle.board.specs.Held.{Held, IsBoard, Says, Shows, declined-with};
 ghost use Rattle.board.specs.PlaceLaws.{slot-of-place, shown-byte, shown-at};
 ghost use Rattle.board.specs.ShowLaws.{Laid, end-at-index};
 ghost use Rattle.board.specs.CallLaws.{CanGoBack, board-back};
 use grid::Edge;
+
+// The byte of an undecided edge, as the edge type names it.
+const UNDECIDED: u8 = Edge::UNDECIDED.0;
 
 // The most checkpoints that may stand.
 const MOST_CHECKPOINTS: usize = 256;
@@ -49,35 +52,13 @@ pub struct Shown {
     pub flag: bool,
 }
 
-fn wide(byte: u8) -> usize
-    ensures { λ r. ⌜ r ≡ byte ⌝ }
-{
-    byte as usize
-}
-
-// The number of rows.
-fn height_of(kind: &[u8; 1024]) -> usize
-    requires { ⌜ Kinds (now kind) ⌝ }
-    ensures { λ r. ⌜ r ≡ grid-in (now (kind .entry)) .height ⌝ }
-{
-    wide(kind[510])
-}
-
-// The number of columns.
-fn width_of(kind: &[u8; 1024]) -> usize
-    requires { ⌜ Kinds (now kind) ⌝ }
-    ensures { λ r. ⌜ r ≡ grid-in (now (kind .entry)) .width ⌝ }
-{
-    wide(kind[511])
-}
-
 // The slot of the edge at a place of the field, any numbers; 0 where there is no edge.
 fn slot_at(kind: &[u8; 1024], y: usize, x: usize) -> usize
     requires { ⌜ Kinds (now kind) ⌝ }
     ensures { λ r. ⌜ r ≡ slot-of-place (model.edge-at (grid-in (now (kind .entry))) y x) ⌝ }
 {
-    let width = width_of(kind);
-    if y >= 2 * height_of(kind) - 1 {
+    let width = boardparts::width(kind);
+    if y >= 2 * boardparts::height(kind) - 1 {
         return 0;
     }
     if x >= 2 * width - 1 {
@@ -96,14 +77,14 @@ fn slot_at(kind: &[u8; 1024], y: usize, x: usize) -> usize
     0
 }
 
-// The byte at a place of the record.
+// The byte at a place of the record; a place that is no edge holds undecided.
 fn byte_at(edges: &[u8; 1024], kind: &[u8; 1024], y: usize, x: usize) -> u8
     requires { ⌜ Kinds (now kind) × (length (now edges) ≡ 1024) ⌝ }
     ensures { λ r. ⌜ r ≡ shown-byte (now (edges .entry)) (model.edge-at (grid-in (now (kind .entry))) y x) ⌝ }
 {
     let slot = slot_at(kind, y, x);
     if slot == 0 {
-        return 0;
+        return UNDECIDED;
     }
     edges[slot]
 }
@@ -160,6 +141,17 @@ fn no_marks() -> [usize; 256]
     ensures { λ r. ⌜ length r ≡ 256 ⌝ }
 {
     [0; 256]
+}
+
+// A declined call: its number, and the board as it was.
+fn declined(board: Board, number: u8) -> Answer
+    ensures { λ r. ⌜ r ≡ declined-with number board ⌝ }
+{
+    Answer {
+        number,
+        answer: 0,
+        board,
+    }
 }
 
 // The fresh board of an accepted grid.
@@ -258,8 +250,8 @@ fn record_of(edges: &[u8; 1024], kind: &[u8; 1024]) -> [u8; 961]
     requires { ⌜ Kinds (now kind) × (length (now edges) ≡ 1024) ⌝ }
     ensures { λ r. ⌜ Laid (shown-at (grid-in (now (kind .entry))) (now (edges .entry))) 961 r (places (grid-in (now (kind .entry)) .height) (grid-in (now (kind .entry)) .width)) ⌝ }
 {
-    let side = 2 * width_of(kind) - 1;
-    let places = (2 * height_of(kind) - 1) * side;
+    let side = 2 * boardparts::width(kind) - 1;
+    let places = (2 * boardparts::height(kind) - 1) * side;
     let mut bytes = no_bytes();
     let mut i = 0;
     while i < places {
@@ -311,11 +303,7 @@ impl Board {
         let kind = self.kind;
         let slot = slot_at(&kind, y, x);
         if slot == 0 {
-            return Answer {
-                number: 10,
-                answer: 0,
-                board: self,
-            };
+            return declined(self, 10);
         }
         if state.0 == Edge::LINE.0 {
             return decided(self, slot, true);
@@ -323,11 +311,7 @@ impl Board {
         if state.0 == Edge::NONE.0 {
             return decided(self, slot, false);
         }
-        Answer {
-            number: 11,
-            answer: 0,
-            board: self,
-        }
+        declined(self, 11)
     }
 
     // Reads the edge at a place, any numbers; 10 no such edge place; accepted, the answer is the edge's byte.
@@ -338,18 +322,14 @@ impl Board {
         let kind = self.kind;
         let edges = self.edges;
         let slot = slot_at(&kind, y, x);
-        if slot == 0 {
+        if slot != 0 {
             return Answer {
-                number: 10,
-                answer: 0,
+                number: 0,
+                answer: boardparts::wide(edges[slot]),
                 board: self,
             };
         }
-        Answer {
-            number: 0,
-            answer: wide(edges[slot]),
-            board: self,
-        }
+        declined(self, 10)
     }
 
     // A checkpoint; 12 with 256 standing.
@@ -359,11 +339,7 @@ impl Board {
     {
         let standing = self.standing;
         if standing >= MOST_CHECKPOINTS {
-            return Answer {
-                number: 12,
-                answer: 0,
-                board: self,
-            };
+            return declined(self, 12);
         }
         let mut board = self;
         board.marks[standing] = self.count;
@@ -397,8 +373,8 @@ impl Board {
         let edges = self.edges;
         let ends = self.ends;
         Shown {
-            height: height_of(&kind),
-            width: width_of(&kind),
+            height: boardparts::height(&kind),
+            width: boardparts::width(&kind),
             edges: record_of(&edges, &kind),
             ends: shown_ends(&ends),
             flag: self.count >= 1024,

@@ -5,10 +5,14 @@ ghost use mathlib.Core.Bool.{Bool, true, false};
 ghost use Prim.Native.Nat.{ℕ, _+_, _*_, _≤_, _<_};
 ghost use lib.ListN.{length, set, getD};
 ghost use Rattle.rules.specs.Grid.{Size, Accepted, grid-of};
-ghost use Rattle.rules.specs.Drawing.{num};
-ghost use Rattle.boardview.specs.View.{has-bit};
 ghost use Rattle.boardfresh.specs.FreshArrays.{right-byte, down-byte, edge-byte, EdgesFrom, end-number-at, EndsFrom, CellsInRange, kind-byte, is-clue, corner-test, barred-in, barred-below, bar-test, kind-from, FreshKinds};
 ghost use Rattle.boardfresh.specs.FreshView.{FreshBoard};
+use grid::Edge;
+
+// The bytes of an edge's states, as the edge type names them.
+const UNDECIDED: u8 = Edge::UNDECIDED.0;
+
+const NONE: u8 = Edge::NONE.0;
 
 // The byte of the edge to the right of a pad: undecided, or none in the last column and past the last pad.
 fn right_byte(width: usize, pads: usize, v: usize) -> u8
@@ -17,10 +21,10 @@ fn right_byte(width: usize, pads: usize, v: usize) -> u8
 {
     if v < pads {
         if v % width + 1 < width {
-            return 0;
+            return UNDECIDED;
         }
     }
-    2
+    NONE
 }
 
 // The byte of the edge downward: undecided, or none in the last row and past the last pad.
@@ -29,9 +33,9 @@ fn down_byte(width: usize, pads: usize, v: usize) -> u8
     ensures { λ r. ⌜ r ≡ down-byte width pads v ⌝ }
 {
     if v + width < pads {
-        return 0;
+        return UNDECIDED;
     }
-    2
+    NONE
 }
 
 // The byte of a slot; 32 slots before the first edge hold none.
@@ -40,7 +44,7 @@ fn edge_byte(width: usize, pads: usize, slot: usize) -> u8
     ensures { λ r. ⌜ r ≡ edge-byte width pads slot ⌝ }
 {
     if slot < 32 {
-        return 2;
+        return NONE;
     }
     if slot % 2 == 0 {
         return right_byte(width, pads, slot / 2 - 16);
@@ -53,7 +57,7 @@ pub fn fresh_edges(height: usize, width: usize) -> [u8; 1024]
     requires { ⌜ Size height × Size width ⌝ }
     ensures { λ r. ⌜ EdgesFrom width (height * width) 0 r ⌝ }
 {
-    let mut edges = [2u8; 1024];
+    let mut edges = [NONE; 1024];
     let pads = height * width;
     let mut slot = 32 + 2 * pads;
     while 0 < slot {
@@ -94,14 +98,6 @@ pub fn fresh_ends(cells: &[i32]) -> [i32; 512]
     ends
 }
 
-// Whether the byte of a pad has this bit.
-fn has(kind: &[u8; 1024], v: usize, bit: u8) -> bool
-    requires { ⌜ v < 1024 ⌝ }
-    ensures { λ r. ⌜ r ≡ has-bit (now (kind .entry)) v bit ⌝ }
-{
-    kind[v] & bit != 0
-}
-
 // Whether a pad is a clue.
 fn clue_at(cells: &[i32], v: usize) -> bool
     requires { ⌜ v < length (now cells) ⌝ }
@@ -133,10 +129,10 @@ fn is_barred(kind: &[u8; 1024], v: usize, corner: u8, bar: u8) -> bool
     requires { ⌜ v < 1024 ⌝ }
     ensures { λ r. ⌜ r ≡ barred-in (now (kind .entry)) v corner bar ⌝ }
 {
-    if has(kind, v, corner) {
-        return has(kind, v, bar);
+    if boardparts::has(kind, v, corner) {
+        return boardparts::has(kind, v, bar);
     }
-    !has(kind, v, 1)
+    !boardparts::has(kind, v, 1)
 }
 
 // Whether the pad diagonally below on that side is barred.
@@ -164,16 +160,6 @@ fn has_bar(kind: &[u8; 1024], width: usize, pads: usize, clue: bool, right: bool
     is_barred_below(kind, width, right, v)
 }
 
-// 1 or 0.
-fn number(fact: bool) -> u8
-    ensures { λ r. ⌜ r ≡ num fact ⌝ }
-{
-    if fact {
-        return 1;
-    }
-    0
-}
-
 // The byte of five facts.
 fn kind_byte(
     clue: bool,
@@ -184,11 +170,11 @@ fn kind_byte(
 ) -> u8
     ensures { λ r. ⌜ r ≡ kind-byte clue «bar_right» «bar_left» «corner_right» «corner_left» ⌝ }
 {
-    number(clue)
-        + 2 * number(bar_right)
-        + 4 * number(bar_left)
-        + 8 * number(corner_right)
-        + 16 * number(corner_left)
+    boardparts::one_if(clue)
+        + 2 * boardparts::one_if(bar_right)
+        + 4 * boardparts::one_if(bar_left)
+        + 8 * boardparts::one_if(corner_right)
+        + 16 * boardparts::one_if(corner_left)
 }
 
 // The byte of a pad, from the bytes of the pads below it.

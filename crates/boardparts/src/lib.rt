@@ -8,18 +8,27 @@ ghost use lib.Dec.{eqb, ltb};
 ghost use lib.IntN.{ℤ, pos, negsuc};
 ghost use Rattle.rules.specs.Drawing.{num};
 ghost use Rattle.model.specs.Board.{at-pad, isThrough};
-ghost use Rattle.boardview.specs.View.{pick, stopped, ended, going, end-at, has-bit, grid-in, second-pad, joined, unjoinable, pad-number, code-number, rival, keeps-apart, some-apart, clue-apart, undecided-around, degree-around, first-around, action-around};
+ghost use Rattle.boardview.specs.View.{pick, stopped, ended, going, end-at, has-bit, grid-in, second-pad, joined, unjoinable, pad-number, code-number, rival, keeps-apart, some-apart, clue-apart, edges-around, degree-around, first-around, action-around};
 ghost use Rattle.boardview.specs.Unwind.{log-stored, log-joined};
 use grid::Edge;
 
 // The bytes of an edge's states, as the edge type names them.
 const UNDECIDED: u8 = Edge::UNDECIDED.0;
 
+const LINE: u8 = Edge::LINE.0;
+
 // A byte as a number.
 pub fn wide(byte: u8) -> usize
     ensures { λ r. ⌜ r ≡ byte ⌝ }
 {
     byte as usize
+}
+
+// The number of rows, which the kinds hold behind the pads.
+pub fn height(kind: &[u8; 1024]) -> usize
+    ensures { λ r. ⌜ r ≡ grid-in (now (kind .entry)) .height ⌝ }
+{
+    wide(kind[510])
 }
 
 // The number of columns.
@@ -299,28 +308,24 @@ pub fn one_if(test: bool) -> u8
     0
 }
 
-// The undecided edges at a pad: each of its four bytes is 0, 1 or 2, and all but 0 have the half of itself and its rest by 2 as 1.
-pub fn undecided_around(edges: &[u8; 1024], width: usize, v: usize) -> u8
-    requires { ⌜ (v < 256) × (width ≤ 16) × ((n : ℕ) → getD (now edges) n 2 ≤ 2) ⌝ }
-    ensures { λ r. ⌜ (r ≡ undecided-around (now (edges .entry)) width v) × (r ≤ 4) ⌝ }
+// How many of the four edges at a pad hold this byte.
+pub fn edges_around(edges: &[u8; 1024], width: usize, v: usize, byte: u8) -> u8
+    requires { ⌜ (v < 256) × (width ≤ 16) ⌝ }
+    ensures { λ r. ⌜ (r ≡ edges-around (now (edges .entry)) width v byte) × (r ≤ 4) ⌝ }
 {
-    let left = edges[30 + 2 * v];
-    let right = edges[32 + 2 * v];
-    let up = edges[33 + 2 * v - 2 * width];
-    let down = edges[33 + 2 * v];
-    4 - (left + right + up + down + left % 2 + right % 2 + up % 2 + down % 2) / 2
+    let left = one_if(edges[30 + 2 * v] == byte);
+    let right = one_if(edges[32 + 2 * v] == byte);
+    let up = one_if(edges[33 + 2 * v - 2 * width] == byte);
+    let down = one_if(edges[33 + 2 * v] == byte);
+    left + right + up + down
 }
 
-// The lines at a pad, plus 1 for a clue: a byte is 1 where its rest by 2 is 1.
+// The lines at a pad, plus 1 for a clue.
 pub fn degree_around(edges: &[u8; 1024], kind: &[u8; 1024], width: usize, v: usize) -> u8
-    requires { ⌜ (v < 256) × (width ≤ 16) × ((n : ℕ) → getD (now edges) n 2 ≤ 2) ⌝ }
+    requires { ⌜ (v < 256) × (width ≤ 16) ⌝ }
     ensures { λ r. ⌜ (r ≡ degree-around (now (kind .entry)) (now (edges .entry)) width v) × (r ≤ 5) ⌝ }
 {
-    let left = edges[30 + 2 * v];
-    let right = edges[32 + 2 * v];
-    let up = edges[33 + 2 * v - 2 * width];
-    let down = edges[33 + 2 * v];
-    one_if(has(kind, v, 1)) + left % 2 + right % 2 + up % 2 + down % 2
+    one_if(has(kind, v, 1)) + edges_around(edges, width, v, LINE)
 }
 
 // The first of three slots whose byte is 0, or the fourth.
@@ -356,10 +361,10 @@ pub fn first_around(edges: &[u8; 1024], width: usize, v: usize) -> usize
 
 // What the pad check does last: 0 nothing, 1 the flag, a slot: a line there, 1024 + a slot: none there.
 pub fn action(edges: &[u8; 1024], kind: &[u8; 1024], width: usize, v: usize) -> usize
-    requires { ⌜ (v < 256) × (width ≤ 16) × ((n : ℕ) → getD (now edges) n 2 ≤ 2) ⌝ }
+    requires { ⌜ (v < 256) × (width ≤ 16) ⌝ }
     ensures { λ r. ⌜ (r ≡ action-around (now (kind .entry)) (now (edges .entry)) width v) × (r < 2048) ⌝ }
 {
-    let undecided = undecided_around(edges, width, v);
+    let undecided = edges_around(edges, width, v, UNDECIDED);
     let degree = degree_around(edges, kind, width, v);
     if 2 < degree {
         return 1;

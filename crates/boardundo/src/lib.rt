@@ -6,6 +6,10 @@ ghost use lib.ListN.{getD, set, length};
 ghost use lib.IntN.{ℤ, pos, negsuc};
 ghost use Rattle.rules.specs.Grid.{pads};
 ghost use Rattle.boardview.specs.View.{end-of, grid-in, Kinds, Entry, pad-number, slot-logged, second-pad, unjoined, undone-one, unwound};
+use grid::Edge;
+
+// The byte of an undecided edge, as the edge type names it.
+const UNDECIDED: u8 = Edge::UNDECIDED.0;
 
 // The pad that the number at an index of the log names, or 512.
 pub fn logged_pad(log: &[i32; 2048], i: usize) -> usize
@@ -69,7 +73,7 @@ pub fn undo_one(
     let slot = logged_slot(log, k);
     let v = boardparts::first_pad(slot);
     let q = boardparts::second_pad(slot, boardparts::width(kind));
-    edges[slot] = 0;
+    edges[slot] = UNDECIDED;
     unjoin(ends, log, k, v, q);
 }
 

@@ -13,7 +13,7 @@ use borrow.Author.Tests.{eqb-true, eqb-false, eq-eqb, ne-eqb, lt-leb, le-leb, lt
 use Rattle.rules.specs.Grid.{Edge, right, down, Grid, pads}
 use Rattle.rules.specs.Drawing.{num}
 use Rattle.model.specs.Board.{EdgeState, undecided, line, none, isLine, isUndecided, isBlank, State, set-flag, Decide, Check, with-edge, has-right, has-left, has-down, has-up, on-board, lines, undecideds, decide-first, line-or-none, around, degree, settled, decide, check}
-use Rattle.boardview.specs.View.{Arrays, logged, flag-in, ended-in, stopped, ended, pick, slot, edge-of, slot-on, state-of, view, has-bit, clue-bit, grid-in, undecided-in, Ready, Since, Decided, Settled, undecided-around, degree-around, first-around, action-around}
+use Rattle.boardview.specs.View.{Arrays, logged, flag-in, ended-in, stopped, ended, pick, slot, edge-of, slot-on, state-of, view, has-bit, clue-bit, grid-in, undecided-in, Ready, Since, Decided, Settled, edges-around, undecided-around, degree-around, first-around, action-around}
 use Rattle.boardview.specs.Bytes.{elim-true, elim-false, edge-on, right-slot, down-slot, on-slot}
 use Rattle.boardview.specs.Unwind.{since-still, since-then}
 use Rattle.boardview.specs.Geometry.{column-before, last-before, low-off, slot-is}
@@ -188,7 +188,7 @@ module _ (kind : List ℕ) (s : Arrays) (y : Ready (grid-in kind) s) (v : ℕ) (
   from-right = with-edge (has-right g v) (right v) (v + 1) from-up
 
   pub undecideds-is : undecideds (view s) (around g v) ≡ undecided-around es w v
-  unfolding around undecided-around undecideds
+  unfolding around edges-around undecideds
   undecideds-is = undecideds-one g s y (30 + 2 * v) low-left (has-left g v) at-left (right (v - 1)) is-left (v - 1) from-right
       ∙ rw (
         undecideds-one g s y (32 + 2 * v) low-right (has-right g v) at-right (right v) is-right (v + 1) from-up,
@@ -197,7 +197,7 @@ module _ (kind : List ℕ) (s : Arrays) (y : Ready (grid-in kind) s) (v : ℕ) (
       ) (omega arith)
 
   pub degree-is : degree g (view s) v ≡ degree-around kind es w v
-  unfolding around degree degree-around lines
+  unfolding around degree edges-around degree-around lines
   degree-is = rw (
     clue-test kind v small,
     lines-one g s y (30 + 2 * v) low-left (has-left g v) at-left (right (v - 1)) is-left (v - 1) from-right,
@@ -256,7 +256,7 @@ module _ (kind : List ℕ) (s : Arrays) (y : Ready (grid-in kind) s) (v : ℕ) (
     zero-of b h z = absurd (omega (arith, sym (ap num (eq-eqb b 0 z)) ∙ h))
 
     pub none-undecided : undecided-around es w v ≡ 0 → decide-first dec m (around g v) (view s) ≡ view s
-    unfolding undecided-around
+    unfolding edges-around
     none-undecided h = skip-left (zero-of bytes-left (omega arith)) ∙ (skip-right (zero-of bytes-right (omega arith)) ∙ (skip-up (zero-of bytes-up (omega arith)) ∙ skip-down (zero-of bytes-down (omega arith))))
 
     -- the first undecided edge: it is decided, and its byte is 0
@@ -264,7 +264,7 @@ module _ (kind : List ℕ) (s : Arrays) (y : Ready (grid-in kind) s) (v : ℕ) (
     Claim n = (decide-first dec m (around g v) (view s) ≡ dec (edge-of n) m (view s)) × (getD es n 0 ≡ 0) × (n < 1024)
 
     pub first-undecided : (undecided-around es w v ≡ 0 → ⊥) → Claim (first-around es w v)
-    unfolding undecided-around first-around
+    unfolding edges-around first-around
     first-undecided h = go1 (eqb bytes-left 0) refl
       where
         go4 : (bytes-left ≡ 0 → ⊥) → (bytes-right ≡ 0 → ⊥) → (bytes-up ≡ 0 → ⊥) → (b : Bool) → eqb bytes-down 0 ≡ b → Claim (33 + 2 * v)

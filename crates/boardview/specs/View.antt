@@ -259,12 +259,17 @@ clue-apart edges ends width v = pick (eqb (code-number (end-at ends v)) 0) false
 unfoldable pub keep-at : Grid → ℕ → ℕ → ℕ → List Item
 keep-at g code s u = when (slot-on g s) (keep-apart code (edge-of s) u ∷ [])
 
--- the undecided edges at a pad, its lines, its degree, its first undecided edge: left, right, up, down
-unfoldable pub undecided-around : List ℕ → ℕ → ℕ → ℕ
-undecided-around edges width v = num (eqb (getD edges (30 + 2 * v) 0) 0) + num (eqb (getD edges (32 + 2 * v) 0) 0) + num (eqb (getD edges (33 + 2 * v - 2 * width) 0) 0) + num (eqb (getD edges (33 + 2 * v) 0) 0)
+-- how many of the four edges at a pad hold a byte: left, right, up, down
+unfoldable pub edges-around : List ℕ → ℕ → ℕ → ℕ → ℕ
+edges-around edges width v byte = num (eqb (getD edges (30 + 2 * v) 0) byte) + num (eqb (getD edges (32 + 2 * v) 0) byte)
+    + num (eqb (getD edges (33 + 2 * v - 2 * width) 0) byte) + num (eqb (getD edges (33 + 2 * v) 0) byte)
+
+-- the undecided edges at a pad, its degree, its first undecided edge
+abbrev pub undecided-around : List ℕ → ℕ → ℕ → ℕ
+undecided-around edges width v = edges-around edges width v 0
 
 unfoldable pub degree-around : List ℕ → List ℕ → ℕ → ℕ → ℕ
-degree-around kind edges width v = num (has-bit kind v clue-bit) + num (eqb (getD edges (30 + 2 * v) 0) 1) + num (eqb (getD edges (32 + 2 * v) 0) 1) + num (eqb (getD edges (33 + 2 * v - 2 * width) 0) 1) + num (eqb (getD edges (33 + 2 * v) 0) 1)
+degree-around kind edges width v = num (has-bit kind v clue-bit) + edges-around edges width v 1
 
 unfoldable pub first-around : List ℕ → ℕ → ℕ → ℕ
 first-around edges width v = pick (eqb (getD edges (30 + 2 * v) 0) 0) (30 + 2 * v) (pick (eqb (getD edges (32 + 2 * v) 0) 0) (32 + 2 * v) (pick (eqb (getD edges (33 + 2 * v - 2 * width) 0) 0) (33 + 2 * v - 2 * width) (33 + 2 * v)))

@@ -31,8 +31,8 @@ pub fn decide_none(
     requires { ⌜ (slot < 1024) × Kinds (now kind) × Ready (grid-in (now kind)) (record { edges = now edges; ends = now ends; log = now log; count = count }) ⌝ }
     ensures { λ r. ⌜ NoneAt (grid-in (now (kind .entry))) (record { edges = now (edges .entry); ends = now (ends .entry); log = now (log .entry); count = count }) slot (record { edges = now (edges .exit); ends = now (ends .exit); log = now (log .exit); count = r }) ⌝ }
 {
-    let old = edges[slot];
-    if old == UNDECIDED {
+    let state = edges[slot];
+    if state == UNDECIDED {
         boardparts::store(edges, log, slot, NONE, count);
         let v = boardparts::first_pad(slot);
         let q = boardparts::second_pad(slot, boardparts::width(kind));
@@ -42,7 +42,7 @@ pub fn decide_none(
         }
         return boardparts::end(check(edges, ends, log, kind, q, after));
     }
-    if old == LINE {
+    if state == LINE {
         return boardparts::stop(count);
     }
     boardparts::end(count)

@@ -11,36 +11,19 @@ ghost use Rattle.model.specs.Search as model;
 ghost use Rattle.boardview.specs.View.{grid-in, Kinds, has-bit, clue-bit};
 ghost use Rattle.searchview.specs.Progress.{put-bytes};
 ghost use Rattle.searchview.specs.Shown.{EdgesReady, edges-only, is-tried, place-shown, record-shown, last-row, NextPad, Added};
+use grid::Edge;
 
-// A byte as a number.
-fn wide(x: u8) -> usize
-    ensures { λ r. ⌜ r ≡ x ⌝ }
-{
-    x as usize
-}
+// The bytes of an edge's states, as the edge type names them.
+const UNDECIDED: u8 = Edge::UNDECIDED.0;
 
-// The number of columns, which the kinds hold behind the pads.
-fn width_of(kind: &[u8; 1024]) -> usize
-    requires { ⌜ length (now kind) ≡ 1024 ⌝ }
-    ensures { λ r. ⌜ r ≡ grid-in (now (kind .entry)) .width ⌝ }
-{
-    wide(kind[511])
-}
-
-// The number of rows.
-fn height_of(kind: &[u8; 1024]) -> usize
-    requires { ⌜ length (now kind) ≡ 1024 ⌝ }
-    ensures { λ r. ⌜ r ≡ grid-in (now (kind .entry)) .height ⌝ }
-{
-    wide(kind[510])
-}
+const LINE: u8 = Edge::LINE.0;
 
 // The first pad of the last row.
 pub fn first_of_last_row(kind: &[u8; 1024]) -> usize
     requires { ⌜ Kinds (now kind) ⌝ }
     ensures { λ r. ⌜ r ≡ last-row (grid-in (now (kind .entry))) ⌝ }
 {
-    (height_of(kind) - 1) * width_of(kind)
+    (boardparts::height(kind) - 1) * boardparts::width(kind)
 }
 
 // The number of places, which is the length of a record.
@@ -48,14 +31,7 @@ fn record_size(kind: &[u8; 1024]) -> usize
     requires { ⌜ Kinds (now kind) ⌝ }
     ensures { λ r. ⌜ r ≡ places (grid-in (now (kind .entry)) .height) (grid-in (now (kind .entry)) .width) ⌝ }
 {
-    (2 * height_of(kind) - 1) * (2 * width_of(kind) - 1)
-}
-
-// 1 if it is so, else 0.
-fn one_if(b: bool) -> u8
-    ensures { λ r. ⌜ (r ≡ num b) × (r ≤ 1) ⌝ }
-{
-    if b { 1 } else { 0 }
+    (2 * boardparts::height(kind) - 1) * (2 * boardparts::width(kind) - 1)
 }
 
 // 1 for a clue, 0 for a blank pad.
@@ -63,7 +39,7 @@ fn clue_at(kind: &[u8; 1024], v: usize) -> u8
     requires { ⌜ (v < 1024) × (length (now kind) ≡ 1024) ⌝ }
     ensures { λ r. ⌜ (r ≡ num (has-bit (now (kind .entry)) v clue-bit)) × (r ≤ 1) ⌝ }
 {
-    if kind[v] & 1 == 0 { 0 } else { 1 }
+    boardparts::one_if(boardparts::has(kind, v, 1))
 }
 
 // 1 for a line, 0 for any other byte.
@@ -71,7 +47,7 @@ fn line_at(edges: &[u8; 1024], s: usize) -> u8
     requires { ⌜ (s < 1024) × (length (now edges) ≡ 1024) ⌝ }
     ensures { λ r. ⌜ (r ≡ num (eqb (getD (now (edges .entry)) s 0) 1)) × (r ≤ 1) ⌝ }
 {
-    if edges[s] == 1 { 1 } else { 0 }
+    boardparts::one_if(edges[s] == LINE)
 }
 
 // Whether right and down are tried at a pad: where clue + lines is 0 or 2.
@@ -80,8 +56,12 @@ pub fn tried(edges: &[u8; 1024], kind: &[u8; 1024], v: usize, right: bool, down:
     ensures { λ r. ⌜ r ≡ is-tried (grid-in (now (kind .entry))) v (edges-only (now (edges .entry))) right down ⌝ }
 {
     let left = line_at(edges, 30 + 2 * v);
-    let up = line_at(edges, 33 + 2 * v - 2 * width_of(kind));
-    let degree = clue_at(kind, v) + left + up + one_if(right) + one_if(down);
+    let up = line_at(edges, 33 + 2 * v - 2 * boardparts::width(kind));
+    let degree = clue_at(kind, v)
+        + left
+        + up
+        + boardparts::one_if(right)
+        + boardparts::one_if(down);
     if degree == 0 {
         return true;
     }
@@ -95,7 +75,7 @@ pub fn next_pad(edges: &[u8; 1024], last: usize, from: usize) -> usize
 {
     let mut v = from;
     while v < last {
-        if edges[32 + 2 * v] == 0 {
+        if edges[32 + 2 * v] == UNDECIDED {
             return v;
         }
         v += 1;
@@ -103,22 +83,22 @@ pub fn next_pad(edges: &[u8; 1024], last: usize, from: usize) -> usize
     v
 }
 
-// The byte at a place of the record.
+// The byte at a place of the record; a place that is no edge holds undecided.
 fn place_byte(edges: &[u8; 1024], kind: &[u8; 1024], row: usize, column: usize) -> u8
     requires { ⌜ (row < 31) × (column < 31) × Kinds (now kind) × EdgesReady (grid-in (now kind)) (now edges) ⌝ }
     ensures { λ r. ⌜ r ≡ place-shown (grid-in (now (kind .entry)) .width) (now (edges .entry)) row column ⌝ }
 {
-    let v = row / 2 * width_of(kind) + column / 2;
+    let v = row / 2 * boardparts::width(kind) + column / 2;
     if row % 2 == 0 {
         if column % 2 == 0 {
-            return 0;
+            return UNDECIDED;
         }
         return edges[32 + 2 * v];
     }
     if column % 2 == 0 {
         return edges[33 + 2 * v];
     }
-    0
+    UNDECIDED
 }
 
 // Writes the record into the buffer and counts its lines.
@@ -129,13 +109,13 @@ fn write_record(edges: &[u8; 1024], kind: &[u8; 1024], buffer: &mut [u8], at: us
         × (r ≡ record-lines (record-shown (grid-in (now (kind .entry))) (now (edges .entry)))) ⌝ }
 {
     let size = record_size(kind);
-    let side = 2 * width_of(kind) - 1;
+    let side = 2 * boardparts::width(kind) - 1;
     let mut lines: usize = 0;
     let mut i = 0;
     while i < size {
         let byte = place_byte(edges, kind, i / side, i % side);
         buffer[at + i] = byte;
-        lines += wide(one_if(byte == 1));
+        lines += boardparts::wide(boardparts::one_if(byte == LINE));
         i += 1;
     }
     lines

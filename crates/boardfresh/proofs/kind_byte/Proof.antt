@@ -6,11 +6,11 @@ use Rattle.boardfresh.specs.KindBits.{number-small}
 use Rattle.boardfresh.proofs.kind_byte.Statement.{statement}
 use Rattle.boardfresh.proofs.kind_byte.Tie as tie
 
-number-requires : tie.Need-number-requires
-number-requires c κs = search needs
+one-if-requires : tie.Need-one-if-requires
+one-if-requires c κs = search needs
 
-number-requires-2 : tie.Need-number-requires-2
-number-requires-2 c κs = search needs
+one-if-requires-2 : tie.Need-one-if-requires-2
+one-if-requires-2 c κs = search needs
 
 mul-result : tie.Need-mul-result
 mul-result c = omega (arith, number-small (c .before .before .args .clue), number-small (c .before .before .args .bar-right))
@@ -18,8 +18,8 @@ mul-result c = omega (arith, number-small (c .before .before .args .clue), numbe
 add-result : tie.Need-add-result
 add-result c = omega (arith, number-small (c .before .before .args .clue), number-small (c .before .before .args .bar-right))
 
-number-requires-3 : tie.Need-number-requires-3
-number-requires-3 c κs = search needs
+one-if-requires-3 : tie.Need-one-if-requires-3
+one-if-requires-3 c κs = search needs
 
 mul-result-2 : tie.Need-mul-result-2
 mul-result-2 c = omega (arith, number-small (c .before .before .before .args .clue), number-small (c .before .before .before .args .bar-right), number-small (c .before .before .before .args .bar-left))
@@ -27,8 +27,8 @@ mul-result-2 c = omega (arith, number-small (c .before .before .before .args .cl
 add-result-2 : tie.Need-add-result-2
 add-result-2 c = omega (arith, number-small (c .before .before .before .args .clue), number-small (c .before .before .before .args .bar-right), number-small (c .before .before .before .args .bar-left))
 
-number-requires-4 : tie.Need-number-requires-4
-number-requires-4 c κs = search needs
+one-if-requires-4 : tie.Need-one-if-requires-4
+one-if-requires-4 c κs = search needs
 
 mul-result-3 : tie.Need-mul-result-3
 mul-result-3 c = omega (arith, number-small (c .before .before .before .before .args .clue), number-small (c .before .before .before .before .args .bar-right), number-small (c .before .before .before .before .args .bar-left), number-small (c .before .before .before .before .args .corner-right))
@@ -36,8 +36,8 @@ mul-result-3 c = omega (arith, number-small (c .before .before .before .before .
 add-result-3 : tie.Need-add-result-3
 add-result-3 c = omega (arith, number-small (c .before .before .before .before .args .clue), number-small (c .before .before .before .before .args .bar-right), number-small (c .before .before .before .before .args .bar-left), number-small (c .before .before .before .before .args .corner-right))
 
-number-requires-5 : tie.Need-number-requires-5
-number-requires-5 c κs = search needs
+one-if-requires-5 : tie.Need-one-if-requires-5
+one-if-requires-5 c κs = search needs
 
 mul-result-4 : tie.Need-mul-result-4
 mul-result-4 c = omega (arith, number-small (c .before .before .before .before .before .args .clue), number-small (c .before .before .before .before .before .args .bar-right), number-small (c .before .before .before .before .before .args .bar-left), number-small (c .before .before .before .before .before .args .corner-right), number-small (c .before .before .before .before .before .args .corner-left))
@@ -53,17 +53,17 @@ pub kind-byte-spec : {M : Type 1} → statement M
 kind-byte-spec =
     tie.close
     (tie.spec
-    number-requires
-    number-requires-2
+    one-if-requires
+    one-if-requires-2
     mul-result
     add-result
-    number-requires-3
+    one-if-requires-3
     mul-result-2
     add-result-2
-    number-requires-4
+    one-if-requires-4
     mul-result-3
     add-result-3
-    number-requires-5
+    one-if-requires-5
     mul-result-4
     add-result-4
     returns)

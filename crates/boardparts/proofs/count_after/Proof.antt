@@ -3,14 +3,10 @@ use borrow.Author.Tests.{lt-ltb, le-ltb, eq-eqb, ne-eqb}
 use mathlib.Core.Path.{_≡_, refl, sym, ap, _∙_}
 use Rattle.boardparts.proofs.count_after.Statement.{statement}
 use Rattle.boardparts.proofs.count_after.Tie as tie
-use Rattle.boardparts.proofs.count_after.Reads as reads
-use Rattle.boardparts.proofs.count_after.Lts as lts
 
--- src/lib.rt:232:9
 returns : tie.Need-returns
 returns c = rw (eq-eqb _ _ (c .if1 .taken)) refl
 
--- src/lib.rt:228:1
 returns-2 : tie.Need-returns-2
 returns-2 c = rw (ne-eqb _ _ (c .if1 .left)) refl
 

@@ -5,19 +5,14 @@ use mathlib.Core.Path.{_≡_, refl, sym, ap, _∙_}
 use borrow.Author.Needs.{needs}
 use Rattle.boardparts.proofs.end.Statement.{statement}
 use Rattle.boardparts.proofs.end.Tie as tie
-use Rattle.boardparts.proofs.end.Reads as reads
-use Rattle.boardparts.proofs.end.Lts as lts
 
--- src/lib.rt:40:9
 returns : tie.Need-returns
 unfolding ended
 returns c = rw (lt-ltb _ _ (c .if1 .taken)) refl
 
--- src/lib.rt:42:5
 add-result : tie.Need-add-result
 add-result c = search needs
 
--- src/lib.rt:36:1
 returns-2 : tie.Need-returns-2
 unfolding ended
 returns-2 c = rw (le-ltb _ _ (c .if1 .left)) refl

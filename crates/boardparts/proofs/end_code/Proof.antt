@@ -7,30 +7,22 @@ use mathlib.Core.Path.{_≡_, refl, sym, ap, _∙_}
 use borrow.Author.Needs.{needs}
 use Rattle.boardparts.proofs.end_code.Statement.{statement}
 use Rattle.boardparts.proofs.end_code.Tie as tie
-use Rattle.boardparts.proofs.end_code.Reads as reads
-use Rattle.boardparts.proofs.end_code.Lts as lts
 
--- src/lib.rt:108:13
 mul-a : tie.Need-mul-a
 mul-a c = search needs
 
--- src/lib.rt:108:13
 element-copy-out-a : tie.Need-element-copy-out-a
 element-copy-out-a c = search needs
 
--- src/lib.rt:110:17
 sub-result : tie.Need-sub-result
 sub-result c = code-sub (getD (c .before .before .args .ends .now) (c .before .before .args .v) (pos 0)) (record { sfits = c .before .a .given }) (negative (getD (c .before .before .args .ends .now) (c .before .before .args .v) (pos 0)) (record { sfits = c .before .a .given }) (c .if1 .taken))
 
--- src/lib.rt:110:16
 cast-result : tie.Need-cast-result
 cast-result c = code-cast (getD (c .before .before .args .ends .now) (c .before .before .args .v) (pos 0)) (record { sfits = c .before .a .given }) (negative (getD (c .before .before .args .ends .now) (c .before .before .args .v) (pos 0)) (record { sfits = c .before .a .given }) (c .if1 .taken))
 
--- src/lib.rt:110:9
 returns : tie.Need-returns
 returns c = code-is (getD (c .before .before .args .ends .now) (c .before .before .args .v) (pos 0)) (record { sfits = c .before .a .given }) (negative (getD (c .before .before .args .ends .now) (c .before .before .args .v) (pos 0)) (record { sfits = c .before .a .given }) (c .if1 .taken)) ∙ ap code-number (end-read (c .before .before .args .ends .now) (c .before .before .args .v) (c .before .before .pre .0) (c .before .before .pre .1))
 
--- src/lib.rt:104:1
 returns-2 : tie.Need-returns-2
 returns-2 c = no-code (getD (c .before .before .args .ends .now) (c .before .before .args .v) (pos 0)) (not-negative (getD (c .before .before .args .ends .now) (c .before .before .args .v) (pos 0)) (record { sfits = c .before .a .given }) (c .if1 .left)) ∙ ap code-number (end-read (c .before .before .args .ends .now) (c .before .before .args .v) (c .before .before .pre .0) (c .before .before .pre .1))
 

@@ -7,26 +7,19 @@ use mathlib.Core.Path.{_≡_, refl, sym, ap, _∙_}
 use borrow.Author.Needs.{needs}
 use Rattle.boardparts.proofs.end_pad.Statement.{statement}
 use Rattle.boardparts.proofs.end_pad.Tie as tie
-use Rattle.boardparts.proofs.end_pad.Reads as reads
-use Rattle.boardparts.proofs.end_pad.Lts as lts
 
--- src/lib.rt:96:13
 mul-a : tie.Need-mul-a
 mul-a c = search needs
 
--- src/lib.rt:96:13
 element-copy-out-a : tie.Need-element-copy-out-a
 element-copy-out-a c = search needs
 
--- src/lib.rt:98:9
 returns : tie.Need-returns
 returns c = no-pad (getD (c .before .before .args .ends .now) (c .before .before .args .v) (pos 0)) (negative (getD (c .before .before .args .ends .now) (c .before .before .args .v) (pos 0)) (record { sfits = c .before .a .given }) (c .if1 .taken)) ∙ ap pad-number (end-read (c .before .before .args .ends .now) (c .before .before .args .v) (c .before .before .pre .0) (c .before .before .pre .1))
 
--- src/lib.rt:100:5
 cast-result : tie.Need-cast-result
 cast-result c = cast-pad (getD (c .before .before .args .ends .now) (c .before .before .args .v) (pos 0)) (record { sfits = c .before .a .given }) (not-negative (getD (c .before .before .args .ends .now) (c .before .before .args .v) (pos 0)) (record { sfits = c .before .a .given }) (c .if1 .left))
 
--- src/lib.rt:92:1
 returns-2 : tie.Need-returns-2
 returns-2 c = pad-is (getD (c .before .before .args .ends .now) (c .before .before .args .v) (pos 0)) (record { sfits = c .before .a .given }) (not-negative (getD (c .before .before .args .ends .now) (c .before .before .args .v) (pos 0)) (record { sfits = c .before .a .given }) (c .if1 .left)) ∙ ap pad-number (end-read (c .before .before .args .ends .now) (c .before .before .args .v) (c .before .before .pre .0) (c .before .before .pre .1))
 

@@ -5,62 +5,46 @@ use mathlib.Core.Path.{_≡_, refl, sym, ap, _∙_}
 use borrow.Author.Needs.{needs}
 use Rattle.boardparts.proofs.first_of.Statement.{statement}
 use Rattle.boardparts.proofs.first_of.Tie as tie
-use Rattle.boardparts.proofs.first_of.Reads as reads
-use Rattle.boardparts.proofs.first_of.Lts as lts
 
--- src/lib.rt:299:21
 mul-result : tie.Need-mul-result
 mul-result c = search needs
 
--- src/lib.rt:299:16
 add-result : tie.Need-add-result
 add-result c = search needs
 
--- src/lib.rt:299:9
 returns : tie.Need-returns
 returns c = (rw (eq-eqb _ _ (c .if1 .taken)) refl, omega arith)
 
--- src/lib.rt:302:21
 mul-result-2 : tie.Need-mul-result-2
 mul-result-2 c = search needs
 
--- src/lib.rt:302:16
 add-result-2 : tie.Need-add-result-2
 add-result-2 c = search needs
 
--- src/lib.rt:302:9
 returns-2 : tie.Need-returns-2
 returns-2 c = (rw (ne-eqb _ _ (c .before .if1 .left), eq-eqb _ _ (c .if2 .taken)) refl, omega arith)
 
--- src/lib.rt:305:21
 mul-result-3 : tie.Need-mul-result-3
 mul-result-3 c = search needs
 
--- src/lib.rt:305:16
 add-result-3 : tie.Need-add-result-3
 add-result-3 c = search needs
 
--- src/lib.rt:305:29
 mul-result-4 : tie.Need-mul-result-4
 mul-result-4 c = search needs
 
--- src/lib.rt:305:16
 sub-result : tie.Need-sub-result
 sub-result c = search needs
 
--- src/lib.rt:305:9
 returns-3 : tie.Need-returns-3
 returns-3 c = (rw (ne-eqb _ _ (c .before .before .if1 .left), ne-eqb _ _ (c .before .if2 .left), eq-eqb _ _ (c .if3 .taken)) refl, omega arith)
 
--- src/lib.rt:307:10
 mul-result-5 : tie.Need-mul-result-5
 mul-result-5 c = search needs
 
--- src/lib.rt:307:5
 add-result-4 : tie.Need-add-result-4
 add-result-4 c = search needs
 
--- src/lib.rt:294:1
 returns-4 : tie.Need-returns-4
 returns-4 c = (rw (ne-eqb _ _ (c .before .before .if1 .left), ne-eqb _ _ (c .before .if2 .left), ne-eqb _ _ (c .if3 .left)) refl, omega arith)
 

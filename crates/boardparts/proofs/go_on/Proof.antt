@@ -5,19 +5,14 @@ use mathlib.Core.Path.{_≡_, refl, sym, ap, _∙_}
 use borrow.Author.Needs.{needs}
 use Rattle.boardparts.proofs.go_on.Statement.{statement}
 use Rattle.boardparts.proofs.go_on.Tie as tie
-use Rattle.boardparts.proofs.go_on.Reads as reads
-use Rattle.boardparts.proofs.go_on.Lts as lts
 
--- src/lib.rt:50:9
 returns : tie.Need-returns
 unfolding going
 returns c = rw (lt-ltb _ _ (c .if1 .taken)) refl
 
--- src/lib.rt:52:5
 sub-result : tie.Need-sub-result
 sub-result c = search needs
 
--- src/lib.rt:46:1
 returns-2 : tie.Need-returns-2
 unfolding going
 returns-2 c = rw (le-ltb _ _ (c .if1 .left)) refl

@@ -4,14 +4,10 @@ use mathlib.Core.Path.{_≡_, refl, sym, ap, _∙_}
 use borrow.Author.Needs.{needs}
 use Rattle.boardparts.proofs.has.Statement.{statement}
 use Rattle.boardparts.proofs.has.Tie as tie
-use Rattle.boardparts.proofs.has.Reads as reads
-use Rattle.boardparts.proofs.has.Lts as lts
 
--- src/lib.rt:60:5
 element-copy-out-result : tie.Need-element-copy-out-result
 element-copy-out-result c = search needs
 
--- src/lib.rt:56:1
 returns : tie.Need-returns
 unfolding has-bit
 returns c = refl

@@ -6,33 +6,23 @@ use mathlib.Core.Path.{_≡_, refl, sym, ap, _∙_}
 use borrow.Author.Needs.{needs}
 use Rattle.boardparts.proofs.keeps_apart.Statement.{statement}
 use Rattle.boardparts.proofs.keeps_apart.Tie as tie
-use Rattle.boardparts.proofs.keeps_apart.Reads as reads
-use Rattle.boardparts.proofs.keeps_apart.Lts as lts
-use Rattle.boardparts.proofs.end_code.Reads as end-code-reads
-use Rattle.boardparts.proofs.rivals.Reads as rivals-reads
 
--- src/lib.rt:207:8
 element-copy-out-if1 : tie.Need-element-copy-out-if1
 element-copy-out-if1 c = search needs
 
--- src/lib.rt:208:44
 sub-end-code : tie.Need-sub-end-code
 sub-end-code c = omega (arith, c .before .before .pre .2 (c .if1 .taken))
 
--- src/lib.rt:208:29
 end-code-requires : tie.Need-end-code-requires
 end-code-requires c κs = omega (arith, c .before .before .pre .1, c .before .before .pre .3)
 
--- src/lib.rt:208:9
 rivals-requires : tie.Need-rivals-requires
 rivals-requires c κs = search needs
 
--- src/lib.rt:208:9
 returns : tie.Need-returns
 unfolding keeps-apart
 returns c = rw (eq-eqb _ _ (c .before .before .if1 .taken), ← (c .before .end-code .ensures)) (c .rivals .ensures)
 
--- src/lib.rt:203:1
 returns-2 : tie.Need-returns-2
 unfolding keeps-apart
 returns-2 c = rw (ne-eqb _ _ (c .if1 .left)) refl

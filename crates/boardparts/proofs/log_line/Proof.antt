@@ -4,66 +4,49 @@ use mathlib.Core.Path.{_≡_, refl, sym, ap, _∙_}
 use borrow.Author.Needs.{needs}
 use Rattle.boardparts.proofs.log_line.Statement.{statement}
 use Rattle.boardparts.proofs.log_line.Tie as tie
-use Rattle.boardparts.proofs.log_line.Reads as reads
-use Rattle.boardparts.proofs.log_line.Lts as lts
 
--- src/lib.rt:171:13
 mul-k : tie.Need-mul-k
 mul-k c = search needs
 
--- src/lib.rt:172:14
 cast-log : tie.Need-cast-log
 cast-log c = search needs
 
--- src/lib.rt:172:5
 mul-log : tie.Need-mul-log
 mul-log c = search needs
 
--- src/lib.rt:172:5
 element-set-from-log : tie.Need-element-set-from-log
 element-set-from-log c = search needs
 
--- src/lib.rt:173:18
 mul-log-2 : tie.Need-mul-log-2
 mul-log-2 c = search needs
 
--- src/lib.rt:173:18
 element-copy-out-log : tie.Need-element-copy-out-log
 element-copy-out-log c = search needs
 
--- src/lib.rt:173:9
 add-log : tie.Need-add-log
 add-log c = search needs
 
--- src/lib.rt:173:5
 mul-log-3 : tie.Need-mul-log-3
 mul-log-3 c = search needs
 
--- src/lib.rt:173:5
 element-set-from-log-2 : tie.Need-element-set-from-log-2
 element-set-from-log-2 c = search needs
 
--- src/lib.rt:174:18
 mul-log-4 : tie.Need-mul-log-4
 mul-log-4 c = search needs
 
--- src/lib.rt:174:18
 element-copy-out-log-2 : tie.Need-element-copy-out-log-2
 element-copy-out-log-2 c = search needs
 
--- src/lib.rt:174:9
 add-t15 : tie.Need-add-t15
 add-t15 c = search needs
 
--- src/lib.rt:174:5
 mul-t14 : tie.Need-mul-t14
 mul-t14 c = search needs
 
--- src/lib.rt:174:5
 element-set-from-log-3 : tie.Need-element-set-from-log-3
 element-set-from-log-3 c = search needs
 
--- src/lib.rt:167:1
 returns : tie.Need-returns
 returns c = rw (slot-number (c .before .before .args .slot) (c .before .before .pre .0), end-copied (c .before .before .args .ends .now) (c .before .before .args .v) (c .before .before .pre .1) (c .before .before .pre .4) (record { sfits = c .before .log .given }), end-copied (c .before .before .args .ends .now) (c .before .before .args .q) (c .before .before .pre .2) (c .before .before .pre .4) (record { sfits = c .log2 .given })) refl
 

@@ -8,23 +8,17 @@ use mathlib.Core.Path.{_≡_, refl, sym, ap, _∙_}
 use borrow.Author.Needs.{needs}
 use Rattle.boardparts.proofs.passed.Statement.{statement}
 use Rattle.boardparts.proofs.passed.Tie as tie
-use Rattle.boardparts.proofs.passed.Reads as reads
-use Rattle.boardparts.proofs.passed.Lts as lts
 
--- src/lib.rt:120:13
 mul-a : tie.Need-mul-a
 mul-a c = search needs
 
--- src/lib.rt:120:13
 element-copy-out-a : tie.Need-element-copy-out-a
 element-copy-out-a c = search needs
 
--- src/lib.rt:122:9
 returns : tie.Need-returns
 unfolding end-of
 returns c = rw (← (end-read (c .before .before .args .ends .now) (c .before .before .args .v) (c .before .before .pre .0) (c .before .before .pre .1)), from-bits (getD (c .before .before .args .ends .now) (c .before .before .args .v) (pos 0)) _ (record { sfits = c .before .a .given }) (c .if1 .taken)) refl
 
--- src/lib.rt:116:1
 returns-2 : tie.Need-returns-2
 returns-2 c = not-passed (getD (c .before .before .args .ends .now) (c .before .before .args .v) (pos 0)) (c .if1 .left) ∙ ap isThrough (end-read (c .before .before .args .ends .now) (c .before .before .args .v) (c .before .before .pre .0) (c .before .before .pre .1))
 

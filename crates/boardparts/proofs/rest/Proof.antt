@@ -4,24 +4,16 @@ use mathlib.Core.Path.{_≡_, refl, sym, ap, _∙_}
 use borrow.Author.Needs.{needs}
 use Rattle.boardparts.proofs.rest.Statement.{statement}
 use Rattle.boardparts.proofs.rest.Tie as tie
-use Rattle.boardparts.proofs.rest.Reads as reads
-use Rattle.boardparts.proofs.rest.Lts as lts
-use Rattle.boardparts.proofs.end.Reads as end-reads
-use Rattle.boardparts.proofs.stop.Reads as stop-reads
 
--- src/lib.rt:61:9
 end-requires : tie.Need-end-requires
 end-requires c κs = search needs
 
--- src/lib.rt:61:9
 returns : tie.Need-returns
 returns c = rw (eq-eqb _ _ (c .before .if1 .taken)) (c .end .ensures)
 
--- src/lib.rt:63:5
 stop-requires : tie.Need-stop-requires
 stop-requires c κs = search needs
 
--- src/lib.rt:56:1
 returns-2 : tie.Need-returns-2
 returns-2 c = rw (ne-eqb _ _ (c .before .if1 .left)) (c .stop .ensures)
 

@@ -4,15 +4,11 @@ use borrow.Author.Tests.{lt-ltb, le-ltb, eq-eqb, ne-eqb}
 use mathlib.Core.Path.{_≡_, refl, sym, ap, _∙_}
 use Rattle.boardparts.proofs.rivals.Statement.{statement}
 use Rattle.boardparts.proofs.rivals.Tie as tie
-use Rattle.boardparts.proofs.rivals.Reads as reads
-use Rattle.boardparts.proofs.rivals.Lts as lts
 
--- src/lib.rt:132:9
 returns : tie.Need-returns
 unfolding rival
 returns c = rw (eq-eqb _ _ (c .if1 .taken)) refl
 
--- src/lib.rt:128:1
 returns-2 : tie.Need-returns-2
 unfolding rival
 returns-2 c = rw (ne-eqb _ _ (c .if1 .left)) refl

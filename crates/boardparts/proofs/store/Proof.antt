@@ -4,42 +4,31 @@ use mathlib.Core.Path.{_≡_, refl, sym, ap, _∙_}
 use borrow.Author.Needs.{needs}
 use Rattle.boardparts.proofs.store.Statement.{statement}
 use Rattle.boardparts.proofs.store.Tie as tie
-use Rattle.boardparts.proofs.store.Reads as reads
-use Rattle.boardparts.proofs.store.Lts as lts
 
--- src/lib.rt:160:13
 mul-k : tie.Need-mul-k
 mul-k c = search needs
 
--- src/lib.rt:161:5
 element-write-edges : tie.Need-element-write-edges
 element-write-edges c = search needs
 
--- src/lib.rt:162:14
 cast-log : tie.Need-cast-log
 cast-log c = search needs
 
--- src/lib.rt:162:5
 mul-t7 : tie.Need-mul-t7
 mul-t7 c = search needs
 
--- src/lib.rt:162:5
 element-set-from-log : tie.Need-element-set-from-log
 element-set-from-log c = search needs
 
--- src/lib.rt:163:9
 add-log : tie.Need-add-log
 add-log c = search needs
 
--- src/lib.rt:163:5
 mul-log : tie.Need-mul-log
 mul-log c = search needs
 
--- src/lib.rt:163:5
 element-set-of-log : tie.Need-element-set-of-log
 element-set-of-log c = search needs
 
--- src/lib.rt:156:1
 returns : tie.Need-returns
 returns c = (refl, rw (slot-number (c .args .slot) (c .pre .0)) refl)
 

@@ -6,26 +6,19 @@ use mathlib.Core.Path.{_≡_, refl, sym, ap, _∙_}
 use borrow.Author.Needs.{needs}
 use Rattle.boardundo.proofs.logged_pad.Statement.{statement}
 use Rattle.boardundo.proofs.logged_pad.Tie as tie
-use Rattle.boardundo.proofs.logged_pad.Reads as reads
-use Rattle.boardundo.proofs.logged_pad.Lts as lts
 
--- src/lib.rt:15:13
 mul-a : tie.Need-mul-a
 mul-a c = search needs
 
--- src/lib.rt:15:13
 element-copy-out-a : tie.Need-element-copy-out-a
 element-copy-out-a c = search needs
 
--- src/lib.rt:17:9
 returns : tie.Need-returns
 returns c = no-pad (getD (c .before .before .args .log .now) (c .before .before .args .i) (pos 0)) (negative (getD (c .before .before .args .log .now) (c .before .before .args .i) (pos 0)) (record { sfits = c .before .a .given }) (c .if1 .taken))
 
--- src/lib.rt:19:5
 cast-result : tie.Need-cast-result
 cast-result c = cast-pad (getD (c .before .before .args .log .now) (c .before .before .args .i) (pos 0)) (record { sfits = c .before .a .given }) (not-negative (getD (c .before .before .args .log .now) (c .before .before .args .i) (pos 0)) (record { sfits = c .before .a .given }) (c .if1 .left))
 
--- src/lib.rt:11:1
 returns-2 : tie.Need-returns-2
 returns-2 c = pad-is (getD (c .before .before .args .log .now) (c .before .before .args .i) (pos 0)) (record { sfits = c .before .a .given }) (not-negative (getD (c .before .before .args .log .now) (c .before .before .args .i) (pos 0)) (record { sfits = c .before .a .given }) (c .if1 .left))
 

@@ -7,26 +7,19 @@ use mathlib.Core.Path.{_≡_, refl, sym, ap, _∙_}
 use borrow.Author.Needs.{needs}
 use Rattle.boardundo.proofs.logged_slot.Statement.{statement}
 use Rattle.boardundo.proofs.logged_slot.Tie as tie
-use Rattle.boardundo.proofs.logged_slot.Reads as reads
-use Rattle.boardundo.proofs.logged_slot.Lts as lts
 
--- src/lib.rt:55:9
 mul-result : tie.Need-mul-result
 mul-result c = search needs
 
--- src/lib.rt:55:5
 mul-result-2 : tie.Need-mul-result-2
 mul-result-2 c = search needs
 
--- src/lib.rt:55:5
 element-copy-out-result : tie.Need-element-copy-out-result
 element-copy-out-result c = search needs
 
--- src/lib.rt:55:5
 cast-result : tie.Need-cast-result
 cast-result c = slot-cast (getD (c .before .args .log .now) (4 * c .before .args .k) (pos 0)) _ (record { sfits = c .result .given }) (c .before .pre .1)
 
--- src/lib.rt:51:1
 returns : tie.Need-returns
 returns c = slot-read (getD (c .before .args .log .now) (4 * c .before .args .k) (pos 0)) (record { sfits = c .result .given })
 

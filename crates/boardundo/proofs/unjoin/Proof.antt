@@ -8,135 +8,100 @@ use mathlib.Core.Path.{_≡_, refl, sym, ap, _∙_}
 use borrow.Author.Needs.{needs}
 use Rattle.boardundo.proofs.unjoin.Statement.{statement}
 use Rattle.boardundo.proofs.unjoin.Tie as tie
-use Rattle.boardundo.proofs.unjoin.Reads as reads
-use Rattle.boardundo.proofs.unjoin.Lts as lts
-use Rattle.boardundo.proofs.logged_pad.Reads as logged-pad-reads
 
--- src/lib.rt:27:17
 mul-a : tie.Need-mul-a
 mul-a c = search needs
 
--- src/lib.rt:27:17
 add-a : tie.Need-add-a
 add-a c = search needs
 
--- src/lib.rt:27:13
 mul-a-2 : tie.Need-mul-a-2
 mul-a-2 c = search needs
 
--- src/lib.rt:27:13
 element-copy-out-a : tie.Need-element-copy-out-a
 element-copy-out-a c = search needs
 
--- src/lib.rt:29:9
 returns : tie.Need-returns
 returns c = unjoined-0 (c .before .before .args .ends .now) (c .before .before .args .v) (c .before .before .args .q) (getD (c .before .before .args .log .now) (4 * c .before .before .args .k + 1) (pos 0)) (getD (c .before .before .args .log .now) (4 * c .before .before .args .k + 2) (pos 0)) (record { sfits = c .before .a .given }) (c .if1 .taken)
 
--- src/lib.rt:31:17
 mul-b : tie.Need-mul-b
 mul-b c = search needs
 
--- src/lib.rt:31:17
 add-b : tie.Need-add-b
 add-b c = search needs
 
--- src/lib.rt:31:13
 mul-b-2 : tie.Need-mul-b-2
 mul-b-2 c = search needs
 
--- src/lib.rt:31:13
 element-copy-out-b : tie.Need-element-copy-out-b
 element-copy-out-b c = search needs
 
--- src/lib.rt:32:29
 mul-logged-pad : tie.Need-mul-logged-pad
 mul-logged-pad c = search needs
 
--- src/lib.rt:32:29
 add-logged-pad : tie.Need-add-logged-pad
 add-logged-pad c = search needs
 
--- src/lib.rt:32:9
 logged-pad-requires : tie.Need-logged-pad-requires
 logged-pad-requires c κs = search needs
 
--- src/lib.rt:33:29
 mul-logged-pad-2 : tie.Need-mul-logged-pad-2
 mul-logged-pad-2 c = search needs
 
--- src/lib.rt:33:29
 add-logged-pad-2 : tie.Need-add-logged-pad-2
 add-logged-pad-2 c = search needs
 
--- src/lib.rt:33:9
 logged-pad-requires-2 : tie.Need-logged-pad-requires-2
 logged-pad-requires-2 c κs = search needs
 
--- src/lib.rt:34:5
 mul-a-3 : tie.Need-mul-a-3
 mul-a-3 c = search needs
 
--- src/lib.rt:34:5
 element-set-from-a : tie.Need-element-set-from-a
 element-set-from-a c = search needs
 
--- src/lib.rt:35:5
 mul-b-3 : tie.Need-mul-b-3
 mul-b-3 c = search needs
 
--- src/lib.rt:35:5
 element-set-from-b : tie.Need-element-set-from-b
 element-set-from-b c = search needs
 
--- src/lib.rt:37:19
 cast-ends : tie.Need-cast-ends
 cast-ends c = search needs
 
--- src/lib.rt:37:9
 mul-t24 : tie.Need-mul-t24
 mul-t24 c = search needs
 
--- src/lib.rt:37:9
 element-set-from-ends : tie.Need-element-set-from-ends
 element-set-from-ends c = search needs
 
--- src/lib.rt:39:23
 cast-ends-2 : tie.Need-cast-ends-2
 cast-ends-2 c = search needs
 
--- src/lib.rt:39:13
 mul-t29 : tie.Need-mul-t29
 mul-t29 c = search needs
 
--- src/lib.rt:39:13
 element-set-from-ends-2 : tie.Need-element-set-from-ends-2
 element-set-from-ends-2 c = search needs
 
--- src/lib.rt:40:13
 returns-2 : tie.Need-returns-2
 returns-2 c = unjoined-1 (c .before .before .before .before .before .before .before .args .ends .now) (c .before .before .before .before .before .before .before .args .v) (c .before .before .before .before .before .before .before .args .q) _ _ (getD (c .before .before .before .before .before .before .before .args .log .now) (4 * c .before .before .before .before .before .before .before .args .k + 1) (pos 0)) (getD (c .before .before .before .before .before .before .before .args .log .now) (4 * c .before .before .before .before .before .before .before .args .k + 2) (pos 0)) _ _ _ _ (c .before .before .before .before .before .before .before .pre .3) (c .before .before .before .logged-pad .ensures) (c .before .before .logged-pad2 .ensures) (back (getD (c .before .before .before .before .before .before .before .args .log .now) (4 * c .before .before .before .before .before .before .before .args .k + 1) (pos 0)) (record { sfits = c .before .before .before .before .before .before .a .given })) (back (getD (c .before .before .before .before .before .before .before .args .log .now) (4 * c .before .before .before .before .before .before .before .args .k + 2) (pos 0)) (record { sfits = c .before .before .before .before .b .given })) (slot-number (c .before .before .before .before .before .before .before .args .v) (omega arith)) (slot-number (c .before .before .before .before .before .before .before .args .q) (omega arith)) (sym (not-passed (getD (c .before .before .before .before .before .before .before .args .log .now) (4 * c .before .before .before .before .before .before .before .args .k + 1) (pos 0)) (c .before .before .before .before .before .if1 .left))) (c .before .if2 .taken) (c .if3 .taken)
 
--- src/lib.rt:42:9
 returns-3 : tie.Need-returns-3
 returns-3 c = unjoined-2 (c .before .before .before .before .before .before .before .args .ends .now) (c .before .before .before .before .before .before .before .args .v) (c .before .before .before .before .before .before .before .args .q) _ _ (getD (c .before .before .before .before .before .before .before .args .log .now) (4 * c .before .before .before .before .before .before .before .args .k + 1) (pos 0)) (getD (c .before .before .before .before .before .before .before .args .log .now) (4 * c .before .before .before .before .before .before .before .args .k + 2) (pos 0)) _ _ _ _ (c .before .before .before .before .before .before .before .pre .3) (c .before .before .before .logged-pad .ensures) (c .before .before .logged-pad2 .ensures) (back (getD (c .before .before .before .before .before .before .before .args .log .now) (4 * c .before .before .before .before .before .before .before .args .k + 1) (pos 0)) (record { sfits = c .before .before .before .before .before .before .a .given })) (back (getD (c .before .before .before .before .before .before .before .args .log .now) (4 * c .before .before .before .before .before .before .before .args .k + 2) (pos 0)) (record { sfits = c .before .before .before .before .b .given })) (slot-number (c .before .before .before .before .before .before .before .args .v) (omega arith)) (slot-number (c .before .before .before .before .before .before .before .args .q) (omega arith)) (sym (not-passed (getD (c .before .before .before .before .before .before .before .args .log .now) (4 * c .before .before .before .before .before .before .before .args .k + 1) (pos 0)) (c .before .before .before .before .before .if1 .left))) (c .before .if2 .taken) (c .if3 .left)
 
--- src/lib.rt:45:19
 cast-ends-3 : tie.Need-cast-ends-3
 cast-ends-3 c = search needs
 
--- src/lib.rt:45:9
 mul-t33 : tie.Need-mul-t33
 mul-t33 c = search needs
 
--- src/lib.rt:45:9
 element-set-from-ends-3 : tie.Need-element-set-from-ends-3
 element-set-from-ends-3 c = search needs
 
--- src/lib.rt:46:9
 returns-4 : tie.Need-returns-4
 returns-4 c = unjoined-3 (c .before .before .before .before .before .before .before .args .ends .now) (c .before .before .before .before .before .before .before .args .v) (c .before .before .before .before .before .before .before .args .q) _ _ (getD (c .before .before .before .before .before .before .before .args .log .now) (4 * c .before .before .before .before .before .before .before .args .k + 1) (pos 0)) (getD (c .before .before .before .before .before .before .before .args .log .now) (4 * c .before .before .before .before .before .before .before .args .k + 2) (pos 0)) _ _ _ _ (c .before .before .before .before .before .before .before .pre .3) (c .before .before .before .logged-pad .ensures) (c .before .before .logged-pad2 .ensures) (back (getD (c .before .before .before .before .before .before .before .args .log .now) (4 * c .before .before .before .before .before .before .before .args .k + 1) (pos 0)) (record { sfits = c .before .before .before .before .before .before .a .given })) (back (getD (c .before .before .before .before .before .before .before .args .log .now) (4 * c .before .before .before .before .before .before .before .args .k + 2) (pos 0)) (record { sfits = c .before .before .before .before .b .given })) (slot-number (c .before .before .before .before .before .before .before .args .v) (omega arith)) (slot-number (c .before .before .before .before .before .before .before .args .q) (omega arith)) (sym (not-passed (getD (c .before .before .before .before .before .before .before .args .log .now) (4 * c .before .before .before .before .before .before .before .args .k + 1) (pos 0)) (c .before .before .before .before .before .if1 .left))) (c .before .if2 .left) (c .if4 .taken)
 
--- src/lib.rt:23:1
 returns-5 : tie.Need-returns-5
 returns-5 c = unjoined-4 (c .before .before .before .before .before .before .before .args .ends .now) (c .before .before .before .before .before .before .before .args .v) (c .before .before .before .before .before .before .before .args .q) _ _ (getD (c .before .before .before .before .before .before .before .args .log .now) (4 * c .before .before .before .before .before .before .before .args .k + 1) (pos 0)) (getD (c .before .before .before .before .before .before .before .args .log .now) (4 * c .before .before .before .before .before .before .before .args .k + 2) (pos 0)) _ _ _ _ (c .before .before .before .before .before .before .before .pre .3) (c .before .before .before .logged-pad .ensures) (c .before .before .logged-pad2 .ensures) (back (getD (c .before .before .before .before .before .before .before .args .log .now) (4 * c .before .before .before .before .before .before .before .args .k + 1) (pos 0)) (record { sfits = c .before .before .before .before .before .before .a .given })) (back (getD (c .before .before .before .before .before .before .before .args .log .now) (4 * c .before .before .before .before .before .before .before .args .k + 2) (pos 0)) (record { sfits = c .before .before .before .before .b .given })) (slot-number (c .before .before .before .before .before .before .before .args .v) (omega arith)) (slot-number (c .before .before .before .before .before .before .before .args .q) (omega arith)) (sym (not-passed (getD (c .before .before .before .before .before .before .before .args .log .now) (4 * c .before .before .before .before .before .before .before .args .k + 1) (pos 0)) (c .before .before .before .before .before .if1 .left))) (c .before .if2 .left) (c .if4 .left)
 

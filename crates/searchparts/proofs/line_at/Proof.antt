@@ -1,19 +1,16 @@
--- Whether a byte is a line, by the test. Assumes nothing.
-use mathlib.Core.Path.{refl}
-use native.Mathlib.Omega.{arith}
-use borrow.Author.Tests.{eq-eqb, ne-eqb}
+-- Whether a byte is a line, as a number. Assumes nothing.
 use borrow.Author.Needs.{needs}
 use Rattle.searchparts.proofs.line_at.Statement.{statement}
 use Rattle.searchparts.proofs.line_at.Tie as tie
 
-element-copy-out-if1 : tie.Need-element-copy-out-if1
-element-copy-out-if1 c = search needs
+element-copy-out-one-if : tie.Need-element-copy-out-one-if
+element-copy-out-one-if c = search needs
+
+one-if-requires : tie.Need-one-if-requires
+one-if-requires c κs = search needs
 
 returns : tie.Need-returns
-returns c = (rw (eq-eqb _ _ (c .if1 .taken)) refl, omega arith)
-
-returns-2 : tie.Need-returns-2
-returns-2 c = (rw (ne-eqb _ _ (c .if1 .left)) refl, omega arith)
+returns c = c .one-if .ensures
 
 pub line-at-spec : {M : Type 1} → statement M
-line-at-spec = tie.close (tie.spec element-copy-out-if1 returns returns-2)
+line-at-spec = tie.close (tie.spec element-copy-out-one-if one-if-requires returns)

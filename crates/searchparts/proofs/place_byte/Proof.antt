@@ -9,41 +9,41 @@ use borrow.Author.Needs.{needs}
 use Rattle.searchparts.proofs.place_byte.Statement.{statement}
 use Rattle.searchparts.proofs.place_byte.Tie as tie
 
-width-of-requires : tie.Need-width-of-requires
-width-of-requires c κs = search needs
+width-requires : tie.Need-width-requires
+width-requires c κs = search needs
 
 mul-v : tie.Need-mul-v
-mul-v c = let i = pad-inside _ (c .before .args .row) (c .before .args .column) (c .before .pre .2 .largest-width) (c .before .pre .0) (c .before .pre .1) in let same : c .before .args .row / 2 * c .width-of .result ≡ c .before .args .row / 2 * grid-in (c .before .args .kind .now) .width = ap (λ (w : ℕ). c .before .args .row / 2 * w) (c .width-of .ensures) in omega arith
+mul-v c = let i = pad-inside _ (c .before .args .row) (c .before .args .column) (c .before .pre .2 .largest-width) (c .before .pre .0) (c .before .pre .1) in let same : c .before .args .row / 2 * c .width .result ≡ c .before .args .row / 2 * grid-in (c .before .args .kind .now) .width = ap (λ (w : ℕ). c .before .args .row / 2 * w) (c .width .ensures) in omega arith
 
 add-v : tie.Need-add-v
-add-v c = let i = pad-inside _ (c .before .args .row) (c .before .args .column) (c .before .pre .2 .largest-width) (c .before .pre .0) (c .before .pre .1) in let same : c .before .args .row / 2 * c .width-of .result ≡ c .before .args .row / 2 * grid-in (c .before .args .kind .now) .width = ap (λ (w : ℕ). c .before .args .row / 2 * w) (c .width-of .ensures) in omega arith
+add-v c = let i = pad-inside _ (c .before .args .row) (c .before .args .column) (c .before .pre .2 .largest-width) (c .before .pre .0) (c .before .pre .1) in let same : c .before .args .row / 2 * c .width .result ≡ c .before .args .row / 2 * grid-in (c .before .args .kind .now) .width = ap (λ (w : ℕ). c .before .args .row / 2 * w) (c .width .ensures) in omega arith
 
 returns : tie.Need-returns
 returns c = even-even _ _ (c .before .before .before .pre .3 .long) (c .before .before .before .pre .3 .bytes) _ _ (c .before .if1 .taken) (c .if2 .taken)
 
 mul-result : tie.Need-mul-result
-mul-result c = let i = pad-inside _ (c .before .before .before .args .row) (c .before .before .before .args .column) (c .before .before .before .pre .2 .largest-width) (c .before .before .before .pre .0) (c .before .before .before .pre .1) in let same : c .before .before .before .args .row / 2 * c .before .before .width-of .result ≡ c .before .before .before .args .row / 2 * grid-in (c .before .before .before .args .kind .now) .width = ap (λ (w : ℕ). c .before .before .before .args .row / 2 * w) (c .before .before .width-of .ensures) in omega arith
+mul-result c = let i = pad-inside _ (c .before .before .before .args .row) (c .before .before .before .args .column) (c .before .before .before .pre .2 .largest-width) (c .before .before .before .pre .0) (c .before .before .before .pre .1) in let same : c .before .before .before .args .row / 2 * c .before .before .width .result ≡ c .before .before .before .args .row / 2 * grid-in (c .before .before .before .args .kind .now) .width = ap (λ (w : ℕ). c .before .before .before .args .row / 2 * w) (c .before .before .width .ensures) in omega arith
 
 add-result : tie.Need-add-result
-add-result c = let i = pad-inside _ (c .before .before .before .args .row) (c .before .before .before .args .column) (c .before .before .before .pre .2 .largest-width) (c .before .before .before .pre .0) (c .before .before .before .pre .1) in let same : c .before .before .before .args .row / 2 * c .before .before .width-of .result ≡ c .before .before .before .args .row / 2 * grid-in (c .before .before .before .args .kind .now) .width = ap (λ (w : ℕ). c .before .before .before .args .row / 2 * w) (c .before .before .width-of .ensures) in omega arith
+add-result c = let i = pad-inside _ (c .before .before .before .args .row) (c .before .before .before .args .column) (c .before .before .before .pre .2 .largest-width) (c .before .before .before .pre .0) (c .before .before .before .pre .1) in let same : c .before .before .before .args .row / 2 * c .before .before .width .result ≡ c .before .before .before .args .row / 2 * grid-in (c .before .before .before .args .kind .now) .width = ap (λ (w : ℕ). c .before .before .before .args .row / 2 * w) (c .before .before .width .ensures) in omega arith
 
 element-copy-out-result : tie.Need-element-copy-out-result
-element-copy-out-result c = let i = pad-inside _ (c .before .before .before .args .row) (c .before .before .before .args .column) (c .before .before .before .pre .2 .largest-width) (c .before .before .before .pre .0) (c .before .before .before .pre .1) in let same : c .before .before .before .args .row / 2 * c .before .before .width-of .result ≡ c .before .before .before .args .row / 2 * grid-in (c .before .before .before .args .kind .now) .width = ap (λ (w : ℕ). c .before .before .before .args .row / 2 * w) (c .before .before .width-of .ensures) in omega arith
+element-copy-out-result c = let i = pad-inside _ (c .before .before .before .args .row) (c .before .before .before .args .column) (c .before .before .before .pre .2 .largest-width) (c .before .before .before .pre .0) (c .before .before .before .pre .1) in let same : c .before .before .before .args .row / 2 * c .before .before .width .result ≡ c .before .before .before .args .row / 2 * grid-in (c .before .before .before .args .kind .now) .width = ap (λ (w : ℕ). c .before .before .before .args .row / 2 * w) (c .before .before .width .ensures) in omega arith
 
 returns-2 : tie.Need-returns-2
-returns-2 c = let i = pad-inside _ (c .before .before .before .before .args .row) (c .before .before .before .before .args .column) (c .before .before .before .before .pre .2 .largest-width) (c .before .before .before .before .pre .0) (c .before .before .before .before .pre .1) in let same : c .before .before .before .before .args .row / 2 * c .before .before .before .width-of .result ≡ c .before .before .before .before .args .row / 2 * grid-in (c .before .before .before .before .args .kind .now) .width = ap (λ (w : ℕ). c .before .before .before .before .args .row / 2 * w) (c .before .before .before .width-of .ensures) in ap (λ (w : ℕ). getD (c .before .before .before .before .args .edges .now) (32 + 2 * (c .before .before .before .before .args .row / 2 * w + c .before .before .before .before .args .column / 2)) 0) (c .before .before .before .width-of .ensures) ∙ even-odd _ _ (c .before .before .before .before .pre .3 .long) (c .before .before .before .before .pre .3 .bytes) _ _ (c .before .before .if1 .taken) (c .before .if2 .left) (omega arith)
+returns-2 c = let i = pad-inside _ (c .before .before .before .before .args .row) (c .before .before .before .before .args .column) (c .before .before .before .before .pre .2 .largest-width) (c .before .before .before .before .pre .0) (c .before .before .before .before .pre .1) in let same : c .before .before .before .before .args .row / 2 * c .before .before .before .width .result ≡ c .before .before .before .before .args .row / 2 * grid-in (c .before .before .before .before .args .kind .now) .width = ap (λ (w : ℕ). c .before .before .before .before .args .row / 2 * w) (c .before .before .before .width .ensures) in ap (λ (w : ℕ). getD (c .before .before .before .before .args .edges .now) (32 + 2 * (c .before .before .before .before .args .row / 2 * w + c .before .before .before .before .args .column / 2)) 0) (c .before .before .before .width .ensures) ∙ even-odd _ _ (c .before .before .before .before .pre .3 .long) (c .before .before .before .before .pre .3 .bytes) _ _ (c .before .before .if1 .taken) (c .before .if2 .left) (omega arith)
 
 mul-result-2 : tie.Need-mul-result-2
-mul-result-2 c = let i = pad-inside _ (c .before .before .before .args .row) (c .before .before .before .args .column) (c .before .before .before .pre .2 .largest-width) (c .before .before .before .pre .0) (c .before .before .before .pre .1) in let same : c .before .before .before .args .row / 2 * c .before .before .width-of .result ≡ c .before .before .before .args .row / 2 * grid-in (c .before .before .before .args .kind .now) .width = ap (λ (w : ℕ). c .before .before .before .args .row / 2 * w) (c .before .before .width-of .ensures) in omega arith
+mul-result-2 c = let i = pad-inside _ (c .before .before .before .args .row) (c .before .before .before .args .column) (c .before .before .before .pre .2 .largest-width) (c .before .before .before .pre .0) (c .before .before .before .pre .1) in let same : c .before .before .before .args .row / 2 * c .before .before .width .result ≡ c .before .before .before .args .row / 2 * grid-in (c .before .before .before .args .kind .now) .width = ap (λ (w : ℕ). c .before .before .before .args .row / 2 * w) (c .before .before .width .ensures) in omega arith
 
 add-result-2 : tie.Need-add-result-2
-add-result-2 c = let i = pad-inside _ (c .before .before .before .args .row) (c .before .before .before .args .column) (c .before .before .before .pre .2 .largest-width) (c .before .before .before .pre .0) (c .before .before .before .pre .1) in let same : c .before .before .before .args .row / 2 * c .before .before .width-of .result ≡ c .before .before .before .args .row / 2 * grid-in (c .before .before .before .args .kind .now) .width = ap (λ (w : ℕ). c .before .before .before .args .row / 2 * w) (c .before .before .width-of .ensures) in omega arith
+add-result-2 c = let i = pad-inside _ (c .before .before .before .args .row) (c .before .before .before .args .column) (c .before .before .before .pre .2 .largest-width) (c .before .before .before .pre .0) (c .before .before .before .pre .1) in let same : c .before .before .before .args .row / 2 * c .before .before .width .result ≡ c .before .before .before .args .row / 2 * grid-in (c .before .before .before .args .kind .now) .width = ap (λ (w : ℕ). c .before .before .before .args .row / 2 * w) (c .before .before .width .ensures) in omega arith
 
 element-copy-out-result-2 : tie.Need-element-copy-out-result-2
-element-copy-out-result-2 c = let i = pad-inside _ (c .before .before .before .args .row) (c .before .before .before .args .column) (c .before .before .before .pre .2 .largest-width) (c .before .before .before .pre .0) (c .before .before .before .pre .1) in let same : c .before .before .before .args .row / 2 * c .before .before .width-of .result ≡ c .before .before .before .args .row / 2 * grid-in (c .before .before .before .args .kind .now) .width = ap (λ (w : ℕ). c .before .before .before .args .row / 2 * w) (c .before .before .width-of .ensures) in omega arith
+element-copy-out-result-2 c = let i = pad-inside _ (c .before .before .before .args .row) (c .before .before .before .args .column) (c .before .before .before .pre .2 .largest-width) (c .before .before .before .pre .0) (c .before .before .before .pre .1) in let same : c .before .before .before .args .row / 2 * c .before .before .width .result ≡ c .before .before .before .args .row / 2 * grid-in (c .before .before .before .args .kind .now) .width = ap (λ (w : ℕ). c .before .before .before .args .row / 2 * w) (c .before .before .width .ensures) in omega arith
 
 returns-3 : tie.Need-returns-3
-returns-3 c = let i = pad-inside _ (c .before .before .before .before .args .row) (c .before .before .before .before .args .column) (c .before .before .before .before .pre .2 .largest-width) (c .before .before .before .before .pre .0) (c .before .before .before .before .pre .1) in let same : c .before .before .before .before .args .row / 2 * c .before .before .before .width-of .result ≡ c .before .before .before .before .args .row / 2 * grid-in (c .before .before .before .before .args .kind .now) .width = ap (λ (w : ℕ). c .before .before .before .before .args .row / 2 * w) (c .before .before .before .width-of .ensures) in ap (λ (w : ℕ). getD (c .before .before .before .before .args .edges .now) (33 + 2 * (c .before .before .before .before .args .row / 2 * w + c .before .before .before .before .args .column / 2)) 0) (c .before .before .before .width-of .ensures) ∙ odd-even _ _ (c .before .before .before .before .pre .3 .long) (c .before .before .before .before .pre .3 .bytes) _ _ (c .before .before .if1 .left) (c .before .if3 .taken) (omega arith)
+returns-3 c = let i = pad-inside _ (c .before .before .before .before .args .row) (c .before .before .before .before .args .column) (c .before .before .before .before .pre .2 .largest-width) (c .before .before .before .before .pre .0) (c .before .before .before .before .pre .1) in let same : c .before .before .before .before .args .row / 2 * c .before .before .before .width .result ≡ c .before .before .before .before .args .row / 2 * grid-in (c .before .before .before .before .args .kind .now) .width = ap (λ (w : ℕ). c .before .before .before .before .args .row / 2 * w) (c .before .before .before .width .ensures) in ap (λ (w : ℕ). getD (c .before .before .before .before .args .edges .now) (33 + 2 * (c .before .before .before .before .args .row / 2 * w + c .before .before .before .before .args .column / 2)) 0) (c .before .before .before .width .ensures) ∙ odd-even _ _ (c .before .before .before .before .pre .3 .long) (c .before .before .before .before .pre .3 .bytes) _ _ (c .before .before .if1 .left) (c .before .if3 .taken) (omega arith)
 
 returns-4 : tie.Need-returns-4
 returns-4 c = odd-odd _ _ (c .before .before .before .pre .3 .long) (c .before .before .before .pre .3 .bytes) _ _ (c .before .if1 .left) (c .if3 .left)
@@ -52,7 +52,7 @@ pub place-byte-spec : {M : Type 1} → statement M
 place-byte-spec =
     tie.close
     (tie.spec
-    width-of-requires
+    width-requires
     mul-v
     add-v
     returns

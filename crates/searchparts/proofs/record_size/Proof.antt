@@ -7,8 +7,8 @@ use borrow.Author.Needs.{needs}
 use Rattle.searchparts.proofs.record_size.Statement.{statement}
 use Rattle.searchparts.proofs.record_size.Tie as tie
 
-height-of-requires : tie.Need-height-of-requires
-height-of-requires c κs = search needs
+height-requires : tie.Need-height-requires
+height-requires c κs = search needs
 
 mul-result : tie.Need-mul-result
 mul-result c = search needs
@@ -16,8 +16,8 @@ mul-result c = search needs
 sub-result : tie.Need-sub-result
 sub-result c = search needs
 
-width-of-requires : tie.Need-width-of-requires
-width-of-requires c κs = search needs
+width-requires : tie.Need-width-requires
+width-requires c κs = search needs
 
 mul-result-2 : tie.Need-mul-result-2
 mul-result-2 c = search needs
@@ -26,19 +26,19 @@ sub-result-2 : tie.Need-sub-result-2
 sub-result-2 c = search needs
 
 mul-result-3 : tie.Need-mul-result-3
-mul-result-3 c = let a : 2 * c .before .height-of .result - 1 ≤ 31 = omega arith in let b : 2 * c .width-of .result - 1 ≤ 31 = omega arith in let k = mul-le-mul a b in omega arith
+mul-result-3 c = let a : 2 * c .before .height .result - 1 ≤ 31 = omega arith in let b : 2 * c .width .result - 1 ≤ 31 = omega arith in let k = mul-le-mul a b in omega arith
 
 returns : tie.Need-returns
-returns c = rw (c .before .height-of .ensures, c .width-of .ensures) refl
+returns c = rw (c .before .height .ensures, c .width .ensures) refl
 
 pub record-size-spec : {M : Type 1} → statement M
 record-size-spec =
     tie.close
     (tie.spec
-    height-of-requires
+    height-requires
     mul-result
     sub-result
-    width-of-requires
+    width-requires
     mul-result-2
     sub-result-2
     mul-result-3

@@ -36,8 +36,8 @@ mul-line-at-2 c = search needs
 add-line-at-2 : tie.Need-add-line-at-2
 add-line-at-2 c = search needs
 
-width-of-requires : tie.Need-width-of-requires
-width-of-requires c κs = search needs
+width-requires : tie.Need-width-requires
+width-requires c κs = search needs
 
 mul-line-at-3 : tie.Need-mul-line-at-3
 mul-line-at-3 c = search needs
@@ -70,10 +70,10 @@ add-degree-4 : tie.Need-add-degree-4
 add-degree-4 c = omega (arith, c .before .before .clue-at .ensures .1, c .before .before .before .before .before .line-at .ensures .1, c .before .before .before .line-at2 .ensures .1, c .before .one-if .ensures .1, c .one-if2 .ensures .1)
 
 returns : tie.Need-returns
-returns c = let d = tried-as _ (c .before .before .before .before .before .before .before .pre .1) _ (c .before .before .before .before .before .before .before .pre .2) _ (c .before .before .before .before .before .before .before .pre .0) (c .before .before .before .before .before .before .before .args .right) (c .before .before .before .before .before .before .before .args .down) _ (sum (c .before .before .before .clue-at .ensures .0) (c .before .before .before .before .before .before .line-at .ensures .0) (c .before .before .before .before .line-at2 .ensures .0 ∙ ap (λ (w : ℕ). num (eqb (getD (c .before .before .before .before .before .before .before .args .edges .now) (33 + 2 * c .before .before .before .before .before .before .before .args .v - 2 * w) 0) 1)) (c .before .before .before .before .before .width-of .ensures)) (c .before .before .one-if .ensures .0) (c .before .one-if2 .ensures .0)) in zero-tried _ (c .if1 .taken) ∙ d
+returns c = let d = tried-as _ (c .before .before .before .before .before .before .before .pre .1) _ (c .before .before .before .before .before .before .before .pre .2) _ (c .before .before .before .before .before .before .before .pre .0) (c .before .before .before .before .before .before .before .args .right) (c .before .before .before .before .before .before .before .args .down) _ (sum (c .before .before .before .clue-at .ensures .0) (c .before .before .before .before .before .before .line-at .ensures .0) (c .before .before .before .before .line-at2 .ensures .0 ∙ ap (λ (w : ℕ). num (eqb (getD (c .before .before .before .before .before .before .before .args .edges .now) (33 + 2 * c .before .before .before .before .before .before .before .args .v - 2 * w) 0) 1)) (c .before .before .before .before .before .width .ensures)) (c .before .before .one-if .ensures .0) (c .before .one-if2 .ensures .0)) in zero-tried _ (c .if1 .taken) ∙ d
 
 returns-2 : tie.Need-returns-2
-returns-2 c = let d = tried-as _ (c .before .before .before .before .before .before .before .pre .1) _ (c .before .before .before .before .before .before .before .pre .2) _ (c .before .before .before .before .before .before .before .pre .0) (c .before .before .before .before .before .before .before .args .right) (c .before .before .before .before .before .before .before .args .down) _ (sum (c .before .before .before .clue-at .ensures .0) (c .before .before .before .before .before .before .line-at .ensures .0) (c .before .before .before .before .line-at2 .ensures .0 ∙ ap (λ (w : ℕ). num (eqb (getD (c .before .before .before .before .before .before .before .args .edges .now) (33 + 2 * c .before .before .before .before .before .before .before .args .v - 2 * w) 0) 1)) (c .before .before .before .before .before .width-of .ensures)) (c .before .before .one-if .ensures .0) (c .before .one-if2 .ensures .0)) in other-tried _ (c .if1 .left) ∙ d
+returns-2 c = let d = tried-as _ (c .before .before .before .before .before .before .before .pre .1) _ (c .before .before .before .before .before .before .before .pre .2) _ (c .before .before .before .before .before .before .before .pre .0) (c .before .before .before .before .before .before .before .args .right) (c .before .before .before .before .before .before .before .args .down) _ (sum (c .before .before .before .clue-at .ensures .0) (c .before .before .before .before .before .before .line-at .ensures .0) (c .before .before .before .before .line-at2 .ensures .0 ∙ ap (λ (w : ℕ). num (eqb (getD (c .before .before .before .before .before .before .before .args .edges .now) (33 + 2 * c .before .before .before .before .before .before .before .args .v - 2 * w) 0) 1)) (c .before .before .before .before .before .width .ensures)) (c .before .before .one-if .ensures .0) (c .before .one-if2 .ensures .0)) in other-tried _ (c .if1 .left) ∙ d
 
 pub tried-spec : {M : Type 1} → statement M
 tried-spec =
@@ -84,7 +84,7 @@ tried-spec =
     line-at-requires
     mul-line-at-2
     add-line-at-2
-    width-of-requires
+    width-requires
     mul-line-at-3
     sub-line-at
     line-at-requires-2

@@ -18,8 +18,8 @@ abbrev μ-loop : tie.MeasureT-loop
 record-size-requires : tie.Need-record-size-requires Inv-loop μ-loop
 record-size-requires c κs = c .before .pre .0
 
-width-of-requires : tie.Need-width-of-requires Inv-loop μ-loop
-width-of-requires c κs = c .before .before .pre .0 .long
+width-requires : tie.Need-width-requires Inv-loop μ-loop
+width-requires c κs = tt
 
 mul-side : tie.Need-mul-side Inv-loop μ-loop
 mul-side c = omega arith
@@ -37,7 +37,7 @@ rem-place-byte : tie.Need-rem-place-byte Inv-loop μ-loop
 rem-place-byte c = omega arith
 
 place-byte-requires : tie.Need-place-byte-requires Inv-loop μ-loop
-place-byte-requires c κs = let k = place-inside _ _ (c .before .loop .i) _ _ (c .before .before .width-of .ensures) (c .before .before .before .record-size .ensures) (c .before .before .before .before .before .pre .0 .least-width) (c .before .before .before .before .before .pre .0 .largest-width) (c .before .before .before .before .before .pre .0 .largest-height) (c .loop-test .taken) in (k .0, k .1, c .before .before .before .before .before .pre .0, c .before .before .before .before .before .pre .1)
+place-byte-requires c κs = let k = place-inside _ _ (c .before .loop .i) _ _ (c .before .before .width .ensures) (c .before .before .before .record-size .ensures) (c .before .before .before .before .before .pre .0 .least-width) (c .before .before .before .before .before .pre .0 .largest-width) (c .before .before .before .before .before .pre .0 .largest-height) (c .loop-test .taken) in (k .0, k .1, c .before .before .before .before .before .pre .0, c .before .before .before .before .before .pre .1)
 
 add-buffer : tie.Need-add-buffer Inv-loop μ-loop
 add-buffer c = omega arith
@@ -61,7 +61,7 @@ loop-less : tie.Need-loop-less Inv-loop μ-loop
 loop-less c = omega arith
 
 loop-again : tie.Need-loop-again Inv-loop μ-loop
-loop-again c = one-written _ _ _ _ _ _ _ (c .before .before .before .before .loop .inv) (c .before .before .before .before .before .before .before .before .pre .2) (omega (arith, c .before .before .before .before .before .before .record-size .ensures, c .before .before .before .loop-test .taken)) _ _ (c .before .before .place-byte .ensures ∙ ap (λ (w : ℕ). place-shown (grid-in (c .before .before .before .before .before .before .before .before .args .kind .now) .width) (c .before .before .before .before .before .before .before .before .args .edges .now) (c .before .before .before .before .loop .i / (2 * w - 1)) (c .before .before .before .before .loop .i % (2 * w - 1))) (c .before .before .before .before .before .width-of .ensures)) (c .wide .ensures ∙ c .before .one-if .ensures .0) (omega (arith, c .wide .ensures, c .before .one-if .ensures .1))
+loop-again c = one-written _ _ _ _ _ _ _ (c .before .before .before .before .loop .inv) (c .before .before .before .before .before .before .before .before .pre .2) (omega (arith, c .before .before .before .before .before .before .record-size .ensures, c .before .before .before .loop-test .taken)) _ _ (c .before .before .place-byte .ensures ∙ ap (λ (w : ℕ). place-shown (grid-in (c .before .before .before .before .before .before .before .before .args .kind .now) .width) (c .before .before .before .before .before .before .before .before .args .edges .now) (c .before .before .before .before .loop .i / (2 * w - 1)) (c .before .before .before .before .loop .i % (2 * w - 1))) (c .before .before .before .before .before .width .ensures)) (c .wide .ensures ∙ c .before .one-if .ensures .0) (omega (arith, c .wide .ensures, c .before .one-if .ensures .1))
 
 same-length : tie.Need-same-length Inv-loop μ-loop
 same-length c = c .before .loop .inv .same-length
@@ -76,7 +76,7 @@ write-record-spec =
     Inv-loop
     μ-loop
     record-size-requires
-    width-of-requires
+    width-requires
     mul-side
     sub-side
     loop-holds

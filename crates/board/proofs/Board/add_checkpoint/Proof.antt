@@ -4,8 +4,11 @@ use borrow.Author.Needs.{needs}
 use Rattle.board.proofs.Board.add_checkpoint.Statement.{statement}
 use Rattle.board.proofs.Board.add_checkpoint.Tie as tie
 
+declined-requires : tie.Need-declined-requires
+declined-requires c κs = search needs
+
 returns : tie.Need-returns
-returns c = λ B held. checkpoint-declined _ B held (c .if1 .taken)
+returns c = λ B held. rw (c .declined .ensures) (checkpoint-declined _ B held (c .before .if1 .taken))
 
 mul-board : tie.Need-mul-board
 mul-board c = search needs
@@ -21,4 +24,4 @@ returns-2 c = λ B held. checkpoint-added _ B held (c .if1 .left)
 
 pub add-checkpoint-spec : {M : Type 1} → statement M
 add-checkpoint-spec =
-    tie.close (tie.spec returns mul-board element-write-board add-board returns-2)
+    tie.close (tie.spec declined-requires returns mul-board element-write-board add-board returns-2)
