@@ -8,8 +8,8 @@ ghost use lib.Dec.{eqb, ltb};
 ghost use lib.IntN.{ℤ, pos, negsuc};
 ghost use Rattle.rules.specs.Drawing.{num};
 ghost use Rattle.model.specs.Board.{at-pad, isThrough};
-ghost use Rattle.boardview.specs.View.{pick, stopped, ended, going, end-at, has-bit, grid-in, second-pad, joined, unjoinable, pad-number, code-number, rival, keeps-apart, some-apart, clue-apart, edges-around, degree-around, first-around, action-around};
-ghost use Rattle.boardview.specs.Unwind.{log-stored, log-joined};
+ghost use Rattle.boardview.specs.View.{pick, stopped, ended, going, end-at, has-bit, grid-in, second-pad, joined, unjoinable, pad-number, code-number, rival, keeps-apart, some-apart, clue-apart, slot-around, past-around, edges-around, degree-around, first-around, action-around};
+ghost use Rattle.boardview.specs.Unwind.{log-stored, log-joined, LineBegun};
 use grid::Edge;
 
 // The bytes of an edge's states, as the edge type names them.
@@ -230,6 +230,31 @@ pub fn join_ends(ends: &mut [i32; 512], v: usize, q: usize)
     }
 }
 
+// Steps b and c of a line between pads v and q: its byte and an entry of the log are stored; the ends of its pads are joined, or, where they
+// cannot be, the flag is set and the decision has ended.
+pub fn begin_line(
+    edges: &mut [u8; 1024],
+    ends: &mut [i32; 512],
+    log: &mut [i32; 2048],
+    slot: usize,
+    v: usize,
+    q: usize,
+    count: usize,
+) -> usize
+    requires { ⌜ (slot < 1024) × (v < 512) × (q < 512) × (count < 3072) × (count % 1024 < 480) × (length (now ends) ≡ 512) ⌝ }
+    ensures { λ r. ⌜ LineBegun (record { edges = now (edges .entry); ends = now (ends .entry); log = now (log .entry); count = count }) slot v q
+        (record { edges = now (edges .exit); ends = now (ends .exit); log = now (log .exit); count = r }) ⌝ }
+{
+    if cannot_join(ends, v, q) {
+        store(edges, log, slot, LINE, count);
+        return stop(count) + 1;
+    }
+    log_line(ends, log, slot, v, q, count);
+    join_ends(ends, v, q);
+    edges[slot] = LINE;
+    go_on(count) + 1
+}
+
 // The edge at a slot is to be none, since it leads to a pad whose end is of another clue than `code`. `past` is 16 more than that pad.
 pub fn keeps_apart(
     edges: &[u8; 1024],
@@ -297,6 +322,51 @@ pub fn some_apart(edges: &[u8; 1024], ends: &[i32; 512], width: usize, v: usize)
         return true;
     }
     keeps_apart(edges, ends, code, 33 + 2 * v, 16 + v + width)
+}
+
+// Behind the last of a pad's four sides if none of its edges is to be none, else the first side.
+pub fn first_side(edges: &[u8; 1024], ends: &[i32; 512], width: usize, v: usize) -> usize
+    requires { ⌜ (v < 256) × (2 ≤ width) × (width ≤ 16) × (length (now ends) ≡ 512) × (getD (now edges) (30 + 2 * v) 0 ≡ 0 → 1 ≤ v) × (getD (now edges) (33 + 2 * v - 2 * width) 0 ≡ 0 → width ≤ v) ⌝ }
+    ensures { λ r. ⌜ r ≡ pick (clue-apart (now (edges .entry)) (now (ends .entry)) width v) 0 4 ⌝ }
+{
+    if some_apart(edges, ends, width, v) {
+        return 0;
+    }
+    4
+}
+
+// The slot of the edge on a side of a pad: 0 left, 1 right, 2 up, 3 down.
+pub fn slot_around(width: usize, v: usize, side: usize) -> usize
+    requires { ⌜ (v < 256) × (width ≤ 16) ⌝ }
+    ensures { λ r. ⌜ (r ≡ slot-around width v side) × (r < 1024) ⌝ }
+{
+    if side == 0 {
+        return 30 + 2 * v;
+    }
+    if side == 1 {
+        return 32 + 2 * v;
+    }
+    if side == 2 {
+        return 33 + 2 * v - 2 * width;
+    }
+    33 + 2 * v
+}
+
+// 16 more than the pad beyond that edge.
+pub fn past_around(width: usize, v: usize, side: usize) -> usize
+    requires { ⌜ (v < 256) × (width ≤ 16) ⌝ }
+    ensures { λ r. ⌜ (r ≡ past-around width v side) × (r < 528) ⌝ }
+{
+    if side == 0 {
+        return 15 + v;
+    }
+    if side == 1 {
+        return 17 + v;
+    }
+    if side == 2 {
+        return 16 + v - width;
+    }
+    16 + v + width
 }
 
 pub fn one_if(test: bool) -> u8

@@ -3,9 +3,10 @@
 use Prim.Native.Nat.{ℕ, zero, suc, _+_, _*_, _-_, _%_, _/_, _≤_, _<_}
 use mathlib.Core.Path.{_≡_, refl, sym, ap, _∙_, subst}
 use mathlib.Core.Bool.{Bool, true, false, _&&_, _||_, not}
-use mathlib.Core.List.{List, [], _∷_, _++_}
+use mathlib.Core.List.{List, [], _∷_, _++_, append-assoc}
 use native.Mathlib.Omega.{arith}
 use native.Mathlib.Nat.{mod-le}
+use native.Mathlib.Decide.{decLt}
 use lib.Dec.{eqb, ltb, leb}
 use lib.ListN.{getD, set, length}
 use lib.IntN.{ℤ, pos, negsuc}
@@ -13,9 +14,9 @@ use borrow.Author.Tests.{eqb-true, eqb-false, eq-eqb, ne-eqb, lt-leb, le-leb, lt
 use Rattle.rules.specs.Grid.{Edge, right, down, first, second, Grid, pads}
 use Rattle.rules.specs.Drawing.{Side, on-left, on-right}
 use Rattle.model.specs.Board.{EdgeState, undecided, line, none, End, through, at-pad, at-clue, State, Item, has-right, has-left, has-down, has-up, has-side, on-board, barred, shape-items, keep-aparts, around, decide, check}
-use Rattle.boardview.specs.View.{Arrays, logged, stopped, ended, going, pick, slot, edge-of, slot-on, state-of, view, end-at, second-pad, has-bit, grid-in, bar-bit, corner-bit, joined, undecided-in, Kinds, Ready, Since, Decided, Done, NoneAt, Settled, unjoinable, pad-number, detour-at, corner-at, bar-at, check-at, code-number, keeps-apart, some-apart, clue-apart, keep-at, action-around}
+use Rattle.boardview.specs.View.{Arrays, logged, stopped, ended, going, pick, slot, edge-of, slot-on, state-of, view, end-at, second-pad, has-bit, grid-in, bar-bit, corner-bit, joined, undecided-in, Kinds, Ready, Since, Decided, Done, NoneAt, Settled, unjoinable, pad-number, detour-at, corner-at, bar-at, check-at, code-number, keeps-apart, some-apart, clue-apart, keep-at, slot-around, past-around, action-around}
 use Rattle.boardview.specs.Bytes.{both-true, right-slot, down-slot, slot-of-edge, edge-on, on-slot, default-free}
-use Rattle.boardview.specs.Unwind.{log-stored, log-joined}
+use Rattle.boardview.specs.Unwind.{log-stored, log-joined, LineBegun}
 use Rattle.boardview.specs.Geometry.{column-before, right-on, down-on, beyond-right, upper-left, upper-right, upper, lower-left, lower-right, lower, right-items, left-side, lower-left-side, far-left, right-side, lower-right-side, far-right, down-items}
 use Rattle.boardview.specs.Stores.{Stored, going-count, next-count, slot-inside, few-logged, first-inside, second-inside}
 use Rattle.boardview.specs.Steps.{with-count, done-then, done-as, done-nothing, slot-is-on}
@@ -145,35 +146,47 @@ module _ (kind : List ℕ) (s : Arrays) (e : Edge) (k : Kinds kind) (y : Ready (
     pub line-second : q < pads gg
     line-second = rw eq (second-inside gg s e y on z)
 
-    -- it cannot be
-    pub line-unjoined : (t : Bool) → t ≡ unjoinable (end-at (s .ends) (first e)) (end-at (s .ends) q) q → t ≡ true → (es : List ℕ) (l : List ℤ) (c : ℕ) → es ≡ set (s .edges) (slot e) 1
-        → l ≡ log-stored (s .log) (logged s) (slot e) → c ≡ stopped (s .count) → Decided gg s e line (record { edges = es; ends = s .ends; log = l; count = c + 1 })
-    line-unjoined t et ht es l c ee el ec = subst (λ (x : Arrays). Decided gg s e line x) (λ i. record { edges = sym ee i; ends = s .ends; log = sym el i; count = sym ec i + 1 })
-        (line-stopped gg s e y on z (ap (λ (x : ℕ). unjoinable (end-at (s .ends) (first e)) (end-at (s .ends) x) x) (sym eq) ∙ (sym et ∙ ht)))
+    -- the line is begun
+    module _ (s₁ : Arrays) (begun : LineBegun s (slot e) (first e) q s₁) where
+      abbrev unjoined-there : ℕ → Bool
+      unjoined-there x = unjoinable (end-at (s .ends) (first e)) (end-at (s .ends) x) x
 
-    -- its ends are joined
-    module _ (t : Bool) (et : t ≡ unjoinable (end-at (s .ends) (first e)) (end-at (s .ends) q) q) (ht : t ≡ false)
-        (es : List ℕ) (en l : List ℤ) (r : ℕ) (ee : es ≡ set (s .edges) (slot e) 1) (en-is : en ≡ joined (first e) q (s .ends))
-        (el : l ≡ log-joined (s .log) (logged s) (slot e) (getD (s .ends) (first e) (pos (first e))) (getD (s .ends) q (pos q))) (er : r ≡ going (s .count)) where
-      joinable : unjoinable (end-at (s .ends) (first e)) (end-at (s .ends) (second (gg .width) e)) (second (gg .width) e) ≡ false
-      joinable = ap (λ (x : ℕ). unjoinable (end-at (s .ends) (first e)) (end-at (s .ends) x) x) (sym eq) ∙ (sym et ∙ ht)
+      cannot-join : 2048 ≤ s₁ .count → unjoined-there q ≡ true
+      cannot-join high = go (unjoined-there q) refl
+        where
+          go : (b : Bool) → unjoined-there q ≡ b → b ≡ true
+          go true eb = refl
+          go false eb = absurd (omega (arith, begun .joins eb .2, going-count (s .count) (y .mode) .0, going-count (s .count) (y .mode) .1, line-room))
 
-      abbrev after-join : Arrays
-      after-join = record { edges = es; ends = en; log = l; count = r + 1 }
+      can-join : s₁ .count < 2048 → unjoined-there q ≡ false
+      can-join low = go (unjoined-there q) refl
+        where
+          go : (b : Bool) → unjoined-there q ≡ b → b ≡ false
+          go true eb = absurd (omega (arith, begun .cannot eb .2))
+          go false eb = refl
 
-      joins : line-arrays gg s e y on z ≡ after-join
-      joins = ap (λ (x : ℕ). record { edges = set (s .edges) (slot e) 1; ends = joined (first e) x (s .ends); log = log-joined (s .log) (logged s) (slot e) (getD (s .ends) (first e) (pos (first e))) (getD (s .ends) x (pos x)); count = going (s .count) + 1 }) (sym eq)
-          ∙ (λ i. record { edges = sym ee i; ends = sym en-is i; log = sym el i; count = sym er i + 1 })
+      pub line-stops : 2048 ≤ s₁ .count → Decided gg s e line s₁
+      line-stops high = let b = begun .cannot (cannot-join high) in
+          subst (λ (x : Arrays). Decided gg s e line x) (λ i. record { edges = sym (begun .stores) i; ends = sym (b .0) i; log = sym (b .1) i; count = sym (b .2) i })
+          (line-stopped gg s e y on z (ap unjoined-there (sym eq) ∙ cannot-join high))
 
-      pub line-is-stored : Stored gg s after-join
-      line-is-stored = subst (λ (x : Arrays). Stored gg s x) joins (line-stored gg s e y on z joinable)
+      module _ (low : s₁ .count < 2048) where
+        joinable : unjoined-there (second (gg .width) e) ≡ false
+        joinable = ap unjoined-there (sym eq) ∙ can-join low
 
-      pub line-returns : (a b : ℕ) → a ≡ pad-number (end-at (s .ends) (first e)) → b ≡ pad-number (end-at (s .ends) q) → (s′ : Arrays)
-          → Done gg 1 after-join (shape-items gg e ++ (check-at (first e) ++ (check-at q ++ (check-at a ++ check-at b)))) s′
-          → (c : ℕ) → c ≡ ended (s′ .count) → Decided gg s e line (with-count s′ c)
-      line-returns a b ea eb s′ d c ec = rw ec (decided-line gg s e y on z joinable s′ (subst (λ (x : Arrays). Done gg 1 x (shape-items gg e ++ (check-at (first e) ++ (check-at (second (gg .width) e)
-          ++ (check-at (pad-number (end-at (s .ends) (first e))) ++ check-at (pad-number (end-at (s .ends) (second (gg .width) e))))))) s′) (sym joins)
-          (rw (ea, eb, eq) at d)))
+        joins : line-arrays gg s e y on z ≡ s₁
+        joins = ap (λ (x : ℕ). record { edges = set (s .edges) (slot e) 1; ends = joined (first e) x (s .ends); log = log-joined (s .log) (logged s) (slot e) (getD (s .ends) (first e) (pos (first e))) (getD (s .ends) x (pos x)); count = going (s .count) + 1 }) (sym eq)
+            ∙ (let b = begun .joins (can-join low) in λ i. record { edges = sym (begun .stores) i; ends = sym (b .0) i; log = sym (b .1) i; count = sym (b .2) i })
+
+        pub line-is-stored : Stored gg s s₁
+        line-is-stored = subst (λ (x : Arrays). Stored gg s x) joins (line-stored gg s e y on z joinable)
+
+        pub line-returns : (a b : ℕ) → a ≡ pad-number (end-at (s .ends) (first e)) → b ≡ pad-number (end-at (s .ends) q) → (s′ : Arrays)
+            → Done gg 1 s₁ (shape-items gg e ++ (check-at (first e) ++ (check-at q ++ (check-at a ++ check-at b)))) s′
+            → (c : ℕ) → c ≡ ended (s′ .count) → Decided gg s e line (with-count s′ c)
+        line-returns a b ea eb s′ d c ec = rw ec (decided-line gg s e y on z joinable s′ (subst (λ (x : Arrays). Done gg 1 x (shape-items gg e ++ (check-at (first e) ++ (check-at (second (gg .width) e)
+            ++ (check-at (pad-number (end-at (s .ends) (first e))) ++ check-at (pad-number (end-at (s .ends) (second (gg .width) e))))))) s′) (sym joins)
+            (rw (ea, eb, eq) at d)))
 
     -- the pads A and B of step c
     near-pad : (E : End) → ((a : ℕ) → E ≡ at-pad a → a < pads gg) → (pad-number E ≤ 512) × (pad-number E < 512 → pad-number E < pads gg)
@@ -386,6 +399,24 @@ beyond-up v w h = omega arith
 beyond-down : (v w : ℕ) → 16 + v + w - 16 ≡ v + w
 beyond-down v w = omega arith
 
+-- the sides of a pad, told one after the other: the items of those before a side
+unfoldable pub told : Grid → ℕ → ℕ → ℕ → ℕ → List Item
+told g w v code zero = []
+told g w v code (suc side) = told g w v code side ++ keep-at g (code - 1) (slot-around w v side) (past-around w v side - 16)
+
+-- THE FIRST PART of the pad check, up to a side: its items have been done, and after the last side they are all that document 01 names.
+-- Where no edge is to be none it begins behind the last side.
+pub record Apart (kind : List ℕ) (s : Arrays) (v w code side : ℕ) (s′ : Arrays) : Type 0 where
+  pub few : side ≤ 4
+  pub clue : side < 4 → 1 ≤ code
+  pub some : side < 4 → Done (grid-in kind) 0 s (told (grid-in kind) w v code side) s′
+  pub all : side ≡ 4 → Done (grid-in kind) 0 s (first-items (grid-in kind) v (end-at (s .ends) v)) s′
+
+-- one of the four
+pub one-apart : (g : Grid) (s : Arrays) → Ready g s → (code n past : ℕ) → 1 ≤ code → n < 1024 → (n′ : ℕ) → n′ ≡ pick (ltb (s .count) 2048) (pick (keeps-apart (s .edges) (s .ends) code n (past - 16)) n 0) 0
+    → (s′ : Arrays) → NoneAt g s n′ s′ → (r : ℕ) → r ≡ pick (eqb n′ 0) (s .count) (s′ .count) → Done g 0 s (keep-at g (code - 1) n (past - 16)) (with-count s′ r)
+one-apart g s y code n past hc h n′ e s′ d r er = let c : suc (code - 1) ≡ code = omega arith in rw er (keep-step g s y (code - 1) n (past - 16) h n′ (rw c e) s′ d)
+
 -- THE PAD CHECK
 module _ (kind : List ℕ) (s : Arrays) (k : Kinds kind) (y : Ready (grid-in kind) s) (v : ℕ) (inside : v < pads (grid-in kind)) where
   abbrev gk : Grid
@@ -453,10 +484,71 @@ module _ (kind : List ℕ) (s : Arrays) (k : Kinds kind) (y : Ready (grid-in kin
   four-apart w ew code ec h s′ d =
       done-as gk (keeps-is gk (k .least-width) (k .largest-width) (code - 1) v inside ∙ sym (clue-items code (end-at (s .ends) v) ec h)) (rw (beyond-left v, beyond-right-side v, beyond-up v w (rw ew (k .largest-width)), beyond-down v w, ew) at d)
 
--- one of the four
-pub one-apart : (g : Grid) (s : Arrays) → Ready g s → (code n past : ℕ) → 1 ≤ code → n < 1024 → (n′ : ℕ) → n′ ≡ pick (ltb (s .count) 2048) (pick (keeps-apart (s .edges) (s .ends) code n (past - 16)) n 0) 0
-    → (s′ : Arrays) → NoneAt g s n′ s′ → (r : ℕ) → r ≡ pick (eqb n′ 0) (s .count) (s′ .count) → Done g 0 s (keep-at g (code - 1) n (past - 16)) (with-count s′ r)
-one-apart g s y code n past hc h n′ e s′ d r er = let c : suc (code - 1) ≡ code = omega arith in rw er (keep-step g s y (code - 1) n (past - 16) h n′ (rw c e) s′ d)
+  module _ (w : ℕ) (ew : w ≡ gk .width) (code : ℕ) (ec : code ≡ code-number (end-at (s .ends) v)) where
+    pub apart-begins : s .count < 2048 → (side : ℕ) → side ≡ pick (clue-apart (s .edges) (s .ends) w v) 0 4 → Apart kind s v w code side s
+    unfolding told
+    apart-begins low side es = go (clue-apart (s .edges) (s .ends) w v) refl side es
+      where
+        go : (b : Bool) → clue-apart (s .edges) (s .ends) w v ≡ b → (side : ℕ) → side ≡ pick b 0 4 → Apart kind s v w code side s
+        go true e side es = rw es (record { few = omega arith; clue = λ h. clue-there w ew low true (sym e) refl code ec; some = λ h. done-nothing gk 0 s y; all = λ h. absurd (omega arith) })
+        go false e side es = rw es (record { few = omega arith; clue = λ h. absurd (omega arith); some = λ h. absurd (omega arith); all = λ h. no-apart w ew low false (sym e) refl })
+
+    side-small : (side : ℕ) → slot-around w v side < 1024
+    unfolding slot-around
+    side-small side = go (eqb side 0) (eqb side 1) (eqb side 2)
+      where
+        go : (a b c : Bool) → pick a (30 + 2 * v) (pick b (32 + 2 * v) (pick c (33 + 2 * v - 2 * w) (33 + 2 * v))) < 1024
+        go true b c = omega (arith, small-pad)
+        go false true c = omega (arith, small-pad)
+        go false false true = omega (arith, small-pad)
+        go false false false = omega (arith, small-pad)
+
+    module _ (side : ℕ) (s₁ : Arrays) (so-far : Apart kind s v w code side s₁) where
+      apart-either : (Ready gk s₁) × (undecided-in (s₁ .edges) ≤ undecided-in (s .edges))
+      apart-either = elim (decLt side 4) [
+        | yes low ↦ (so-far .some low .ready, so-far .some low .fewer)
+        | no high ↦ (so-far .all (last high) .ready, so-far .all (last high) .fewer)
+      ]
+        where
+          last : (side < 4 → ⊥) → side ≡ 4
+          last high = omega (arith, so-far .few)
+
+      pub apart-ready : Ready gk s₁
+      apart-ready = apart-either .0
+
+      pub apart-fewer : undecided-in (s₁ .edges) ≤ undecided-in (s .edges)
+      apart-fewer = apart-either .1
+
+      pub apart-done : (side < 4 → ⊥) → Done gk 0 s (first-items gk v (end-at (s .ends) v)) s₁
+      apart-done high = so-far .all (omega (arith, so-far .few))
+
+      module _ (low : side < 4) where
+        all-told : side + 1 ≡ 4 → (s′ : Arrays) → Done gk 0 s (told gk w v code (suc side)) s′ → Done gk 0 s (first-items gk v (end-at (s .ends) v)) s′
+        unfolding slot-around past-around told keep-at
+        all-told h s′ d = let three : side ≡ 3 = omega arith in four-apart w ew code ec (so-far .clue low) s′ (done-as gk in-order (rw three at d))
+          where
+            in-order : told gk w v code 4 ≡ (keep-at gk (code - 1) (30 + 2 * v) (15 + v - 16) ++ (keep-at gk (code - 1) (32 + 2 * v) (17 + v - 16) ++ (keep-at gk (code - 1) (33 + 2 * v - 2 * w) (16 + v - w - 16) ++ keep-at gk (code - 1) (33 + 2 * v) (16 + v + w - 16))))
+            in-order = append-assoc (keep-at gk (code - 1) (30 + 2 * v) (15 + v - 16) ++ keep-at gk (code - 1) (32 + 2 * v) (17 + v - 16)) (keep-at gk (code - 1) (33 + 2 * v - 2 * w) (16 + v - w - 16)) (keep-at gk (code - 1) (33 + 2 * v) (16 + v + w - 16))
+                ∙ append-assoc (keep-at gk (code - 1) (30 + 2 * v) (15 + v - 16)) (keep-at gk (code - 1) (32 + 2 * v) (17 + v - 16)) (keep-at gk (code - 1) (33 + 2 * v - 2 * w) (16 + v - w - 16) ++ keep-at gk (code - 1) (33 + 2 * v) (16 + v + w - 16))
+
+        pub apart-more : (n : ℕ) → n ≡ pick (ltb (s₁ .count) 2048) (pick (keeps-apart (s₁ .edges) (s₁ .ends) code (slot-around w v side) (past-around w v side - 16)) (slot-around w v side) 0) 0
+            → (s₂ : Arrays) → NoneAt gk s₁ n s₂ → (r : ℕ) → r ≡ pick (eqb n 0) (s₁ .count) (s₂ .count) → Apart kind s v w code (side + 1) (with-count s₂ r)
+        unfolding told
+        apart-more n en s₂ none-there r er =
+            let d = done-then gk (so-far .some low) (one-apart gk s₁ apart-ready code (slot-around w v side) (past-around w v side) (so-far .clue low) (side-small side) n en s₂ none-there r er) in
+            let next : side + 1 ≡ suc side = omega arith in
+            record { few = omega arith; clue = λ h. so-far .clue low; some = λ h. rw next d; all = λ h. all-told h (with-count s₂ r) d }
+
+        -- an undecided edge on that side leads to a pad
+        pub past-there : getD (s₁ .edges) (slot-around w v side) 0 ≡ 0 → 16 ≤ past-around w v side
+        unfolding slot-around past-around
+        past-there = go (eqb side 0) (eqb side 1) (eqb side 2)
+          where
+            go : (a b c : Bool) → getD (s₁ .edges) (pick a (30 + 2 * v) (pick b (32 + 2 * v) (pick c (33 + 2 * v - 2 * w) (33 + 2 * v)))) 0 ≡ 0 → 16 ≤ pick a (15 + v) (pick b (17 + v) (pick c (16 + v - w) (16 + v + w)))
+            go true b c z = omega (arith, on-slot gk (30 + 2 * v) (slot-is-on gk s₁ apart-ready (30 + 2 * v) (omega (arith, small-pad)) (omega arith)) .0)
+            go false true c z = omega arith
+            go false false true z = omega (arith, on-slot gk (33 + 2 * v - 2 * w) (slot-is-on gk s₁ apart-ready (33 + 2 * v - 2 * w) (omega (arith, small-pad)) (omega arith)) .0)
+            go false false false z = omega arith
 
 pub picked-slot : (c : ℕ) (b : Bool) (n n′ : ℕ) → n < 1024 → n′ ≡ pick (ltb c 2048) (pick b n 0) 0 → n′ < 1024
 picked-slot c b n n′ h e = rw e (go (ltb c 2048) b)

@@ -9,7 +9,7 @@ use lib.ListN.{getD, set, length, length-set}
 use lib.Seq.{getD-set-same, getD-set-other, set-set, set-getD}
 use lib.IntN.{ℤ, pos, negsuc, natAbs}
 use Rattle.model.specs.Board.{End, through, at-pad, at-clue, isThrough}
-use Rattle.boardview.specs.View.{Arrays, logged, pick, end-of, put-number, unjoined, second-pad, slot-logged, undone-one, unwound, Since}
+use Rattle.boardview.specs.View.{Arrays, logged, pick, end-of, end-at, put-number, joined, unjoined, second-pad, slot-logged, undone-one, unwound, Since, unjoinable, stopped, going}
 use Rattle.boardview.specs.Ends.{length-put}
 
 -- UNDOING ENTRIES
@@ -60,6 +60,15 @@ log-stored log n s = set (set log (4 * n) (pos s)) (4 * n + 1) (negsuc 0)
 
 abbrev pub log-joined : List ℤ → ℕ → ℕ → ℤ → ℤ → List ℤ
 log-joined log n s A B = set (set (set log (4 * n) (pos s)) (4 * n + 1) A) (4 * n + 2) B
+
+-- A LINE BEGUN at slot n, between pads v and q: its byte and an entry of the log are stored; the ends of its pads are joined, or, where they
+-- cannot be, the flag is set and the decision has ended.
+pub record LineBegun (s : Arrays) (n v q : ℕ) (s′ : Arrays) : Type 0 where
+  pub stores : s′ .edges ≡ set (s .edges) n 1
+  pub cannot : unjoinable (end-at (s .ends) v) (end-at (s .ends) q) q ≡ true
+      → (s′ .ends ≡ s .ends) × (s′ .log ≡ log-stored (s .log) (logged s) n) × (s′ .count ≡ stopped (s .count) + 1)
+  pub joins : unjoinable (end-at (s .ends) v) (end-at (s .ends) q) q ≡ false
+      → (s′ .ends ≡ joined v q (s .ends)) × (s′ .log ≡ log-joined (s .log) (logged s) n (getD (s .ends) v (pos v)) (getD (s .ends) q (pos q))) × (s′ .count ≡ going (s .count) + 1)
 
 module _ (log : List ℤ) (n s : ℕ) (h : 4 * n + 3 < length log) where
   pub slot-stored : getD (log-stored log n s) (4 * n) (pos 0) ≡ pos s

@@ -259,6 +259,13 @@ clue-apart edges ends width v = pick (eqb (code-number (end-at ends v)) 0) false
 unfoldable pub keep-at : Grid → ℕ → ℕ → ℕ → List Item
 keep-at g code s u = when (slot-on g s) (keep-apart code (edge-of s) u ∷ [])
 
+-- the four sides of a pad: 0 left, 1 right, 2 up, 3 down. The slot of the edge on a side, and 16 more than the pad beyond it
+unfoldable pub slot-around : ℕ → ℕ → ℕ → ℕ
+slot-around width v side = pick (eqb side 0) (30 + 2 * v) (pick (eqb side 1) (32 + 2 * v) (pick (eqb side 2) (33 + 2 * v - 2 * width) (33 + 2 * v)))
+
+unfoldable pub past-around : ℕ → ℕ → ℕ → ℕ
+past-around width v side = pick (eqb side 0) (15 + v) (pick (eqb side 1) (17 + v) (pick (eqb side 2) (16 + v - width) (16 + v + width)))
+
 -- how many of the four edges at a pad hold a byte: left, right, up, down
 unfoldable pub edges-around : List ℕ → ℕ → ℕ → ℕ → ℕ
 edges-around edges width v byte = num (eqb (getD edges (30 + 2 * v) 0) byte) + num (eqb (getD edges (32 + 2 * v) 0) byte)

@@ -37,9 +37,6 @@ pub fn decide_none(
         let v = boardparts::first_pad(slot);
         let q = boardparts::second_pad(slot, boardparts::width(kind));
         let after = check(edges, ends, log, kind, v, boardparts::go_on(count) + 1);
-        if 2048 <= after {
-            return boardparts::end(after);
-        }
         return boardparts::end(check(edges, ends, log, kind, q, after));
     }
     if state == LINE {
@@ -73,41 +70,25 @@ pub fn decide_line_right(
         let below = 32 + 2 * v + 2 * w;
         let right_below = v + w + 1;
         let left_below = v + w;
-        if boardparts::cannot_join(ends, v, q) {
-            boardparts::store(edges, log, slot, LINE, count);
-            return boardparts::stop(count) + 1;
-        }
         let a = boardparts::end_pad(ends, v);
         let b = boardparts::end_pad(ends, q);
-        boardparts::log_line(ends, log, slot, v, q, count);
-        boardparts::join_ends(ends, v, q);
-        edges[slot] = LINE;
-        let after = boardparts::go_on(count) + 1;
-        let after = detour(edges, ends, log, kind, up_left, up_right, up, after);
-        let after = detour(edges, ends, log, kind, up_right, up_left, up, after);
-        let after = detour(edges, ends, log, kind, up, up_left, up_right, after);
-        let after = detour(edges, ends, log, kind, left, right, below, after);
-        let after = detour(edges, ends, log, kind, right, left, below, after);
-        let after = detour(edges, ends, log, kind, below, left, right, after);
-        let after = corner_right(edges, ends, log, kind, right_below, left, after);
-        let after = corner_left(edges, ends, log, kind, left_below, right, after);
-        let after = bar(edges, ends, log, kind, v, 2, left, after);
-        let after = bar(edges, ends, log, kind, q, 4, right, after);
+        let mut after = boardparts::begin_line(edges, ends, log, slot, v, q, count);
         if 2048 <= after {
-            return boardparts::end(after);
+            return after;
         }
-        let after = check(edges, ends, log, kind, v, after);
-        if 2048 <= after {
-            return boardparts::end(after);
-        }
-        let after = check(edges, ends, log, kind, q, after);
-        if 2048 <= after {
-            return boardparts::end(after);
-        }
-        let after = check(edges, ends, log, kind, a, after);
-        if 2048 <= after {
-            return boardparts::end(after);
-        }
+        after = detour(edges, ends, log, kind, up_left, up_right, up, after);
+        after = detour(edges, ends, log, kind, up_right, up_left, up, after);
+        after = detour(edges, ends, log, kind, up, up_left, up_right, after);
+        after = detour(edges, ends, log, kind, left, right, below, after);
+        after = detour(edges, ends, log, kind, right, left, below, after);
+        after = detour(edges, ends, log, kind, below, left, right, after);
+        after = corner_right(edges, ends, log, kind, right_below, left, after);
+        after = corner_left(edges, ends, log, kind, left_below, right, after);
+        after = bar(edges, ends, log, kind, v, 2, left, after);
+        after = bar(edges, ends, log, kind, q, 4, right, after);
+        after = check(edges, ends, log, kind, v, after);
+        after = check(edges, ends, log, kind, q, after);
+        after = check(edges, ends, log, kind, a, after);
         return boardparts::end(check(edges, ends, log, kind, b, after));
     }
     if old == LINE {
@@ -143,41 +124,25 @@ pub fn decide_line_down(
         let pad_right = v + w + 1;
         let if_left = boardparts::slot_where(kind, v, 16, far_left);
         let if_right = boardparts::slot_where(kind, v, 8, far_right);
-        if boardparts::cannot_join(ends, v, q) {
-            boardparts::store(edges, log, slot, LINE, count);
-            return boardparts::stop(count) + 1;
-        }
         let a = boardparts::end_pad(ends, v);
         let b = boardparts::end_pad(ends, q);
-        boardparts::log_line(ends, log, slot, v, q, count);
-        boardparts::join_ends(ends, v, q);
-        edges[slot] = LINE;
-        let after = boardparts::go_on(count) + 1;
-        let after = detour(edges, ends, log, kind, left, left_below, far_left, after);
-        let after = detour(edges, ends, log, kind, left_below, left, far_left, after);
-        let after = detour(edges, ends, log, kind, if_left, left, left_below, after);
-        let after = detour(edges, ends, log, kind, right, right_below, far_right, after);
-        let after = detour(edges, ends, log, kind, right_below, right, far_right, after);
-        let after = detour(edges, ends, log, kind, if_right, right, right_below, after);
-        let after = corner_left(edges, ends, log, kind, pad_left, left, after);
-        let after = corner_right(edges, ends, log, kind, pad_right, right, after);
-        let after = bar(edges, ends, log, kind, v, 4, left, after);
-        let after = bar(edges, ends, log, kind, v, 2, right, after);
+        let mut after = boardparts::begin_line(edges, ends, log, slot, v, q, count);
         if 2048 <= after {
-            return boardparts::end(after);
+            return after;
         }
-        let after = check(edges, ends, log, kind, v, after);
-        if 2048 <= after {
-            return boardparts::end(after);
-        }
-        let after = check(edges, ends, log, kind, q, after);
-        if 2048 <= after {
-            return boardparts::end(after);
-        }
-        let after = check(edges, ends, log, kind, a, after);
-        if 2048 <= after {
-            return boardparts::end(after);
-        }
+        after = detour(edges, ends, log, kind, left, left_below, far_left, after);
+        after = detour(edges, ends, log, kind, left_below, left, far_left, after);
+        after = detour(edges, ends, log, kind, if_left, left, left_below, after);
+        after = detour(edges, ends, log, kind, right, right_below, far_right, after);
+        after = detour(edges, ends, log, kind, right_below, right, far_right, after);
+        after = detour(edges, ends, log, kind, if_right, right, right_below, after);
+        after = corner_left(edges, ends, log, kind, pad_left, left, after);
+        after = corner_right(edges, ends, log, kind, pad_right, right, after);
+        after = bar(edges, ends, log, kind, v, 4, left, after);
+        after = bar(edges, ends, log, kind, v, 2, right, after);
+        after = check(edges, ends, log, kind, v, after);
+        after = check(edges, ends, log, kind, q, after);
+        after = check(edges, ends, log, kind, a, after);
         return boardparts::end(check(edges, ends, log, kind, b, after));
     }
     if old == LINE {
@@ -315,67 +280,30 @@ pub fn check(
         return count;
     }
     let w = boardparts::width(kind);
-    if boardparts::some_apart(edges, ends, w, v) {
-        let code = boardparts::end_code(ends, v);
-        let left = 30 + 2 * v;
-        let right = 32 + 2 * v;
-        let up = 33 + 2 * v - 2 * w;
-        let down = 33 + 2 * v;
-        let past_left = 15 + v;
-        let past_right = 17 + v;
-        let past_up = 16 + v - w;
-        let past_down = 16 + v + w;
-        let after = count;
-        let slot = boardparts::slot_apart(edges, ends, code, left, past_left, after);
-        let after = boardparts::count_after(
-            slot,
-            after,
-            decide_none(edges, ends, log, kind, slot, after),
-        );
-        let slot = boardparts::slot_apart(edges, ends, code, right, past_right, after);
-        let after = boardparts::count_after(
-            slot,
-            after,
-            decide_none(edges, ends, log, kind, slot, after),
-        );
-        let slot = boardparts::slot_apart(edges, ends, code, up, past_up, after);
-        let after = boardparts::count_after(
-            slot,
-            after,
-            decide_none(edges, ends, log, kind, slot, after),
-        );
-        let slot = boardparts::slot_apart(edges, ends, code, down, past_down, after);
-        let after = boardparts::count_after(
-            slot,
-            after,
-            decide_none(edges, ends, log, kind, slot, after),
-        );
-        if 2048 <= after {
-            return after;
-        }
-        let action = boardparts::action(edges, kind, w, v);
-        if action < 2 {
-            return boardparts::rest(action, after);
-        }
-        if 1024 <= action {
-            return decide_none(edges, ends, log, kind, action - 1024, after);
-        }
-        let pad = action / 2 - 16;
-        if action % 2 == 0 {
-            return decide_line_right(edges, ends, log, kind, pad, after);
-        }
-        return decide_line_down(edges, ends, log, kind, pad, after);
+    let code = boardparts::end_code(ends, v);
+    let mut after = count;
+    let mut side = boardparts::first_side(edges, ends, w, v);
+    while side < 4 {
+        let there = boardparts::slot_around(w, v, side);
+        let past = boardparts::past_around(w, v, side);
+        let slot = boardparts::slot_apart(edges, ends, code, there, past, after);
+        let next = decide_none(edges, ends, log, kind, slot, after);
+        after = boardparts::count_after(slot, after, next);
+        side += 1;
+    }
+    if 2048 <= after {
+        return after;
     }
     let action = boardparts::action(edges, kind, w, v);
     if action < 2 {
-        return boardparts::rest(action, count);
+        return boardparts::rest(action, after);
     }
     if 1024 <= action {
-        return decide_none(edges, ends, log, kind, action - 1024, count);
+        return decide_none(edges, ends, log, kind, action - 1024, after);
     }
     let pad = action / 2 - 16;
     if action % 2 == 0 {
-        return decide_line_right(edges, ends, log, kind, pad, count);
+        return decide_line_right(edges, ends, log, kind, pad, after);
     }
-    decide_line_down(edges, ends, log, kind, pad, count)
+    decide_line_down(edges, ends, log, kind, pad, after)
 }
