@@ -10,7 +10,7 @@ use lib.IntN.{ℤ, pos, negsuc}
 use Rattle.rules.specs.Grid.{CellInRange, blank-cell, cell-of, Grid, grid-of}
 use Rattle.rules.specs.Drawing.{num, on-left, on-right}
 use Rattle.model.specs.Board.{isBlank, has-down, has-side, barred}
-use Rattle.boardview.specs.View.{pick, has-bit, clue-bit}
+use Rattle.boardview.specs.View.{pick, has-bit, clue-bit, action-entry}
 
 -- FILLED: a list of this length, which from `start` up to `size` holds what f says. The loops fill from the last index down to 0.
 pub record Filled {A : Type 0} (f : ℕ → A) (rest : A) (long size start : ℕ) (l : List A) : Type 0 where
@@ -80,8 +80,18 @@ kind-of g v = kind-byte (not (isBlank (g .cell v)))
 abbrev pub KindsFrom : ℕ → ℕ → List ℤ → ℕ → List ℕ → Type 0
 KindsFrom height width cells start kind = Filled (kind-of (grid-of height width cells)) 0 1024 256 start kind
 
--- the kinds of all pads, and the sizes
+-- the pad check's table, filled from an entry on, behind kinds that are not told yet
+pub record TableFrom (start : ℕ) (kind : List ℕ) : Type 0 where
+  pub as-long : length kind ≡ 1024
+  pub untold : (v : ℕ) → v < 512 → getD kind v 0 ≡ 0
+  pub entries : (i : ℕ) → start ≤ i → i < 512 → getD kind (512 + i) 0 ≡ action-entry i
+
+pub record Table (kind : List ℕ) : Type 0 where
+  pub holds : (i : ℕ) → i < 512 → getD kind (512 + i) 0 ≡ action-entry i
+
+-- the kinds of all pads, the sizes, and the table
 pub record FreshKinds (height width : ℕ) (cells : List ℤ) (kind : List ℕ) : Type 0 where
   pub filled : KindsFrom height width cells 0 kind
   pub height-held : getD kind 510 0 ≡ height
   pub width-held : getD kind 511 0 ≡ width
+  pub table : Table kind

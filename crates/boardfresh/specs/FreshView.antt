@@ -137,6 +137,7 @@ module _ (height width : ℕ) (cells : List ℤ) (ok : Accepted height width cel
     largest-width = rw (fresh-kind .width-held) (ok .width-in-range .1);
     least-height = rw (fresh-kind .height-held) (ok .height-in-range .0);
     largest-height = rw (fresh-kind .height-held) (ok .height-in-range .1);
+    actions = fresh-kind .table .holds;
     corners = subst (λ G. (side : Side) (v : ℕ) → v < pads G → has-bit kind v (corner-bit side) ≡ corner G side v) (sym grid-told) told-corners;
     bars = subst (λ G. (side : Side) (v : ℕ) → v < pads G → has-bit kind v (bar-bit side) ≡ corner G side v && barred G side (G .height) v) (sym grid-told) told-bars;
   }

@@ -5,12 +5,15 @@ ghost use mathlib.Core.Bool.{Bool, true, false};
 ghost use Prim.Native.Nat.{ℕ, _+_, _*_, _≤_, _<_};
 ghost use lib.ListN.{length, set, getD};
 ghost use Rattle.rules.specs.Grid.{Size, Accepted, grid-of};
-ghost use Rattle.boardfresh.specs.FreshArrays.{right-byte, down-byte, edge-byte, EdgesFrom, end-number-at, EndsFrom, CellsInRange, kind-byte, is-clue, corner-test, barred-in, barred-below, bar-test, kind-from, FreshKinds};
+ghost use Rattle.boardview.specs.View.{bytes-equal, undecided-side, action-code, action-entry};
+ghost use Rattle.boardfresh.specs.FreshArrays.{right-byte, down-byte, edge-byte, EdgesFrom, end-number-at, EndsFrom, CellsInRange, kind-byte, is-clue, corner-test, barred-in, barred-below, bar-test, kind-from, TableFrom, FreshKinds};
 ghost use Rattle.boardfresh.specs.FreshView.{FreshBoard};
 use grid::Edge;
 
 // The bytes of an edge's states, as the edge type names them.
 const UNDECIDED: u8 = Edge::UNDECIDED.0;
+
+const LINE: u8 = Edge::LINE.0;
 
 const NONE: u8 = Edge::NONE.0;
 
@@ -190,12 +193,96 @@ fn pad_kind(kind: &[u8; 1024], width: usize, pads: usize, cells: &[i32], v: usiz
     kind_byte(clue, bar_right, bar_left, corner_right, corner_left)
 }
 
-// The kinds of all pads, from the last one up, and the sizes.
+// How many of four bytes are this one.
+fn bytes_equal(left: u8, right: u8, up: u8, down: u8, byte: u8) -> u8
+    ensures { λ r. ⌜ (r ≡ bytes-equal left right up down byte) × (r ≤ 4) ⌝ }
+{
+    let first = boardparts::one_if(left == byte);
+    let second = boardparts::one_if(right == byte);
+    let third = boardparts::one_if(up == byte);
+    let fourth = boardparts::one_if(down == byte);
+    first + second + third + fourth
+}
+
+// The side of a pad's first undecided edge: 0 left, 1 right, 2 up, 3 down.
+fn undecided_side(left: u8, right: u8, up: u8) -> u8
+    ensures { λ r. ⌜ (r ≡ undecided-side left right up) × (r ≤ 3) ⌝ }
+{
+    if left == UNDECIDED {
+        return 0;
+    }
+    if right == UNDECIDED {
+        return 1;
+    }
+    if up == UNDECIDED {
+        return 2;
+    }
+    3
+}
+
+// What the pad check does last at a pad (`clue` is 1 for a clue, else 0) with these edges: 0 nothing, 1 the flag, 2 + a side a line there,
+// 6 + a side none there.
+fn action_code(clue: u8, left: u8, right: u8, up: u8, down: u8) -> u8
+    requires { ⌜ clue ≤ 1 ⌝ }
+    ensures { λ r. ⌜ r ≡ action-code clue left right up down ⌝ }
+{
+    let degree = clue + bytes_equal(left, right, up, down, LINE);
+    let undecided = bytes_equal(left, right, up, down, UNDECIDED);
+    let side = undecided_side(left, right, up);
+    if 2 < degree {
+        return 1;
+    }
+    if undecided == 0 {
+        if degree == 1 {
+            return 1;
+        }
+        return 0;
+    }
+    if degree == 2 {
+        return 6 + side;
+    }
+    if undecided == 1 {
+        if degree == 1 {
+            return 2 + side;
+        }
+        return 6 + side;
+    }
+    0
+}
+
+// An entry of the pad check's table: the digits of the index are the bytes of the four edges and the clue.
+fn action_entry(i: usize) -> u8
+    requires { ⌜ i < 512 ⌝ }
+    ensures { λ r. ⌜ r ≡ action-entry i ⌝ }
+{
+    action_code(
+        (i / 256) as u8,
+        (i % 4) as u8,
+        (i / 4 % 4) as u8,
+        (i / 16 % 4) as u8,
+        (i / 64 % 4) as u8,
+    )
+}
+
+// The pad check's table behind the kinds, which are not told yet.
+fn fresh_table() -> [u8; 1024]
+    ensures { λ r. ⌜ TableFrom 0 r ⌝ }
+{
+    let mut kind = [0u8; 1024];
+    let mut i = 512;
+    while 0 < i {
+        i -= 1;
+        kind[512 + i] = action_entry(i);
+    }
+    kind
+}
+
+// The kinds of all pads, from the last one up, the sizes, and the pad check's table.
 pub fn fresh_kind(height: usize, width: usize, cells: &[i32]) -> [u8; 1024]
     requires { ⌜ Accepted height width (now cells) ⌝ }
     ensures { λ r. ⌜ FreshKinds height width (now (cells .entry)) r ⌝ }
 {
-    let mut kind = [0u8; 1024];
+    let mut kind = fresh_table();
     let pads = height * width;
     let mut v = pads;
     while 0 < v {

@@ -1,2 +1,2 @@
 -- Laws that the proofs of boardparts share.
-mod Counts
+mod Apart

@@ -8,7 +8,8 @@ ghost use lib.Dec.{eqb, ltb};
 ghost use lib.IntN.{ℤ, pos, negsuc};
 ghost use Rattle.rules.specs.Drawing.{num};
 ghost use Rattle.model.specs.Board.{at-pad, isThrough};
-ghost use Rattle.boardview.specs.View.{pick, stopped, ended, going, end-at, has-bit, grid-in, second-pad, joined, unjoinable, pad-number, code-number, rival, keeps-apart, some-apart, clue-apart, slot-around, past-around, edges-around, degree-around, first-around, action-around};
+ghost use Rattle.boardview.specs.View.{pick, stopped, ended, going, end-at, has-bit, grid-in, second-pad, joined, unjoinable, pad-number, code-number, rival, keeps-apart, some-apart, clue-apart, slot-around, past-around, action-around, Kinds};
+ghost use Rattle.boardview.specs.Actions.{action-index};
 ghost use Rattle.boardview.specs.Unwind.{log-stored, log-joined, LineBegun};
 use grid::Edge;
 
@@ -378,82 +379,30 @@ pub fn one_if(test: bool) -> u8
     0
 }
 
-// How many of the four edges at a pad hold this byte.
-pub fn edges_around(edges: &[u8; 1024], width: usize, v: usize, byte: u8) -> u8
-    requires { ⌜ (v < 256) × (width ≤ 16) ⌝ }
-    ensures { λ r. ⌜ (r ≡ edges-around (now (edges .entry)) width v byte) × (r ≤ 4) ⌝ }
+// The index of a pad's code in the table of the pad check: the bytes of its four edges and the clue are the digits.
+pub fn action_index(edges: &[u8; 1024], kind: &[u8; 1024], width: usize, v: usize) -> usize
+    requires { ⌜ (v < 256) × (width ≤ 16) × ((n : ℕ) → getD (now edges) n 2 ≤ 2) ⌝ }
+    ensures { λ r. ⌜ (r ≡ action-index (now (kind .entry)) (now (edges .entry)) width v) × (r < 512) ⌝ }
 {
-    let left = one_if(edges[30 + 2 * v] == byte);
-    let right = one_if(edges[32 + 2 * v] == byte);
-    let up = one_if(edges[33 + 2 * v - 2 * width] == byte);
-    let down = one_if(edges[33 + 2 * v] == byte);
-    left + right + up + down
+    let left = wide(edges[30 + 2 * v]);
+    let right = wide(edges[32 + 2 * v]);
+    let up = wide(edges[33 + 2 * v - 2 * width]);
+    let down = wide(edges[33 + 2 * v]);
+    let clue = wide(one_if(has(kind, v, 1)));
+    left + 4 * right + 16 * up + 64 * down + 256 * clue
 }
 
-// The lines at a pad, plus 1 for a clue.
-pub fn degree_around(edges: &[u8; 1024], kind: &[u8; 1024], width: usize, v: usize) -> u8
-    requires { ⌜ (v < 256) × (width ≤ 16) ⌝ }
-    ensures { λ r. ⌜ (r ≡ degree-around (now (kind .entry)) (now (edges .entry)) width v) × (r ≤ 5) ⌝ }
-{
-    one_if(has(kind, v, 1)) + edges_around(edges, width, v, LINE)
-}
-
-// The first of three slots whose byte is 0, or the fourth.
-pub fn first_of(left: u8, right: u8, up: u8, width: usize, v: usize) -> usize
-    requires { ⌜ (v < 256) × (width ≤ 16) ⌝ }
-    ensures { λ r. ⌜ (r ≡ pick (eqb left 0) (30 + 2 * v) (pick (eqb right 0) (32 + 2 * v) (pick (eqb up 0) (33 + 2 * v - 2 * width) (33 + 2 * v)))) × (r < 1024) ⌝ }
-{
-    if left == UNDECIDED {
-        return 30 + 2 * v;
-    }
-    if right == UNDECIDED {
-        return 32 + 2 * v;
-    }
-    if up == UNDECIDED {
-        return 33 + 2 * v - 2 * width;
-    }
-    33 + 2 * v
-}
-
-// The slot of the first undecided edge at a pad.
-pub fn first_around(edges: &[u8; 1024], width: usize, v: usize) -> usize
-    requires { ⌜ (v < 256) × (width ≤ 16) ⌝ }
-    ensures { λ r. ⌜ (r ≡ first-around (now (edges .entry)) width v) × (r < 1024) ⌝ }
-{
-    first_of(
-        edges[30 + 2 * v],
-        edges[32 + 2 * v],
-        edges[33 + 2 * v - 2 * width],
-        width,
-        v,
-    )
-}
-
-// What the pad check does last: 0 nothing, 1 the flag, a slot: a line there, 1024 + a slot: none there.
+// What the pad check does last, from the table behind the kinds: 0 nothing, 1 the flag, a slot: a line there, 1024 + a slot: none there.
 pub fn action(edges: &[u8; 1024], kind: &[u8; 1024], width: usize, v: usize) -> usize
-    requires { ⌜ (v < 256) × (width ≤ 16) ⌝ }
+    requires { ⌜ (v < 256) × (width ≤ 16) × ((n : ℕ) → getD (now edges) n 2 ≤ 2) × Kinds (now kind) ⌝ }
     ensures { λ r. ⌜ (r ≡ action-around (now (kind .entry)) (now (edges .entry)) width v) × (r < 2048) ⌝ }
 {
-    let undecided = edges_around(edges, width, v, UNDECIDED);
-    let degree = degree_around(edges, kind, width, v);
-    if 2 < degree {
-        return 1;
+    let code = wide(kind[512 + action_index(edges, kind, width, v)]);
+    if code < 2 {
+        return code;
     }
-    if undecided == 0 {
-        if degree == 1 {
-            return 1;
-        }
-        return 0;
+    if code < 6 {
+        return slot_around(width, v, code - 2);
     }
-    let slot = first_around(edges, width, v);
-    if degree == 2 {
-        return slot + 1024;
-    }
-    if undecided == 1 {
-        if degree == 1 {
-            return slot;
-        }
-        return slot + 1024;
-    }
-    0
+    slot_around(width, v, code - 6) + 1024
 }

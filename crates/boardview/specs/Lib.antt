@@ -9,6 +9,7 @@ pub mod Stores
 pub mod Steps
 pub mod Items
 pub mod Settle
+pub mod Actions
 pub mod Check
 pub mod Cycle
 pub mod SameBlanks

@@ -100,7 +100,33 @@ cell-in false = blank
 unfoldable pub grid-in : List ℕ → Grid
 grid-in kind = record { height = getD kind 510 0; width = getD kind 511 0; cell = λ v. cell-in (ltb v 256 && has-bit kind v clue-bit) }
 
--- the bits of the barred pads and of the corners are right, and the sizes are in range
+-- the four sides of a pad: 0 left, 1 right, 2 up, 3 down. The slot of the edge on a side, and 16 more than the pad beyond it
+unfoldable pub slot-around : ℕ → ℕ → ℕ → ℕ
+slot-around width v side = pick (eqb side 0) (30 + 2 * v) (pick (eqb side 1) (32 + 2 * v) (pick (eqb side 2) (33 + 2 * v - 2 * width) (33 + 2 * v)))
+
+unfoldable pub past-around : ℕ → ℕ → ℕ → ℕ
+past-around width v side = pick (eqb side 0) (15 + v) (pick (eqb side 1) (17 + v) (pick (eqb side 2) (16 + v - width) (16 + v + width)))
+
+-- WHAT THE PAD CHECK DOES LAST, as a code: 0 nothing, 1 the flag, 2 + a side a line there, 6 + a side none there. It depends on the clue (1 or
+-- 0) and on the bytes of the edges left, right, up and down.
+abbrev pub bytes-equal : (at-left at-right at-up at-down byte : ℕ) → ℕ
+bytes-equal at-left at-right at-up at-down byte = num (eqb at-left byte) + num (eqb at-right byte) + num (eqb at-up byte) + num (eqb at-down byte)
+
+unfoldable pub undecided-side : (at-left at-right at-up : ℕ) → ℕ
+undecided-side at-left at-right at-up = pick (eqb at-left 0) 0 (pick (eqb at-right 0) 1 (pick (eqb at-up 0) 2 3))
+
+unfoldable pub action-code : (clues at-left at-right at-up at-down : ℕ) → ℕ
+action-code clues at-left at-right at-up at-down =
+    pick (ltb 2 (clues + bytes-equal at-left at-right at-up at-down 1)) 1
+    (pick (eqb (bytes-equal at-left at-right at-up at-down 0) 0) (pick (eqb (clues + bytes-equal at-left at-right at-up at-down 1) 1) 1 0)
+    (pick (eqb (clues + bytes-equal at-left at-right at-up at-down 1) 2) (6 + undecided-side at-left at-right at-up)
+    (pick (eqb (bytes-equal at-left at-right at-up at-down 0) 1) (pick (eqb (clues + bytes-equal at-left at-right at-up at-down 1) 1) (2 + undecided-side at-left at-right at-up) (6 + undecided-side at-left at-right at-up)) 0)))
+
+-- the table of the codes: the clue and the four bytes are the digits of the index
+unfoldable pub action-entry : ℕ → ℕ
+action-entry i = action-code (i / 256) (i % 4) (i / 4 % 4) (i / 16 % 4) (i / 64 % 4)
+
+-- the bits of the barred pads and of the corners are right, the sizes are in range, and behind them stands the table of the pad check's codes
 pub record Kinds (kind : List ℕ) : Type 0 where
   pub long : length kind ≡ 1024
   pub least-width : 2 ≤ grid-in kind .width
@@ -108,6 +134,7 @@ pub record Kinds (kind : List ℕ) : Type 0 where
   pub least-height : 2 ≤ grid-in kind .height
   pub largest-height : grid-in kind .height ≤ 16
   pub corners : (side : Side) (v : ℕ) → v < pads (grid-in kind) → has-bit kind v (corner-bit side) ≡ (has-down (grid-in kind) v && has-side (grid-in kind) side v)
+  pub actions : (i : ℕ) → i < 512 → getD kind (512 + i) 0 ≡ action-entry i
   pub bars : (side : Side) (v : ℕ) → v < pads (grid-in kind) → has-bit kind v (bar-bit side) ≡ ((has-down (grid-in kind) v && has-side (grid-in kind) side v) && barred (grid-in kind) side (grid-in kind .height) v)
 
 -- the number of undecided edges
@@ -259,17 +286,9 @@ clue-apart edges ends width v = pick (eqb (code-number (end-at ends v)) 0) false
 unfoldable pub keep-at : Grid → ℕ → ℕ → ℕ → List Item
 keep-at g code s u = when (slot-on g s) (keep-apart code (edge-of s) u ∷ [])
 
--- the four sides of a pad: 0 left, 1 right, 2 up, 3 down. The slot of the edge on a side, and 16 more than the pad beyond it
-unfoldable pub slot-around : ℕ → ℕ → ℕ → ℕ
-slot-around width v side = pick (eqb side 0) (30 + 2 * v) (pick (eqb side 1) (32 + 2 * v) (pick (eqb side 2) (33 + 2 * v - 2 * width) (33 + 2 * v)))
-
-unfoldable pub past-around : ℕ → ℕ → ℕ → ℕ
-past-around width v side = pick (eqb side 0) (15 + v) (pick (eqb side 1) (17 + v) (pick (eqb side 2) (16 + v - width) (16 + v + width)))
-
--- how many of the four edges at a pad hold a byte: left, right, up, down
+-- how many of the four edges at a pad hold a byte
 unfoldable pub edges-around : List ℕ → ℕ → ℕ → ℕ → ℕ
-edges-around edges width v byte = num (eqb (getD edges (30 + 2 * v) 0) byte) + num (eqb (getD edges (32 + 2 * v) 0) byte)
-    + num (eqb (getD edges (33 + 2 * v - 2 * width) 0) byte) + num (eqb (getD edges (33 + 2 * v) 0) byte)
+edges-around edges width v byte = bytes-equal (getD edges (30 + 2 * v) 0) (getD edges (32 + 2 * v) 0) (getD edges (33 + 2 * v - 2 * width) 0) (getD edges (33 + 2 * v) 0) byte
 
 -- the undecided edges at a pad, its degree, its first undecided edge
 abbrev pub undecided-around : List ℕ → ℕ → ℕ → ℕ

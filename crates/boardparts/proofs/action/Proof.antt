@@ -1,59 +1,54 @@
--- `boardparts::action` meets its contract.
-use Rattle.boardparts.proofs.Counts.{action-1, action-2, action-3, action-4, action-5, action-6, action-7}
+-- `boardparts::action` meets its contract: the code that the table holds is read back.
+use Prim.Native.Nat.{ℕ, _+_, _-_, _≤_, _<_}
+use mathlib.Core.Path.{_≡_, refl, sym, ap, _∙_}
 use native.Mathlib.Omega.{arith}
+use lib.Dec.{ltb}
+use lib.ListN.{getD}
+use borrow.Author.Tests.{lt-ltb, le-ltb}
+use Rattle.boardview.specs.View.{pick, slot-around}
+use Rattle.boardview.specs.Actions.{decoded, action-read}
 use borrow.Author.Needs.{needs}
 use Rattle.boardparts.proofs.action.Statement.{statement}
 use Rattle.boardparts.proofs.action.Tie as tie
 
-edges-around-requires : tie.Need-edges-around-requires
-edges-around-requires c κs = search needs
+at-once : (width v code : ℕ) → code < 2 → code ≡ decoded width v code
+at-once width v code h = rw (lt-ltb code 2 h) refl
 
-degree-around-requires : tie.Need-degree-around-requires
-degree-around-requires c κs = search needs
+a-line : (width v code slot : ℕ) → 2 ≤ code → code < 6 → slot ≡ slot-around width v (code - 2) → slot ≡ decoded width v code
+a-line width v code slot low high e = rw (le-ltb code 2 low, lt-ltb code 6 high) e
+
+no-line : (width v code slot : ℕ) → 6 ≤ code → slot ≡ slot-around width v (code - 6) → slot + 1024 ≡ decoded width v code
+no-line width v code slot low e = rw (le-ltb code 2 (omega arith), le-ltb code 6 low) (ap (λ (n : ℕ). n + 1024) e)
+
+action-index-requires : tie.Need-action-index-requires
+action-index-requires c κs = search needs
+
+add-wide : tie.Need-add-wide
+add-wide c = omega (arith, c .action-index .ensures .1)
+
+element-copy-out-wide : tie.Need-element-copy-out-wide
+element-copy-out-wide c = omega (arith, c .action-index .ensures .1)
+
+wide-requires : tie.Need-wide-requires
+wide-requires c κs = search needs
 
 returns : tie.Need-returns
-returns c = (action-1 (c .before .before .before .args .kind .now) (c .before .before .before .args .edges .now) (c .before .before .before .args .width) (c .before .before .before .args .v) (omega arith), omega arith)
+returns c = (at-once _ _ _ (c .if1 .taken) ∙ action-read (c .before .before .before .before .args .kind .now) (c .before .before .before .before .args .edges .now) (c .before .before .before .before .pre .2) (c .before .before .before .before .args .width) (c .before .before .before .before .args .v) (c .before .before .before .before .pre .3) _ (c .before .wide .ensures ∙ ap (λ (n : ℕ). getD (c .before .before .before .before .args .kind .now) (512 + n) 0) (c .before .before .before .action-index .ensures .0)), omega arith)
+
+slot-around-requires : tie.Need-slot-around-requires
+slot-around-requires c κs = search needs
 
 returns-2 : tie.Need-returns-2
-returns-2 c = (action-2 (c .before .before .before .before .before .args .kind .now) (c .before .before .before .before .before .args .edges .now) (c .before .before .before .before .before .args .width) (c .before .before .before .before .before .args .v) (omega arith) (omega arith) (omega arith), omega arith)
+returns-2 c = (a-line _ _ _ _ (c .before .before .if1 .left) (c .before .if2 .taken) (c .slot-around .ensures .0) ∙ action-read (c .before .before .before .before .before .before .args .kind .now) (c .before .before .before .before .before .before .args .edges .now) (c .before .before .before .before .before .before .pre .2) (c .before .before .before .before .before .before .args .width) (c .before .before .before .before .before .before .args .v) (c .before .before .before .before .before .before .pre .3) _ (c .before .before .before .wide .ensures ∙ ap (λ (n : ℕ). getD (c .before .before .before .before .before .before .args .kind .now) (512 + n) 0) (c .before .before .before .before .before .action-index .ensures .0)), omega (arith, c .slot-around .ensures .1))
 
-returns-3 : tie.Need-returns-3
-returns-3 c = (action-3 (c .before .before .before .before .before .args .kind .now) (c .before .before .before .before .before .args .edges .now) (c .before .before .before .before .before .args .width) (c .before .before .before .before .before .args .v) (omega arith) (omega arith) (λ e. absurd (omega arith)), omega arith)
-
-first-around-requires : tie.Need-first-around-requires
-first-around-requires c κs = search needs
+slot-around-requires-2 : tie.Need-slot-around-requires-2
+slot-around-requires-2 c κs = search needs
 
 add-result : tie.Need-add-result
 add-result c = search needs
 
-returns-4 : tie.Need-returns-4
-returns-4 c = (action-4 (c .before .before .before .before .before .before .args .kind .now) (c .before .before .before .before .before .before .args .edges .now) (c .before .before .before .before .before .before .args .width) (c .before .before .before .before .before .before .args .v) (omega arith) (λ e. absurd (omega arith)) _ (c .before .first-around .ensures .0) (omega arith), omega arith)
-
-returns-5 : tie.Need-returns-5
-returns-5 c = (action-5 (c .before .before .before .before .before .before .before .before .args .kind .now) (c .before .before .before .before .before .before .before .before .args .edges .now) (c .before .before .before .before .before .before .before .before .args .width) (c .before .before .before .before .before .before .before .before .args .v) (omega arith) (λ e. absurd (omega arith)) (λ e. absurd (omega arith)) _ (c .before .before .before .first-around .ensures .0) (omega arith) (omega arith), omega arith)
-
-add-result-2 : tie.Need-add-result-2
-add-result-2 c = search needs
-
-returns-6 : tie.Need-returns-6
-returns-6 c = (action-6 (c .before .before .before .before .before .before .before .before .args .kind .now) (c .before .before .before .before .before .before .before .before .args .edges .now) (c .before .before .before .before .before .before .before .before .args .width) (c .before .before .before .before .before .before .before .before .args .v) (omega arith) (λ e. absurd (omega arith)) (λ e. absurd (omega arith)) _ (c .before .before .before .first-around .ensures .0) (omega arith) (λ e. absurd (omega arith)), omega arith)
-
-returns-7 : tie.Need-returns-7
-returns-7 c = (action-7 (c .before .before .before .before .before .before .before .args .kind .now) (c .before .before .before .before .before .before .before .args .edges .now) (c .before .before .before .before .before .before .before .args .width) (c .before .before .before .before .before .before .before .args .v) (omega arith) (λ e. absurd (omega arith)) (λ e. absurd (omega arith)) (λ e. absurd (omega arith)), omega arith)
+returns-3 : tie.Need-returns-3
+returns-3 c = (no-line _ _ _ _ (c .before .if2 .left) (c .slot-around2 .ensures .0) ∙ action-read (c .before .before .before .before .before .before .args .kind .now) (c .before .before .before .before .before .before .args .edges .now) (c .before .before .before .before .before .before .pre .2) (c .before .before .before .before .before .before .args .width) (c .before .before .before .before .before .before .args .v) (c .before .before .before .before .before .before .pre .3) _ (c .before .before .before .wide .ensures ∙ ap (λ (n : ℕ). getD (c .before .before .before .before .before .before .args .kind .now) (512 + n) 0) (c .before .before .before .before .before .action-index .ensures .0)), omega (arith, c .slot-around2 .ensures .1))
 
 pub action-spec : {M : Type 1} → statement M
-action-spec =
-    tie.close
-    (tie.spec
-    edges-around-requires
-    degree-around-requires
-    returns
-    returns-2
-    returns-3
-    first-around-requires
-    add-result
-    returns-4
-    returns-5
-    add-result-2
-    returns-6
-    returns-7)
+action-spec = tie.close (tie.spec action-index-requires add-wide element-copy-out-wide wide-requires returns slot-around-requires returns-2 slot-around-requires-2 add-result returns-3)

@@ -1,5 +1,5 @@
 -- `boardparts::some_apart` meets its contract.
-use Rattle.boardparts.proofs.Counts.{apart-0, apart-1, apart-2, apart-3, apart-4}
+use Rattle.boardparts.proofs.Apart.{apart-0, apart-1, apart-2, apart-3, apart-4}
 use native.Mathlib.Omega.{arith}
 use mathlib.Core.Path.{_≡_, refl, sym, ap, _∙_}
 use borrow.Author.Needs.{needs}

@@ -258,7 +258,7 @@ check-returns-3 : (t : ℕ) → check-lts.Need-returns-3 (check-claims t) (check
 check-returns-3 t c = let start = c .before .before .before .before .before .before .before .before .before .before .before in check-ends (grid-in (start .args .kind .now)) _ _ (start .args .v) (omega (arith, small-pad (start .args .kind .now) _ (start .pre .1 .2) (start .pre .1 .3) (start .args .v) ((start .pre .1 .1) (omega (arith, (start .pre .1 .0), c .before .before .before .before .before .before .before .before .before .if2 .left))))) (c .before .before .before .before .before .before .before .before .before .before .if1 .left) (apart-done (start .args .kind .now) _ (start .pre .1 .2) (start .pre .1 .3) (start .args .v) ((start .pre .1 .1) (omega (arith, (start .pre .1 .0), c .before .before .before .before .before .before .before .before .before .if2 .left))) _ (c .before .before .before .before .before .before .before .before .width .ensures) _ (c .before .before .before .before .before .before .end-code .ensures) _ _ (c .before .before .loop .inv) (λ low. absurd (omega (arith, c .before .loop-test .left)))) (c .if3 .taken)
 
 check-action-requires : (t : ℕ) → check-lts.Need-action-requires (check-claims t) (check-at t) check.Post check-Inv-loop check-μ-loop
-check-action-requires t c κs = let start = c .before .before .before .before .before .before .before .before .before .before .before .before in (small-pad (start .args .kind .now) _ (start .pre .1 .2) (start .pre .1 .3) (start .args .v) ((start .pre .1 .1) (omega (arith, (start .pre .1 .0), c .before .before .before .before .before .before .before .before .before .before .if2 .left))), omega (arith, (start .pre .1 .2) .largest-width, c .before .before .before .before .before .before .before .before .before .width .ensures))
+check-action-requires t c κs = let start = c .before .before .before .before .before .before .before .before .before .before .before .before in (small-pad (start .args .kind .now) _ (start .pre .1 .2) (start .pre .1 .3) (start .args .v) ((start .pre .1 .1) (omega (arith, (start .pre .1 .0), c .before .before .before .before .before .before .before .before .before .before .if2 .left))), omega (arith, (start .pre .1 .2) .largest-width, c .before .before .before .before .before .before .before .before .before .width .ensures), (apart-ready (start .args .kind .now) _ (start .pre .1 .2) (start .pre .1 .3) (start .args .v) ((start .pre .1 .1) (omega (arith, (start .pre .1 .0), c .before .before .before .before .before .before .before .before .before .before .if2 .left))) _ (c .before .before .before .before .before .before .before .before .before .width .ensures) _ (c .before .before .before .before .before .before .before .end-code .ensures) _ _ (c .before .before .before .loop .inv)) .bytes, (start .pre .1 .2))
 
 check-rest-requires : (t : ℕ) → check-lts.Need-rest-requires (check-claims t) (check-at t) check.Post check-Inv-loop check-μ-loop
 check-rest-requires t c κs = c .if4 .taken
