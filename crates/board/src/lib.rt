@@ -16,6 +16,7 @@ ghost use Rattle.board.specs.Held.{Held, IsBoard, Says, Shows, declined-
 ghost use Rattle.board.specs.PlaceLaws.{slot-of-place, shown-byte, shown-at};
 ghost use Rattle.board.specs.ShowLaws.{Laid, end-at-index};
 ghost use Rattle.board.specs.CallLaws.{CanGoBack, board-back};
+use boardparts::FLAGGED;
 use grid::Edge;
 
 // The byte of an undecided edge, as the edge type names it.
@@ -116,7 +117,7 @@ fn decide_slot(
 fn flag_number(count: usize) -> usize
     ensures { λ r. ⌜ r ≡ num (flag-in count) ⌝ }
 {
-    if count < 1024 { 0 } else { 1 }
+    if count < FLAGGED { 0 } else { 1 }
 }
 
 fn no_entries() -> [i32; 2048]
@@ -231,8 +232,8 @@ fn back_to(board: Board, mark: usize, standing: usize) -> Board
         &mut ends,
         &log,
         &kind,
-        count % 1024,
-        mark % 1024,
+        count % FLAGGED,
+        mark % FLAGGED,
     );
     Board {
         edges,
@@ -377,7 +378,7 @@ impl Board {
             width: boardparts::width(&kind),
             edges: record_of(&edges, &kind),
             ends: shown_ends(&ends),
-            flag: self.count >= 1024,
+            flag: self.count >= FLAGGED,
         }
     }
 }

@@ -8,6 +8,11 @@ ghost use Rattle.rules.specs.Grid.{Size, Accepted, grid-of};
 ghost use Rattle.boardview.specs.View.{bytes-equal, undecided-side, action-code, action-entry};
 ghost use Rattle.boardfresh.specs.FreshArrays.{right-byte, down-byte, edge-byte, EdgesFrom, end-number-at, EndsFrom, CellsInRange, kind-byte, is-clue, corner-test, barred-in, barred-below, bar-test, kind-from, TableFrom, FreshKinds};
 ghost use Rattle.boardfresh.specs.FreshView.{FreshBoard};
+use boardparts::BAR_LEFT;
+use boardparts::BAR_RIGHT;
+use boardparts::CLUE;
+use boardparts::CORNER_LEFT;
+use boardparts::CORNER_RIGHT;
 use grid::Edge;
 
 // The bytes of an edge's states, as the edge type names them.
@@ -135,7 +140,7 @@ fn is_barred(kind: &[u8; 1024], v: usize, corner: u8, bar: u8) -> bool
     if boardparts::has(kind, v, corner) {
         return boardparts::has(kind, v, bar);
     }
-    !boardparts::has(kind, v, 1)
+    !boardparts::has(kind, v, CLUE)
 }
 
 // Whether the pad diagonally below on that side is barred.
@@ -144,9 +149,9 @@ fn is_barred_below(kind: &[u8; 1024], width: usize, right: bool, v: usize) -> bo
     ensures { λ r. ⌜ r ≡ barred-below (now (kind .entry)) width right v ⌝ }
 {
     if right {
-        return is_barred(kind, v + width + 1, 8, 2);
+        return is_barred(kind, v + width + 1, CORNER_RIGHT, BAR_RIGHT);
     }
-    is_barred(kind, v + width - 1, 16, 4)
+    is_barred(kind, v + width - 1, CORNER_LEFT, BAR_LEFT)
 }
 
 // Whether a pad with a corner on that side is barred there.
@@ -174,10 +179,10 @@ fn kind_byte(
     ensures { λ r. ⌜ r ≡ kind-byte clue «bar_right» «bar_left» «corner_right» «corner_left» ⌝ }
 {
     boardparts::one_if(clue)
-        + 2 * boardparts::one_if(bar_right)
-        + 4 * boardparts::one_if(bar_left)
-        + 8 * boardparts::one_if(corner_right)
-        + 16 * boardparts::one_if(corner_left)
+        + BAR_RIGHT * boardparts::one_if(bar_right)
+        + BAR_LEFT * boardparts::one_if(bar_left)
+        + CORNER_RIGHT * boardparts::one_if(corner_right)
+        + CORNER_LEFT * boardparts::one_if(corner_left)
 }
 
 // The byte of a pad, from the bytes of the pads below it.

@@ -18,6 +18,25 @@ const UNDECIDED: u8 = Edge::UNDECIDED.0;
 
 const LINE: u8 = Edge::LINE.0;
 
+// What is told of a pad by the bits of its kind: it is a clue; it is barred on a side; it has an edge downward and one to a side.
+pub const CLUE: u8 = 1;
+
+pub const BAR_RIGHT: u8 = 2;
+
+pub const BAR_LEFT: u8 = 4;
+
+pub const CORNER_RIGHT: u8 = 8;
+
+pub const CORNER_LEFT: u8 = 16;
+
+// The count of a board is the length of its log, plus this if the flag is set, and plus this again once the decision has ended.
+pub const FLAGGED: usize = 1024;
+
+pub const ENDED: usize = 2048;
+
+// What the pad check does last is a slot for a line there, or this plus a slot for none there.
+pub const NONE_THERE: usize = 1024;
+
 // A byte as a number.
 pub fn wide(byte: u8) -> usize
     ensures { λ r. ⌜ r ≡ byte ⌝ }
@@ -43,27 +62,27 @@ pub fn width(kind: &[u8; 1024]) -> usize
 pub fn stop(count: usize) -> usize
     ensures { λ r. ⌜ r ≡ stopped count ⌝ }
 {
-    count % 1024 + 2048
+    count % FLAGGED + ENDED
 }
 
 // The decision has ended if the flag is set.
 pub fn end(count: usize) -> usize
     ensures { λ r. ⌜ r ≡ ended count ⌝ }
 {
-    if count < 1024 {
+    if count < FLAGGED {
         return count;
     }
-    count % 1024 + 2048
+    count % FLAGGED + ENDED
 }
 
 // The decision goes on.
 pub fn go_on(count: usize) -> usize
     ensures { λ r. ⌜ r ≡ going count ⌝ }
 {
-    if count < 2048 {
+    if count < ENDED {
         return count;
     }
-    count - 1024
+    count - FLAGGED
 }
 
 // The count after a pad check that decides no edge: action 0 does nothing, action 1 sets the flag.
@@ -182,7 +201,7 @@ pub fn store(edges: &mut [u8; 1024], log: &mut [i32; 2048], slot: usize, state: 
     requires { ⌜ (slot < 1024) × (count % 1024 < 480) ⌝ }
     ensures { λ _. ⌜ (now (edges .exit) ≡ set (now (edges .entry)) slot state) × (now (log .exit) ≡ log-stored (now (log .entry)) (count % 1024) slot) ⌝ }
 {
-    let k = 4 * (count % 1024);
+    let k = 4 * (count % FLAGGED);
     edges[slot] = state;
     log[k] = slot as i32;
     log[k + 1] = -1;
@@ -200,7 +219,7 @@ pub fn log_line(
     requires { ⌜ (slot < 1024) × (v < 512) × (q < 512) × (count % 1024 < 480) × (length (now ends) ≡ 512) ⌝ }
     ensures { λ _. ⌜ now (log .exit) ≡ log-joined (now (log .entry)) (count % 1024) slot (getD (now (ends .entry)) v (pos v)) (getD (now (ends .entry)) q (pos q)) ⌝ }
 {
-    let k = 4 * (count % 1024);
+    let k = 4 * (count % FLAGGED);
     log[k] = slot as i32;
     log[k + 1] = ends[v];
     log[k + 2] = ends[q];
@@ -285,7 +304,7 @@ pub fn slot_apart(
     requires { ⌜ (slot < 1024) × (past < 528) × (getD (now edges) slot 0 ≡ 0 → 16 ≤ past) × (length (now ends) ≡ 512) ⌝ }
     ensures { λ r. ⌜ (r ≡ pick (ltb count 2048) (pick (keeps-apart (now (edges .entry)) (now (ends .entry)) code slot (past - 16)) slot 0) 0) × (r < 1024) ⌝ }
 {
-    if count < 2048 {
+    if count < ENDED {
         if keeps_apart(edges, ends, code, slot, past) {
             return slot;
         }
@@ -388,7 +407,7 @@ pub fn action_index(edges: &[u8; 1024], kind: &[u8; 1024], width: usize, v: usiz
     let right = wide(edges[32 + 2 * v]);
     let up = wide(edges[33 + 2 * v - 2 * width]);
     let down = wide(edges[33 + 2 * v]);
-    let clue = wide(one_if(has(kind, v, 1)));
+    let clue = wide(one_if(has(kind, v, CLUE)));
     left + 4 * right + 16 * up + 64 * down + 256 * clue
 }
 
@@ -404,5 +423,5 @@ pub fn action(edges: &[u8; 1024], kind: &[u8; 1024], width: usize, v: usize) -> 
     if code < 6 {
         return slot_around(width, v, code - 2);
     }
-    slot_around(width, v, code - 6) + 1024
+    slot_around(width, v, code - 6) + NONE_THERE
 }

@@ -10,6 +10,13 @@ ghost use Rattle.rules.specs.Grid.{right, down, pads};
 ghost use Rattle.rules.specs.Drawing.{on-left, on-right};
 ghost use Rattle.model.specs.Board.{line, on-board};
 ghost use Rattle.boardview.specs.View.{Arrays, grid-in, has-bit, slot-on, Kinds, Ready, Decided, Done, NoneAt, detour-at, corner-at, bar-at, check-at};
+use boardparts::BAR_LEFT;
+use boardparts::BAR_RIGHT;
+use boardparts::CLUE;
+use boardparts::CORNER_LEFT;
+use boardparts::CORNER_RIGHT;
+use boardparts::ENDED;
+use boardparts::NONE_THERE;
 use grid::Edge;
 
 // The bytes of an edge's states, as the edge type names them.
@@ -73,7 +80,7 @@ pub fn decide_line_right(
         let a = boardparts::end_pad(ends, v);
         let b = boardparts::end_pad(ends, q);
         let mut after = boardparts::begin_line(edges, ends, log, slot, v, q, count);
-        if 2048 <= after {
+        if ENDED <= after {
             return after;
         }
         after = detour(edges, ends, log, kind, up_left, up_right, up, after);
@@ -84,8 +91,8 @@ pub fn decide_line_right(
         after = detour(edges, ends, log, kind, below, left, right, after);
         after = corner_right(edges, ends, log, kind, right_below, left, after);
         after = corner_left(edges, ends, log, kind, left_below, right, after);
-        after = bar(edges, ends, log, kind, v, 2, left, after);
-        after = bar(edges, ends, log, kind, q, 4, right, after);
+        after = bar(edges, ends, log, kind, v, BAR_RIGHT, left, after);
+        after = bar(edges, ends, log, kind, q, BAR_LEFT, right, after);
         after = check(edges, ends, log, kind, v, after);
         after = check(edges, ends, log, kind, q, after);
         after = check(edges, ends, log, kind, a, after);
@@ -122,12 +129,12 @@ pub fn decide_line_down(
         let far_right = 35 + 2 * v;
         let pad_left = v + w - 1;
         let pad_right = v + w + 1;
-        let if_left = boardparts::slot_where(kind, v, 16, far_left);
-        let if_right = boardparts::slot_where(kind, v, 8, far_right);
+        let if_left = boardparts::slot_where(kind, v, CORNER_LEFT, far_left);
+        let if_right = boardparts::slot_where(kind, v, CORNER_RIGHT, far_right);
         let a = boardparts::end_pad(ends, v);
         let b = boardparts::end_pad(ends, q);
         let mut after = boardparts::begin_line(edges, ends, log, slot, v, q, count);
-        if 2048 <= after {
+        if ENDED <= after {
             return after;
         }
         after = detour(edges, ends, log, kind, left, left_below, far_left, after);
@@ -138,8 +145,8 @@ pub fn decide_line_down(
         after = detour(edges, ends, log, kind, if_right, right, right_below, after);
         after = corner_left(edges, ends, log, kind, pad_left, left, after);
         after = corner_right(edges, ends, log, kind, pad_right, right, after);
-        after = bar(edges, ends, log, kind, v, 4, left, after);
-        after = bar(edges, ends, log, kind, v, 2, right, after);
+        after = bar(edges, ends, log, kind, v, BAR_LEFT, left, after);
+        after = bar(edges, ends, log, kind, v, BAR_RIGHT, right, after);
         after = check(edges, ends, log, kind, v, after);
         after = check(edges, ends, log, kind, q, after);
         after = check(edges, ends, log, kind, a, after);
@@ -165,14 +172,14 @@ pub fn detour(
     requires { ⌜ (a < 1024) × (b < 1024) × (c < 1024) × (slot-on (grid-in (now kind)) a ≡ true → (slot-on (grid-in (now kind)) b ≡ true) × (slot-on (grid-in (now kind)) c ≡ true)) × Kinds (now kind) × Ready (grid-in (now kind)) (record { edges = now edges; ends = now ends; log = now log; count = count }) ⌝ }
     ensures { λ r. ⌜ Done (grid-in (now (kind .entry))) 1 (record { edges = now (edges .entry); ends = now (ends .entry); log = now (log .entry); count = count }) (detour-at (grid-in (now (kind .entry))) a b c) (record { edges = now (edges .exit); ends = now (ends .exit); log = now (log .exit); count = r }) ⌝ }
 {
-    if 2048 <= count {
+    if ENDED <= count {
         return count;
     }
     if edges[a] != LINE {
         return count;
     }
     let after = decide_none(edges, ends, log, kind, b, count);
-    if 2048 <= after {
+    if ENDED <= after {
         return after;
     }
     decide_none(edges, ends, log, kind, c, after)
@@ -191,16 +198,16 @@ pub fn corner_right(
     requires { ⌜ (a < 1024) × (q < 512) × (slot-on (grid-in (now kind)) a ≡ true → q < pads (grid-in (now kind))) × Kinds (now kind) × Ready (grid-in (now kind)) (record { edges = now edges; ends = now ends; log = now log; count = count }) ⌝ }
     ensures { λ r. ⌜ Done (grid-in (now (kind .entry))) 1 (record { edges = now (edges .entry); ends = now (ends .entry); log = now (log .entry); count = count }) (corner-at (grid-in (now (kind .entry))) on-right q a) (record { edges = now (edges .exit); ends = now (ends .exit); log = now (log .exit); count = r }) ⌝ }
 {
-    if 2048 <= count {
+    if ENDED <= count {
         return count;
     }
     if edges[a] != LINE {
         return count;
     }
-    if boardparts::has(kind, q, 1) {
+    if boardparts::has(kind, q, CLUE) {
         return count;
     }
-    if boardparts::has(kind, q, 8) {
+    if boardparts::has(kind, q, CORNER_RIGHT) {
         let after = decide_line_right(edges, ends, log, kind, q, count);
         let after = decide_line_down(edges, ends, log, kind, q, boardparts::go_on(after));
         return boardparts::go_on(after);
@@ -221,16 +228,16 @@ pub fn corner_left(
     requires { ⌜ (a < 1024) × (q < 512) × (slot-on (grid-in (now kind)) a ≡ true → q < pads (grid-in (now kind))) × Kinds (now kind) × Ready (grid-in (now kind)) (record { edges = now edges; ends = now ends; log = now log; count = count }) ⌝ }
     ensures { λ r. ⌜ Done (grid-in (now (kind .entry))) 1 (record { edges = now (edges .entry); ends = now (ends .entry); log = now (log .entry); count = count }) (corner-at (grid-in (now (kind .entry))) on-left q a) (record { edges = now (edges .exit); ends = now (ends .exit); log = now (log .exit); count = r }) ⌝ }
 {
-    if 2048 <= count {
+    if ENDED <= count {
         return count;
     }
     if edges[a] != LINE {
         return count;
     }
-    if boardparts::has(kind, q, 1) {
+    if boardparts::has(kind, q, CLUE) {
         return count;
     }
-    if boardparts::has(kind, q, 16) {
+    if boardparts::has(kind, q, CORNER_LEFT) {
         let after = decide_line_right(edges, ends, log, kind, q - 1, count);
         let after = decide_line_down(edges, ends, log, kind, q, boardparts::go_on(after));
         return boardparts::go_on(after);
@@ -252,7 +259,7 @@ pub fn bar(
     requires { ⌜ (v < 512) × (slot < 1024) × (has-bit (now kind) v bit ≡ true → slot-on (grid-in (now kind)) slot ≡ true) × Kinds (now kind) × Ready (grid-in (now kind)) (record { edges = now edges; ends = now ends; log = now log; count = count }) ⌝ }
     ensures { λ r. ⌜ Done (grid-in (now (kind .entry))) 1 (record { edges = now (edges .entry); ends = now (ends .entry); log = now (log .entry); count = count }) (bar-at (grid-in (now (kind .entry))) (has-bit (now (kind .entry)) v bit) slot) (record { edges = now (edges .exit); ends = now (ends .exit); log = now (log .exit); count = r }) ⌝ }
 {
-    if 2048 <= count {
+    if ENDED <= count {
         return count;
     }
     if boardparts::has(kind, v, bit) {
@@ -273,7 +280,7 @@ pub fn check(
     requires { ⌜ (v ≤ 512) × (v < 512 → v < pads (grid-in (now kind))) × Kinds (now kind) × Ready (grid-in (now kind)) (record { edges = now edges; ends = now ends; log = now log; count = count }) ⌝ }
     ensures { λ r. ⌜ Done (grid-in (now (kind .entry))) 1 (record { edges = now (edges .entry); ends = now (ends .entry); log = now (log .entry); count = count }) (check-at v) (record { edges = now (edges .exit); ends = now (ends .exit); log = now (log .exit); count = r }) ⌝ }
 {
-    if 2048 <= count {
+    if ENDED <= count {
         return count;
     }
     if v == 512 {
@@ -291,15 +298,15 @@ pub fn check(
         after = boardparts::count_after(slot, after, next);
         side += 1;
     }
-    if 2048 <= after {
+    if ENDED <= after {
         return after;
     }
     let action = boardparts::action(edges, kind, w, v);
     if action < 2 {
         return boardparts::rest(action, after);
     }
-    if 1024 <= action {
-        return decide_none(edges, ends, log, kind, action - 1024, after);
+    if NONE_THERE <= action {
+        return decide_none(edges, ends, log, kind, action - NONE_THERE, after);
     }
     let pad = action / 2 - 16;
     if action % 2 == 0 {

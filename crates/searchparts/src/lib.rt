@@ -39,7 +39,7 @@ fn clue_at(kind: &[u8; 1024], v: usize) -> u8
     requires { ⌜ (v < 1024) × (length (now kind) ≡ 1024) ⌝ }
     ensures { λ r. ⌜ (r ≡ num (has-bit (now (kind .entry)) v clue-bit)) × (r ≤ 1) ⌝ }
 {
-    boardparts::one_if(boardparts::has(kind, v, 1))
+    boardparts::one_if(boardparts::has(kind, v, boardparts::CLUE))
 }
 
 // 1 for a line, 0 for any other byte.

@@ -11,6 +11,7 @@ ghost use Rattle.model.specs.Board.{line-or-none, on-board};
 ghost use Rattle.boardview.specs.View.{grid-in, Kinds, Ready, Decided, unwound};
 ghost use Rattle.searchview.specs.Searched.{arrays, reached, Begun, Above, Entered, Attempted, Backtracked};
 ghost use Rattle.solver.specs.Answers as answers;
+use boardparts::FLAGGED;
 
 // Decides the edge to the right of a pad.
 fn decide_right(
@@ -65,7 +66,7 @@ fn take_back(
     ensures { λ _. ⌜ _≡_ {A = List ℕ × List ℤ} (now (edges .exit), now (ends .exit))
         (unwound (grid-in (now (kind .entry)) .width) (now (log .entry)) before (count % 1024 - before) (now (edges .entry), now (ends .entry))) ⌝ }
 {
-    boardundo::undo(edges, ends, log, kind, count % 1024, before);
+    boardundo::undo(edges, ends, log, kind, count % FLAGGED, before);
 }
 
 // One m at a pad: tried where clue + lines is 0 or 2; decide right, decide down, go on if the flag is clear, undo.
@@ -94,7 +95,7 @@ fn attempt(
     }
     let first = decide_right(edges, ends, log, kind, v, right, count);
     let second = decide_down(edges, ends, log, kind, v, down, first);
-    if second < 1024 {
+    if second < FLAGGED {
         let next = searchparts::next_pad(edges, searchparts::first_of_last_row(kind), v + 1);
         let outcome = backtrack(
             edges,
