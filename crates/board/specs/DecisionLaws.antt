@@ -1,6 +1,6 @@
 -- The fresh board, the reading and the decision: why the answers say what the model's do. A decision of the code knows of a grid only its sizes
 -- and which pads are blank, and so does the model's (boardview's SameBlanks.antt); the number of undecided edges keeps it from needing more
--- than the model's bound (searchview's Undecided.antt).
+-- than the model's bound (boardview's Undecided.antt).
 use Prim.Native.Nat.{ℕ, zero, suc, _+_, _*_, _-_, _%_, _≤_, _<_}
 use mathlib.Core.Path.{_≡_, refl, sym, ap, _∙_}
 use mathlib.Core.Bool.{Bool, true, false}
@@ -20,7 +20,7 @@ use Rattle.model.specs.Calls as model
 use Rattle.boardview.specs.View.{Arrays, view, flag-in, slot, slot-on, edge-of, grid-in, Kinds, Ready, Decided, Since}
 use Rattle.boardfresh.specs.FreshView.{FreshBoard}
 use Rattle.boardview.specs.SameBlanks.{shown-decides}
-use Rattle.searchview.specs.Undecided.{enough-here}
+use Rattle.boardview.specs.Undecided.{enough-here}
 use Rattle.board.specs.Past.{Past, past-since, past-fresh, standing-marks}
 use Rattle.board.specs.Held.{arrays-of, Held, Says}
 use Rattle.board.specs.CallLaws.{declined}

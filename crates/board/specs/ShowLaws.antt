@@ -16,7 +16,7 @@ use Rattle.model.specs.Board.{End, end-number}
 use Rattle.model.specs.Calls as model
 use Rattle.boardview.specs.View.{slot, state-of, end-of, view, grid-in, Kinds, Ready, flag-in}
 use Rattle.boardview.specs.Bytes.{default-free}
-use Rattle.searchview.specs.ShownLaws.{byte-back, one-more}
+use Rattle.boardview.specs.Places.{byte-back, one-more}
 use Rattle.board.specs.PlaceLaws.{shown-byte, shown-at, at-place, on-place}
 use Rattle.board.specs.Held.{arrays-of, Held, Shows}
 use Rattle.board.specs.declared.Board.{Board}

@@ -10,10 +10,11 @@ use lib.Dec.{eqb, ltb}
 use lib.ListN.{length, getD}
 use borrow.Author.Tests.{eq-eqb, ne-eqb, ltb-true, eqb-true, eqb-false}
 use Rattle.rules.specs.Grid.{Edge, right, down, Grid, pads}
-use Rattle.model.specs.Board.{on-board, line, none, line-or-none}
+use Rattle.model.specs.Board.{on-board, none, line-or-none}
 use Rattle.model.specs.Calls as model
-use Rattle.boardview.specs.View.{Arrays, Decided, slot, slot-on, edge-of, pick, grid-in, Kinds}
-use Rattle.boardview.specs.Bytes.{on-slot, edge-on, right-slot, down-slot, both-true}
+use Rattle.boardview.specs.View.{slot, slot-on, edge-of, grid-in}
+use Rattle.boardview.specs.Bytes.{on-slot, edge-on, both-true}
+use Rattle.boardview.specs.OneEdge.{edge-of-slot}
 use Rattle.board.specs.PlaceLaws.{slot-of-place, EdgeThere, found-there, no-edge-there}
 use Rattle.board.specs.ShowLaws.{edge-byte}
 use Rattle.board.specs.Held.{arrays-of, Held, Says}
@@ -49,17 +50,6 @@ module _ (g : Grid) (n : ℕ) (few : pads g ≤ 256) (on : slot-on g n ≡ true)
 
   pub slot-small : n < 1024
   slot-small = let v = pad-small in omega arith
-
--- the state that was asked for
-pub none-asked : {g : Grid} {s t : Arrays} {e : Edge} {asked : Bool} → asked ≡ false → Decided g s e none t → Decided g s e (line-or-none asked) t
-none-asked {g} {s} {t} {e} isnt did = rw isnt did
-
-pub line-asked : {g : Grid} {s t : Arrays} {e f : Edge} {asked : Bool} → asked ≡ true → e ≡ f → Decided g s f line t → Decided g s e (line-or-none asked) t
-line-asked {g} {s} {t} {e} {f} is same did = rw (is, same) did
-
-edge-of-slot : (e : Edge) → edge-of (slot e) ≡ e
-edge-of-slot (right v) = right-slot v
-edge-of-slot (down v) = down-slot v
 
 -- THE CALLS AT A PLACE
 module _ (b : Board) (B : model.Board) (held : Held b B) (y x n : ℕ) (is : n ≡ slot-of-place (model.edge-at (grid-in (b .kind)) y x)) where

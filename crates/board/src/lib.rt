@@ -103,14 +103,11 @@ fn decide_slot(
     requires { ⌜ (slot-on (grid-in (now kind)) slot ≡ true) × Kinds (now kind) × Ready (grid-in (now kind)) (record { edges = now edges; ends = now ends; log = now log; count = count }) ⌝ }
     ensures { λ r. ⌜ Decided (grid-in (now (kind .entry))) (record { edges = now (edges .entry); ends = now (ends .entry); log = now (log .entry); count = count }) (edge-of slot) (line-or-none line) (record { edges = now (edges .exit); ends = now (ends .exit); log = now (log .exit); count = r }) ⌝ }
 {
-    if line {
-        let v = slot / 2 - 16;
-        if slot % 2 == 0 {
-            return decision::decide_line_right(edges, ends, log, kind, v, count);
-        }
-        return decision::decide_line_down(edges, ends, log, kind, v, count);
+    let v = slot / 2 - 16;
+    if slot % 2 == 0 {
+        return decision::decide_right(edges, ends, log, kind, v, line, count);
     }
-    decision::decide_none(edges, ends, log, kind, slot, count)
+    decision::decide_down(edges, ends, log, kind, v, line, count)
 }
 
 // 1 if the flag is set.

@@ -13,3 +13,6 @@ pub mod Actions
 pub mod Check
 pub mod Cycle
 pub mod SameBlanks
+pub mod OneEdge
+pub mod Undecided
+pub mod Places

@@ -8,7 +8,7 @@ ghost use mathlib.Core.Bool.{true, false};
 ghost use Prim.Native.Nat.{ℕ, _+_, _*_, _-_, _≤_, _<_};
 ghost use Rattle.rules.specs.Grid.{right, down, pads};
 ghost use Rattle.rules.specs.Drawing.{on-left, on-right};
-ghost use Rattle.model.specs.Board.{line, on-board};
+ghost use Rattle.model.specs.Board.{line, line-or-none, on-board};
 ghost use Rattle.boardview.specs.View.{Arrays, grid-in, has-bit, slot-on, Kinds, Ready, Decided, Done, NoneAt, detour-at, corner-at, bar-at, check-at};
 use boardparts::BAR_LEFT;
 use boardparts::BAR_RIGHT;
@@ -313,4 +313,44 @@ pub fn check(
         return decide_line_right(edges, ends, log, kind, pad, after);
     }
     decide_line_down(edges, ends, log, kind, pad, after)
+}
+
+// The edge to the right of a pad becomes a line or none.
+pub fn decide_right(
+    edges: &mut [u8; 1024],
+    ends: &mut [i32; 512],
+    log: &mut [i32; 2048],
+    kind: &[u8; 1024],
+    v: usize,
+    line: bool,
+    count: usize,
+) -> usize
+    requires { ⌜ (v < 256) × Kinds (now kind) × Ready (grid-in (now kind)) (record { edges = now edges; ends = now ends; log = now log; count = count }) × (on-board (grid-in (now kind)) (right v) ≡ true) ⌝ }
+    ensures { λ r. ⌜ Decided (grid-in (now (kind .entry))) (record { edges = now (edges .entry); ends = now (ends .entry); log = now (log .entry); count = count })
+        (right v) (line-or-none line) (record { edges = now (edges .exit); ends = now (ends .exit); log = now (log .exit); count = r }) ⌝ }
+{
+    if line {
+        return decide_line_right(edges, ends, log, kind, v, count);
+    }
+    decide_none(edges, ends, log, kind, 32 + 2 * v, count)
+}
+
+// The edge downward from a pad becomes a line or none.
+pub fn decide_down(
+    edges: &mut [u8; 1024],
+    ends: &mut [i32; 512],
+    log: &mut [i32; 2048],
+    kind: &[u8; 1024],
+    v: usize,
+    line: bool,
+    count: usize,
+) -> usize
+    requires { ⌜ (v < 256) × Kinds (now kind) × Ready (grid-in (now kind)) (record { edges = now edges; ends = now ends; log = now log; count = count }) × (on-board (grid-in (now kind)) (down v) ≡ true) ⌝ }
+    ensures { λ r. ⌜ Decided (grid-in (now (kind .entry))) (record { edges = now (edges .entry); ends = now (ends .entry); log = now (log .entry); count = count })
+        (down v) (line-or-none line) (record { edges = now (edges .exit); ends = now (ends .exit); log = now (log .exit); count = r }) ⌝ }
+{
+    if line {
+        return decide_line_down(edges, ends, log, kind, v, count);
+    }
+    decide_none(edges, ends, log, kind, 33 + 2 * v, count)
 }

@@ -3,7 +3,6 @@ pub mod Progress
 pub mod Sizes
 pub mod Shown
 pub mod ShownLaws
-pub mod Undecided
 pub mod EdgeSet
 pub mod NextPad
 pub mod Searched

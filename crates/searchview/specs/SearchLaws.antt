@@ -13,15 +13,14 @@ use borrow.Author.Tests.{lt-ltb, le-ltb, ltb-true, eq-eqb, ne-eqb, le-leb, lt-le
 use Rattle.rules.specs.Grid.{Edge, right, down, Grid, pads, places}
 use Rattle.rules.specs.Drawing.{num}
 use Rattle.rules.specs.Record.{field}
-use Rattle.model.specs.Board.{State, EdgeState, line, isUndecided, has-right, has-down, on-board, line-or-none, decide, enough}
+use Rattle.model.specs.Board.{State, isUndecided, on-board, line-or-none, decide, enough}
 use Rattle.model.specs.Search.{Event, visit, layout, board-record, degree-so-far, next-pad, try, backtrack}
-use Rattle.boardview.specs.View.{Arrays, logged, flag-in, view, unwound, Entry, Since, Ready, Decided, NoneAt, grid-in, Kinds, slot, edge-of}
-use Rattle.boardview.specs.Bytes.{right-slot, down-slot, edge-on}
+use Rattle.boardview.specs.View.{Arrays, logged, view, unwound, Entry, Since, Ready, Decided}
 use Rattle.boardview.specs.Unwind.{since-then, kept-unwound}
 use Rattle.searchview.specs.Progress.{Progress, advance, entered, stopped, goes-on, advance-append}
 use Rattle.searchview.specs.Shown.{EdgesReady, edges-only, is-tried, place-shown, record-shown, last-row, NextPad, Restored, progress, Added}
 use Rattle.searchview.specs.Searched.{Begun, Above, Entered, Searched, Attempted, Backtracked, Going, events-left}
-use Rattle.searchview.specs.Undecided.{enough-here}
+use Rattle.boardview.specs.Undecided.{enough-here}
 use Rattle.searchview.specs.EdgeSet.{right-decided}
 use Rattle.searchview.specs.NextPad.{below-some, below-none, last-below-pads, right-there, next-same}
 
@@ -308,15 +307,3 @@ taken-back w s s₁ edges ends count since long clear back =
 
 pub log-longer : (w : ℕ) (s s₁ : Arrays) → Since w s s₁ → s .count < 1024 → s .count ≤ s₁ .count % 1024
 log-longer w s s₁ since clear = let mark : s .count % 1024 ≡ s .count = native.Mathlib.Nat.mod-eq-of-lt clear in let k = since .longer in omega arith
-
--- ONE EDGE, line or none
-edge-of-slot : (e : Edge) → edge-of (slot e) ≡ e
-edge-of-slot (right v) = right-slot v
-edge-of-slot (down v) = down-slot v
-
-module _ (g : Grid) (s s′ : Arrays) (e : Edge) (go : Bool) where
-  pub decided-line : go ≡ true → Decided g s e line s′ → Decided g s e (line-or-none go) s′
-  decided-line h d = rw h d
-
-  pub decided-none : go ≡ false → on-board g e ≡ true → NoneAt g s (slot e) s′ → Decided g s e (line-or-none go) s′
-  decided-none h on d = rw h (rw (edge-of-slot e) at (d .acts (edge-on g e ∙ on)))

@@ -21,6 +21,7 @@ use Rattle.model.specs.Search.{degree-so-far, Event, layout, least}
 use Rattle.boardview.specs.View.{Arrays, pick, slot, slot-on, edge-of, state-of, view, grid-in, has-bit, clue-bit, cell-in, Kinds}
 use Rattle.boardview.specs.Bytes.{default-free, line-byte-test, edge-on}
 use Rattle.boardview.specs.Geometry.{last-before, low-off, slot-is}
+use Rattle.boardview.specs.Places.{byte-back, one-more}
 use Rattle.searchview.specs.Progress.{Progress, advance, put-bytes, put-length, put-put, put-none, stopped, listed}
 use Rattle.searchview.specs.Shown.{EdgesReady, edges-only, is-tried, place-shown, record-shown, progress, Added}
 
@@ -101,13 +102,6 @@ module _ (kind : List ℕ) where
     tried-as go-right go-down degree is = rw (is, degree-shown) refl
 
 -- THE BYTE AT A PLACE
-pub byte-back : (b : ℕ) → b ≤ 2 → state-byte (state-of b) ≡ b
-unfolding state-of
-byte-back zero h = refl
-byte-back (suc zero) h = refl
-byte-back (suc (suc zero)) h = refl
-byte-back (suc (suc (suc b))) h = absurd (omega arith)
-
 module _ (width : ℕ) (edges : List ℕ) (long : length edges ≡ 1024) (bytes : (n : ℕ) → getD edges n 2 ≤ 2) (row column : ℕ) where
   abbrev pad : ℕ
   pad = row / 2 * width + column / 2
@@ -132,22 +126,7 @@ module _ (width : ℕ) (edges : List ℕ) (long : length edges ≡ 1024) (bytes 
   unfolding place-shown place-at place-by-parity
   odd-odd r c = let odd : row % 2 ≡ 1 = omega arith in let odd-column : column % 2 ≡ 1 = omega arith in rw (odd, odd-column) refl
 
--- a pad of the record's place is inside the arrays
-pub pad-inside : (width row column : ℕ) → width ≤ 16 → row < 31 → column < 31 → (row / 2 * width ≤ 240) × (row / 2 * width + column / 2 ≤ 255)
-pad-inside width row column narrow r c = let half : row / 2 ≤ 15 = omega arith in let h : row / 2 * width ≤ 15 * 16 = mul-le-mul half narrow in (omega arith, omega arith)
-
 -- THE RECORD BYTE BY BYTE
-pub one-more : {A : Type 0} (f : ℕ → A) (start n : ℕ) → tabulate f start (suc n) ≡ tabulate f start n ++ (f (start + n) ∷ [])
-unfolding tabulate
-one-more f start zero = ap (λ (k : ℕ). f k ∷ []) (plus-zero start)
-  where
-    plus-zero : (k : ℕ) → k ≡ k + 0
-    plus-zero k = omega arith
-one-more f start (suc n) = ap (λ l. f start ∷ l) (one-more f (start + 1) n ∙ ap (λ (k : ℕ). tabulate f (start + 1) n ++ (f k ∷ [])) (plus-suc start n))
-  where
-    plus-suc : (k j : ℕ) → k + 1 + j ≡ k + suc j
-    plus-suc k j = omega arith
-
 pub lines-append : (a b : List ℕ) → record-lines (a ++ b) ≡ record-lines a + record-lines b
 unfolding record-lines
 lines-append [] b = zero-plus (record-lines b)

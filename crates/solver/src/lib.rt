@@ -13,46 +13,6 @@ ghost use Rattle.searchview.specs.Searched.{arrays, reached, Begun, Above, Ente
 ghost use Rattle.solver.specs.Answers as answers;
 use boardparts::FLAGGED;
 
-// Decides the edge to the right of a pad.
-fn decide_right(
-    edges: &mut [u8; 1024],
-    ends: &mut [i32; 512],
-    log: &mut [i32; 2048],
-    kind: &[u8; 1024],
-    v: usize,
-    line: bool,
-    count: usize,
-) -> usize
-    requires { ⌜ (v < 256) × Kinds (now kind) × Ready (grid-in (now kind)) (arrays (now edges) (now ends) (now log) count) × (on-board (grid-in (now kind)) (right v) ≡ true) ⌝ }
-    ensures { λ r. ⌜ Decided (grid-in (now (kind .entry))) (arrays (now (edges .entry)) (now (ends .entry)) (now (log .entry)) count)
-        (right v) (line-or-none line) (arrays (now (edges .exit)) (now (ends .exit)) (now (log .exit)) r) ⌝ }
-{
-    if line {
-        return decision::decide_line_right(edges, ends, log, kind, v, count);
-    }
-    decision::decide_none(edges, ends, log, kind, 32 + 2 * v, count)
-}
-
-// Decides the edge below a pad.
-fn decide_down(
-    edges: &mut [u8; 1024],
-    ends: &mut [i32; 512],
-    log: &mut [i32; 2048],
-    kind: &[u8; 1024],
-    v: usize,
-    line: bool,
-    count: usize,
-) -> usize
-    requires { ⌜ (v < 256) × Kinds (now kind) × Ready (grid-in (now kind)) (arrays (now edges) (now ends) (now log) count) × (on-board (grid-in (now kind)) (down v) ≡ true) ⌝ }
-    ensures { λ r. ⌜ Decided (grid-in (now (kind .entry))) (arrays (now (edges .entry)) (now (ends .entry)) (now (log .entry)) count)
-        (down v) (line-or-none line) (arrays (now (edges .exit)) (now (ends .exit)) (now (log .exit)) r) ⌝ }
-{
-    if line {
-        return decision::decide_line_down(edges, ends, log, kind, v, count);
-    }
-    decision::decide_none(edges, ends, log, kind, 33 + 2 * v, count)
-}
-
 // Undoes what has been decided since.
 fn take_back(
     edges: &mut [u8; 1024],
@@ -93,8 +53,8 @@ fn attempt(
     if !searchparts::tried(edges, kind, v, right, down) {
         return 0;
     }
-    let first = decide_right(edges, ends, log, kind, v, right, count);
-    let second = decide_down(edges, ends, log, kind, v, down, first);
+    let first = decision::decide_right(edges, ends, log, kind, v, right, count);
+    let second = decision::decide_down(edges, ends, log, kind, v, down, first);
     if second < FLAGGED {
         let next = searchparts::next_pad(edges, searchparts::first_of_last_row(kind), v + 1);
         let outcome = backtrack(

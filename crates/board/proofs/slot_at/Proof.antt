@@ -1,5 +1,5 @@
 -- `board::slot_at` meets its contract: each return is a case of the model's place, by parity, or lies outside the field. Assumes nothing.
-use Rattle.searchview.specs.ShownLaws.{pad-inside}
+use Rattle.boardview.specs.Places.{pad-inside}
 use Rattle.board.specs.PlaceLaws.{row-off, column-off, even-even, even-odd, odd-even, odd-odd}
 use native.Mathlib.Omega.{arith}
 use borrow.Author.Needs.{needs}

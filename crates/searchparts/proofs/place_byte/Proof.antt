@@ -4,7 +4,8 @@ use mathlib.Core.Path.{_≡_, refl, ap, sym, _∙_}
 use lib.ListN.{getD}
 use native.Mathlib.Omega.{arith}
 use Rattle.boardview.specs.View.{grid-in}
-use Rattle.searchview.specs.ShownLaws.{pad-inside, even-even, even-odd, odd-even, odd-odd}
+use Rattle.boardview.specs.Places.{pad-inside}
+use Rattle.searchview.specs.ShownLaws.{even-even, even-odd, odd-even, odd-odd}
 use borrow.Author.Needs.{needs}
 use Rattle.searchparts.proofs.place_byte.Statement.{statement}
 use Rattle.searchparts.proofs.place_byte.Tie as tie

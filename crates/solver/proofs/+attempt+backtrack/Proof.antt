@@ -22,8 +22,8 @@ use Rattle.searchparts.proofs.add_layout.Reads as add-layout-reads
 use Rattle.searchparts.proofs.first_of_last_row.Reads as first-of-last-row-reads
 use Rattle.searchparts.proofs.next_pad.Reads as next-pad-reads
 use Rattle.searchparts.proofs.tried.Reads as tried-reads
-use Rattle.solver.proofs.decide_down.Reads as decide-down-reads
-use Rattle.solver.proofs.decide_right.Reads as decide-right-reads
+use Rattle.decision.proofs.decide_down.Reads as decide-down-reads
+use Rattle.decision.proofs.decide_right.Reads as decide-right-reads
 use Rattle.solver.proofs.take_back.Reads as take-back-reads
 use Rattle.solver.proofs.+attempt+backtrack.{statement}
 use Rattle.solver.proofs.+attempt+backtrack.Tie.{close}

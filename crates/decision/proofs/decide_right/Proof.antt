@@ -1,14 +1,14 @@
 -- A line, or none at the slot of the edge, as the choice says. Assumes nothing.
-use Rattle.searchview.specs.SearchLaws.{decided-line, decided-none}
+use Rattle.boardview.specs.OneEdge.{decided-line, decided-none}
 use borrow.Author.Needs.{needs}
-use Rattle.solver.proofs.decide_down.Statement.{statement}
-use Rattle.solver.proofs.decide_down.Tie as tie
+use Rattle.decision.proofs.decide_right.Statement.{statement}
+use Rattle.decision.proofs.decide_right.Tie as tie
 
-decide-line-down-requires : tie.Need-decide-line-down-requires
-decide-line-down-requires c κs = search needs
+decide-line-right-requires : tie.Need-decide-line-right-requires
+decide-line-right-requires c κs = search needs
 
 returns : tie.Need-returns
-returns c = decided-line _ _ _ _ _ (c .before .before .before .before .if1 .taken) (c .decide-line-down .ensures)
+returns c = decided-line _ _ _ _ _ (c .before .before .before .before .if1 .taken) (c .decide-line-right .ensures)
 
 mul-decide-none : tie.Need-mul-decide-none
 mul-decide-none c = search needs
@@ -22,11 +22,11 @@ decide-none-requires c κs = search needs
 returns-2 : tie.Need-returns-2
 returns-2 c = decided-none _ _ _ _ _ (c .before .before .before .before .if1 .left) (c .before .before .before .before .before .pre .3) (c .decide-none .ensures)
 
-pub decide-down-spec : {M : Type 1} → statement M
-decide-down-spec =
+pub decide-right-spec : {M : Type 1} → statement M
+decide-right-spec =
     tie.close
     (tie.spec
-    decide-line-down-requires
+    decide-line-right-requires
     returns
     mul-decide-none
     add-decide-none

@@ -1,5 +1,5 @@
 -- The model's bound on the nesting is enough for the arrays: at most two undecided edges for each pad, because a slot off the board holds
--- none. It rests on the board's view.
+-- none. It rests on View.antt and Bytes.antt.
 use Prim.Native.Nat.{ℕ, zero, suc, _+_, _*_, _-_, _≤_, _<_}
 use mathlib.Core.Path.{_≡_, refl, sym, ap, _∙_}
 use mathlib.Core.Bool.{Bool, true, false, _&&_}
