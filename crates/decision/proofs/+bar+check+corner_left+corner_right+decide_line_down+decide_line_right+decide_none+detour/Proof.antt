@@ -201,7 +201,11 @@ bar-decide-none-requires : (t : ℕ) → bar-lts.Need-decide-none-requires (bar-
 bar-decide-none-requires t c κs = let start = c .before .before .before .before .before .before in ((omega (arith, start .pre .0)), ((start .pre .1 .1), (start .pre .1 .3), (start .pre .1 .4)))
 
 bar-returns-2 : (t : ℕ) → bar-lts.Need-returns-2 (bar-claims t) (bar-at t) bar.Post
-bar-returns-2 t c = let start = c .before .before .before .before .before .before .before in bar-none (grid-in (start .args .kind .now)) _ (start .pre .1 .4) _ (c .before .before .before .before .before .before .if1 .left) _ (sym (c .before .before .before .before .before .has .ensures) ∙ c .before .before .before .before .if2 .taken) ((start .pre .1 .2) (sym (c .before .before .before .before .before .has .ensures) ∙ c .before .before .before .before .if2 .taken)) _ (c .decide-none .ensures .acts ((start .pre .1 .2) (sym (c .before .before .before .before .before .has .ensures) ∙ c .before .before .before .before .if2 .taken)))
+bar-returns-2 t c =
+    let start = c .before .before .before .before .before .before .before in
+    let has-says = c .before .before .before .before .before .has .ensures in
+    let if2-taken = c .before .before .before .before .if2 .taken in
+    bar-none (grid-in (start .args .kind .now)) _ (start .pre .1 .4) _ (c .before .before .before .before .before .before .if1 .left) _ (sym (has-says) ∙ if2-taken) ((start .pre .1 .2) (sym (has-says) ∙ if2-taken)) _ (c .decide-none .ensures .acts ((start .pre .1 .2) (sym (has-says) ∙ if2-taken)))
 
 bar-returns-3 : (t : ℕ) → bar-lts.Need-returns-3 (bar-claims t) (bar-at t) bar.Post
 bar-returns-3 t c = let start = c .before .before .before in bar-off (grid-in (start .args .kind .now)) _ (start .pre .1 .4) _ (c .before .before .if1 .left) _ (sym (c .before .has .ensures) ∙ c .if2 .left)
@@ -225,7 +229,11 @@ check-end-code-requires : (t : ℕ) → check-lts.Need-end-code-requires (check-
 check-end-code-requires t c κs = let start = c .before .before .before .before in (omega (arith, small-pad (start .args .kind .now) _ (start .pre .1 .2) (start .pre .1 .3) (start .args .v) ((start .pre .1 .1) (omega (arith, (start .pre .1 .0), c .before .before .if2 .left)))), (start .pre .1 .3) .ends-long)
 
 check-first-side-requires : (t : ℕ) → check-lts.Need-first-side-requires (check-claims t) (check-at t) check.Post check-Inv-loop check-μ-loop
-check-first-side-requires t c κs = let start = c .before .before .before .before .before .before .before in (small-pad (start .args .kind .now) _ (start .pre .1 .2) (start .pre .1 .3) (start .args .v) ((start .pre .1 .1) (omega (arith, (start .pre .1 .0), c .before .before .before .before .before .if2 .left))), (omega (arith, (start .pre .1 .2) .least-width, c .before .before .before .before .width .ensures)), (omega (arith, (start .pre .1 .2) .largest-width, c .before .before .before .before .width .ensures)), (start .pre .1 .3) .ends-long, past-left (start .args .kind .now) _ (start .pre .1 .2) (start .pre .1 .3) (start .args .v) ((start .pre .1 .1) (omega (arith, (start .pre .1 .0), c .before .before .before .before .before .if2 .left))), past-up (start .args .kind .now) _ (start .pre .1 .2) (start .pre .1 .3) (start .args .v) ((start .pre .1 .1) (omega (arith, (start .pre .1 .0), c .before .before .before .before .before .if2 .left))) _ (c .before .before .before .before .width .ensures))
+check-first-side-requires t c κs =
+    let start = c .before .before .before .before .before .before .before in
+    let if2-left = c .before .before .before .before .before .if2 .left in
+    let width-says = c .before .before .before .before .width .ensures in
+    (small-pad (start .args .kind .now) _ (start .pre .1 .2) (start .pre .1 .3) (start .args .v) ((start .pre .1 .1) (omega (arith, (start .pre .1 .0), if2-left))), (omega (arith, (start .pre .1 .2) .least-width, width-says)), (omega (arith, (start .pre .1 .2) .largest-width, width-says)), (start .pre .1 .3) .ends-long, past-left (start .args .kind .now) _ (start .pre .1 .2) (start .pre .1 .3) (start .args .v) ((start .pre .1 .1) (omega (arith, (start .pre .1 .0), if2-left))), past-up (start .args .kind .now) _ (start .pre .1 .2) (start .pre .1 .3) (start .args .v) ((start .pre .1 .1) (omega (arith, (start .pre .1 .0), if2-left))) _ (width-says))
 
 check-loop-holds : (t : ℕ) → check-lts.Need-loop-holds (check-claims t) (check-at t) check.Post check-Inv-loop check-μ-loop
 check-loop-holds t c = let start = c .before .before .before .before .before .before .before .before in apart-begins (start .args .kind .now) _ (start .pre .1 .2) (start .pre .1 .3) (start .args .v) ((start .pre .1 .1) (omega (arith, (start .pre .1 .0), c .before .before .before .before .before .before .if2 .left))) _ (c .before .before .before .before .before .width .ensures) _ (c .before .before .before .end-code .ensures) (c .before .before .before .before .before .before .before .if1 .left) _ (c .first-side .ensures)
@@ -237,10 +245,23 @@ check-past-around-requires : (t : ℕ) → check-lts.Need-past-around-requires (
 check-past-around-requires t c κs = let start = c .before .before .before .before .before .before .before .before .before .before .before in (small-pad (start .args .kind .now) _ (start .pre .1 .2) (start .pre .1 .3) (start .args .v) ((start .pre .1 .1) (omega (arith, (start .pre .1 .0), c .before .before .before .before .before .before .before .before .before .if2 .left))), omega (arith, (start .pre .1 .2) .largest-width, c .before .before .before .before .before .before .before .before .width .ensures))
 
 check-slot-apart-requires : (t : ℕ) → check-lts.Need-slot-apart-requires (check-claims t) (check-at t) check.Post check-Inv-loop check-μ-loop
-check-slot-apart-requires t c κs = let start = c .before .before .before .before .before .before .before .before .before .before .before .before .before .before in (c .before .before .before .slot-around .ensures .1, c .before .before .past-around .ensures .1, (λ z. rw (c .before .before .past-around .ensures .0) (past-there (start .args .kind .now) _ (start .pre .1 .2) (start .pre .1 .3) (start .args .v) ((start .pre .1 .1) (omega (arith, (start .pre .1 .0), c .before .before .before .before .before .before .before .before .before .before .before .before .if2 .left))) _ (c .before .before .before .before .before .before .before .before .before .before .before .width .ensures) _ (c .before .before .before .before .before .before .before .before .before .end-code .ensures) _ _ (c .before .before .before .before .before .loop .inv) (c .before .before .before .before .loop-test .taken) (rw (c .before .before .before .slot-around .ensures .0) at z))), (apart-ready (start .args .kind .now) _ (start .pre .1 .2) (start .pre .1 .3) (start .args .v) ((start .pre .1 .1) (omega (arith, (start .pre .1 .0), c .before .before .before .before .before .before .before .before .before .before .before .before .if2 .left))) _ (c .before .before .before .before .before .before .before .before .before .before .before .width .ensures) _ (c .before .before .before .before .before .before .before .before .before .end-code .ensures) _ _ (c .before .before .before .before .before .loop .inv)) .ends-long)
+check-slot-apart-requires t c κs =
+    let start = c .before .before .before .before .before .before .before .before .before .before .before .before .before .before in
+    let slot-around-says = c .before .before .before .slot-around .ensures in
+    let if2-left = c .before .before .before .before .before .before .before .before .before .before .before .before .if2 .left in
+    let width-says = c .before .before .before .before .before .before .before .before .before .before .before .width .ensures in
+    let end-code-says = c .before .before .before .before .before .before .before .before .before .end-code .ensures in
+    let loop-inv = c .before .before .before .before .before .loop .inv in
+    (slot-around-says .1, c .before .before .past-around .ensures .1, (λ z. rw (c .before .before .past-around .ensures .0) (past-there (start .args .kind .now) _ (start .pre .1 .2) (start .pre .1 .3) (start .args .v) ((start .pre .1 .1) (omega (arith, (start .pre .1 .0), if2-left))) _ (width-says) _ (end-code-says) _ _ (loop-inv) (c .before .before .before .before .loop-test .taken) (rw (slot-around-says .0) at z))), (apart-ready (start .args .kind .now) _ (start .pre .1 .2) (start .pre .1 .3) (start .args .v) ((start .pre .1 .1) (omega (arith, (start .pre .1 .0), if2-left))) _ (width-says) _ (end-code-says) _ _ (loop-inv)) .ends-long)
 
 check-decide-none-requires : (t : ℕ) → check-lts.Need-decide-none-requires (check-claims t) (check-at t) check.Post check-Inv-loop check-μ-loop
-check-decide-none-requires t c κs = let start = c .before .before .before .before .before .before .before .before .before .before .before .before .before .before .before .before .before .before in (omega (arith, start .pre .0, apart-fewer (start .args .kind .now) _ (start .pre .1 .2) (start .pre .1 .3) (start .args .v) ((start .pre .1 .1) (omega (arith, (start .pre .1 .0), c .before .before .before .before .before .before .before .before .before .before .before .before .before .before .before .before .if2 .left))) _ (c .before .before .before .before .before .before .before .before .before .before .before .before .before .before .before .width .ensures) _ (c .before .before .before .before .before .before .before .before .before .before .before .before .before .end-code .ensures) _ _ (c .before .before .before .before .before .before .before .before .before .loop .inv)), (c .before .before .before .slot-apart .ensures .1, (start .pre .1 .2), apart-ready (start .args .kind .now) _ (start .pre .1 .2) (start .pre .1 .3) (start .args .v) ((start .pre .1 .1) (omega (arith, (start .pre .1 .0), c .before .before .before .before .before .before .before .before .before .before .before .before .before .before .before .before .if2 .left))) _ (c .before .before .before .before .before .before .before .before .before .before .before .before .before .before .before .width .ensures) _ (c .before .before .before .before .before .before .before .before .before .before .before .before .before .end-code .ensures) _ _ (c .before .before .before .before .before .before .before .before .before .loop .inv)))
+check-decide-none-requires t c κs =
+    let start = c .before .before .before .before .before .before .before .before .before .before .before .before .before .before .before .before .before .before in
+    let if2-left = c .before .before .before .before .before .before .before .before .before .before .before .before .before .before .before .before .if2 .left in
+    let width-says = c .before .before .before .before .before .before .before .before .before .before .before .before .before .before .before .width .ensures in
+    let end-code-says = c .before .before .before .before .before .before .before .before .before .before .before .before .before .end-code .ensures in
+    let loop-inv = c .before .before .before .before .before .before .before .before .before .loop .inv in
+    (omega (arith, start .pre .0, apart-fewer (start .args .kind .now) _ (start .pre .1 .2) (start .pre .1 .3) (start .args .v) ((start .pre .1 .1) (omega (arith, (start .pre .1 .0), if2-left))) _ (width-says) _ (end-code-says) _ _ (loop-inv)), (c .before .before .before .slot-apart .ensures .1, (start .pre .1 .2), apart-ready (start .args .kind .now) _ (start .pre .1 .2) (start .pre .1 .3) (start .args .v) ((start .pre .1 .1) (omega (arith, (start .pre .1 .0), if2-left))) _ (width-says) _ (end-code-says) _ _ (loop-inv)))
 
 check-count-after-requires : (t : ℕ) → check-lts.Need-count-after-requires (check-claims t) (check-at t) check.Post check-Inv-loop check-μ-loop
 check-count-after-requires t c κs = search needs
@@ -255,37 +276,96 @@ check-loop-again : (t : ℕ) → check-lts.Need-loop-again (check-claims t) (che
 check-loop-again t c = let start = c .before .before .before .before .before .before .before .before .before .before .before .before .before .before .before .before .before .before .before .before in apart-more (start .args .kind .now) _ (start .pre .1 .2) (start .pre .1 .3) (start .args .v) ((start .pre .1 .1) (omega (arith, (start .pre .1 .0), c .before .before .before .before .before .before .before .before .before .before .before .before .before .before .before .before .before .before .if2 .left))) _ (c .before .before .before .before .before .before .before .before .before .before .before .before .before .before .before .before .before .width .ensures) _ (c .before .before .before .before .before .before .before .before .before .before .before .before .before .before .before .end-code .ensures) _ _ (c .before .before .before .before .before .before .before .before .before .before .before .loop .inv) (c .before .before .before .before .before .before .before .before .before .before .loop-test .taken) _ (rw (c .before .before .before .before .before .before .before .before .before .slot-around .ensures .0, c .before .before .before .before .before .before .before .before .past-around .ensures .0) at (c .before .before .before .before .before .slot-apart .ensures .0)) _ (c .before .decide-none .ensures) _ (c .count-after .ensures)
 
 check-returns-3 : (t : ℕ) → check-lts.Need-returns-3 (check-claims t) (check-at t) check.Post check-Inv-loop check-μ-loop
-check-returns-3 t c = let start = c .before .before .before .before .before .before .before .before .before .before .before in check-ends (grid-in (start .args .kind .now)) _ _ (start .args .v) (omega (arith, small-pad (start .args .kind .now) _ (start .pre .1 .2) (start .pre .1 .3) (start .args .v) ((start .pre .1 .1) (omega (arith, (start .pre .1 .0), c .before .before .before .before .before .before .before .before .before .if2 .left))))) (c .before .before .before .before .before .before .before .before .before .before .if1 .left) (apart-done (start .args .kind .now) _ (start .pre .1 .2) (start .pre .1 .3) (start .args .v) ((start .pre .1 .1) (omega (arith, (start .pre .1 .0), c .before .before .before .before .before .before .before .before .before .if2 .left))) _ (c .before .before .before .before .before .before .before .before .width .ensures) _ (c .before .before .before .before .before .before .end-code .ensures) _ _ (c .before .before .loop .inv) (λ low. absurd (omega (arith, c .before .loop-test .left)))) (c .if3 .taken)
+check-returns-3 t c =
+    let start = c .before .before .before .before .before .before .before .before .before .before .before in
+    let if2-left = c .before .before .before .before .before .before .before .before .before .if2 .left in
+    check-ends (grid-in (start .args .kind .now)) _ _ (start .args .v) (omega (arith, small-pad (start .args .kind .now) _ (start .pre .1 .2) (start .pre .1 .3) (start .args .v) ((start .pre .1 .1) (omega (arith, (start .pre .1 .0), if2-left))))) (c .before .before .before .before .before .before .before .before .before .before .if1 .left) (apart-done (start .args .kind .now) _ (start .pre .1 .2) (start .pre .1 .3) (start .args .v) ((start .pre .1 .1) (omega (arith, (start .pre .1 .0), if2-left))) _ (c .before .before .before .before .before .before .before .before .width .ensures) _ (c .before .before .before .before .before .before .end-code .ensures) _ _ (c .before .before .loop .inv) (λ low. absurd (omega (arith, c .before .loop-test .left)))) (c .if3 .taken)
 
 check-action-requires : (t : ℕ) → check-lts.Need-action-requires (check-claims t) (check-at t) check.Post check-Inv-loop check-μ-loop
-check-action-requires t c κs = let start = c .before .before .before .before .before .before .before .before .before .before .before .before in (small-pad (start .args .kind .now) _ (start .pre .1 .2) (start .pre .1 .3) (start .args .v) ((start .pre .1 .1) (omega (arith, (start .pre .1 .0), c .before .before .before .before .before .before .before .before .before .before .if2 .left))), omega (arith, (start .pre .1 .2) .largest-width, c .before .before .before .before .before .before .before .before .before .width .ensures), (apart-ready (start .args .kind .now) _ (start .pre .1 .2) (start .pre .1 .3) (start .args .v) ((start .pre .1 .1) (omega (arith, (start .pre .1 .0), c .before .before .before .before .before .before .before .before .before .before .if2 .left))) _ (c .before .before .before .before .before .before .before .before .before .width .ensures) _ (c .before .before .before .before .before .before .before .end-code .ensures) _ _ (c .before .before .before .loop .inv)) .bytes, (start .pre .1 .2))
+check-action-requires t c κs =
+    let start = c .before .before .before .before .before .before .before .before .before .before .before .before in
+    let if2-left = c .before .before .before .before .before .before .before .before .before .before .if2 .left in
+    let width-says = c .before .before .before .before .before .before .before .before .before .width .ensures in
+    (small-pad (start .args .kind .now) _ (start .pre .1 .2) (start .pre .1 .3) (start .args .v) ((start .pre .1 .1) (omega (arith, (start .pre .1 .0), if2-left))), omega (arith, (start .pre .1 .2) .largest-width, width-says), (apart-ready (start .args .kind .now) _ (start .pre .1 .2) (start .pre .1 .3) (start .args .v) ((start .pre .1 .1) (omega (arith, (start .pre .1 .0), if2-left))) _ (width-says) _ (c .before .before .before .before .before .before .before .end-code .ensures) _ _ (c .before .before .before .loop .inv)) .bytes, (start .pre .1 .2))
 
 check-rest-requires : (t : ℕ) → check-lts.Need-rest-requires (check-claims t) (check-at t) check.Post check-Inv-loop check-μ-loop
 check-rest-requires t c κs = c .if4 .taken
 
 check-returns-4 : (t : ℕ) → check-lts.Need-returns-4 (check-claims t) (check-at t) check.Post check-Inv-loop check-μ-loop
-check-returns-4 t c = let start = c .before .before .before .before .before .before .before .before .before .before .before .before .before .before .before in check-settles (grid-in (start .args .kind .now)) _ _ (start .args .v) (omega (arith, small-pad (start .args .kind .now) _ (start .pre .1 .2) (start .pre .1 .3) (start .args .v) ((start .pre .1 .1) (omega (arith, (start .pre .1 .0), c .before .before .before .before .before .before .before .before .before .before .before .before .before .if2 .left))))) (c .before .before .before .before .before .before .before .before .before .before .before .before .before .before .if1 .left) (apart-done (start .args .kind .now) _ (start .pre .1 .2) (start .pre .1 .3) (start .args .v) ((start .pre .1 .1) (omega (arith, (start .pre .1 .0), c .before .before .before .before .before .before .before .before .before .before .before .before .before .if2 .left))) _ (c .before .before .before .before .before .before .before .before .before .before .before .before .width .ensures) _ (c .before .before .before .before .before .before .before .before .before .before .end-code .ensures) _ _ (c .before .before .before .before .before .before .loop .inv) (λ low. absurd (omega (arith, c .before .before .before .before .before .loop-test .left)))) (c .before .before .before .before .if3 .left) _ (settle-rests (start .args .kind .now) _ (start .pre .1 .2) (apart-ready (start .args .kind .now) _ (start .pre .1 .2) (start .pre .1 .3) (start .args .v) ((start .pre .1 .1) (omega (arith, (start .pre .1 .0), c .before .before .before .before .before .before .before .before .before .before .before .before .before .if2 .left))) _ (c .before .before .before .before .before .before .before .before .before .before .before .before .width .ensures) _ (c .before .before .before .before .before .before .before .before .before .before .end-code .ensures) _ _ (c .before .before .before .before .before .before .loop .inv)) (start .args .v) ((start .pre .1 .1) (omega (arith, (start .pre .1 .0), c .before .before .before .before .before .before .before .before .before .before .before .before .before .if2 .left))) _ (c .before .before .before .before .before .before .before .before .before .before .before .before .width .ensures) _ (c .before .before .action .ensures .0) (c .before .if4 .taken) _ (c .rest .ensures))
+check-returns-4 t c =
+    let start = c .before .before .before .before .before .before .before .before .before .before .before .before .before .before .before in
+    let if2-left = c .before .before .before .before .before .before .before .before .before .before .before .before .before .if2 .left in
+    let width-says = c .before .before .before .before .before .before .before .before .before .before .before .before .width .ensures in
+    let end-code-says = c .before .before .before .before .before .before .before .before .before .before .end-code .ensures in
+    let loop-inv = c .before .before .before .before .before .before .loop .inv in
+    check-settles (grid-in (start .args .kind .now)) _ _ (start .args .v) (omega (arith, small-pad (start .args .kind .now) _ (start .pre .1 .2) (start .pre .1 .3) (start .args .v) ((start .pre .1 .1) (omega (arith, (start .pre .1 .0), if2-left))))) (c .before .before .before .before .before .before .before .before .before .before .before .before .before .before .if1 .left) (apart-done (start .args .kind .now) _ (start .pre .1 .2) (start .pre .1 .3) (start .args .v) ((start .pre .1 .1) (omega (arith, (start .pre .1 .0), if2-left))) _ (width-says) _ (end-code-says) _ _ (loop-inv) (λ low. absurd (omega (arith, c .before .before .before .before .before .loop-test .left)))) (c .before .before .before .before .if3 .left) _ (settle-rests (start .args .kind .now) _ (start .pre .1 .2) (apart-ready (start .args .kind .now) _ (start .pre .1 .2) (start .pre .1 .3) (start .args .v) ((start .pre .1 .1) (omega (arith, (start .pre .1 .0), if2-left))) _ (width-says) _ (end-code-says) _ _ (loop-inv)) (start .args .v) ((start .pre .1 .1) (omega (arith, (start .pre .1 .0), if2-left))) _ (width-says) _ (c .before .before .action .ensures .0) (c .before .if4 .taken) _ (c .rest .ensures))
 
 check-decide-none-requires-2 : (t : ℕ) → check-lts.Need-decide-none-requires-2 (check-claims t) (check-at t) check.Post check-Inv-loop check-μ-loop
-check-decide-none-requires-2 t c κs = let start = c .before .before .before .before .before .before .before .before .before .before .before .before .before .before .before .before .before .before in ((omega (arith, start .pre .0, apart-fewer (start .args .kind .now) _ (start .pre .1 .2) (start .pre .1 .3) (start .args .v) ((start .pre .1 .1) (omega (arith, (start .pre .1 .0), c .before .before .before .before .before .before .before .before .before .before .before .before .before .before .before .before .if2 .left))) _ (c .before .before .before .before .before .before .before .before .before .before .before .before .before .before .before .width .ensures) _ (c .before .before .before .before .before .before .before .before .before .before .before .before .before .end-code .ensures) _ _ (c .before .before .before .before .before .before .before .before .before .loop .inv))), (leave-there (start .args .kind .now) _ (start .pre .1 .2) (apart-ready (start .args .kind .now) _ (start .pre .1 .2) (start .pre .1 .3) (start .args .v) ((start .pre .1 .1) (omega (arith, (start .pre .1 .0), c .before .before .before .before .before .before .before .before .before .before .before .before .before .before .before .before .if2 .left))) _ (c .before .before .before .before .before .before .before .before .before .before .before .before .before .before .before .width .ensures) _ (c .before .before .before .before .before .before .before .before .before .before .before .before .before .end-code .ensures) _ _ (c .before .before .before .before .before .before .before .before .before .loop .inv)) (start .args .v) ((start .pre .1 .1) (omega (arith, (start .pre .1 .0), c .before .before .before .before .before .before .before .before .before .before .before .before .before .before .before .before .if2 .left))) _ (c .before .before .before .before .before .before .before .before .before .before .before .before .before .before .before .width .ensures) _ (c .before .before .before .before .before .action .ensures .0) (c .before .before .before .if5 .taken), (start .pre .1 .2), apart-ready (start .args .kind .now) _ (start .pre .1 .2) (start .pre .1 .3) (start .args .v) ((start .pre .1 .1) (omega (arith, (start .pre .1 .0), c .before .before .before .before .before .before .before .before .before .before .before .before .before .before .before .before .if2 .left))) _ (c .before .before .before .before .before .before .before .before .before .before .before .before .before .before .before .width .ensures) _ (c .before .before .before .before .before .before .before .before .before .before .before .before .before .end-code .ensures) _ _ (c .before .before .before .before .before .before .before .before .before .loop .inv)))
+check-decide-none-requires-2 t c κs =
+    let start = c .before .before .before .before .before .before .before .before .before .before .before .before .before .before .before .before .before .before in
+    let if2-left = c .before .before .before .before .before .before .before .before .before .before .before .before .before .before .before .before .if2 .left in
+    let width-says = c .before .before .before .before .before .before .before .before .before .before .before .before .before .before .before .width .ensures in
+    let end-code-says = c .before .before .before .before .before .before .before .before .before .before .before .before .before .end-code .ensures in
+    let loop-inv = c .before .before .before .before .before .before .before .before .before .loop .inv in
+    ((omega (arith, start .pre .0, apart-fewer (start .args .kind .now) _ (start .pre .1 .2) (start .pre .1 .3) (start .args .v) ((start .pre .1 .1) (omega (arith, (start .pre .1 .0), if2-left))) _ (width-says) _ (end-code-says) _ _ (loop-inv))), (leave-there (start .args .kind .now) _ (start .pre .1 .2) (apart-ready (start .args .kind .now) _ (start .pre .1 .2) (start .pre .1 .3) (start .args .v) ((start .pre .1 .1) (omega (arith, (start .pre .1 .0), if2-left))) _ (width-says) _ (end-code-says) _ _ (loop-inv)) (start .args .v) ((start .pre .1 .1) (omega (arith, (start .pre .1 .0), if2-left))) _ (width-says) _ (c .before .before .before .before .before .action .ensures .0) (c .before .before .before .if5 .taken), (start .pre .1 .2), apart-ready (start .args .kind .now) _ (start .pre .1 .2) (start .pre .1 .3) (start .args .v) ((start .pre .1 .1) (omega (arith, (start .pre .1 .0), if2-left))) _ (width-says) _ (end-code-says) _ _ (loop-inv)))
 
 check-returns-5 : (t : ℕ) → check-lts.Need-returns-5 (check-claims t) (check-at t) check.Post check-Inv-loop check-μ-loop
-check-returns-5 t c = let start = c .before .before .before .before .before .before .before .before .before .before .before .before .before .before .before .before .before .before .before in check-settles (grid-in (start .args .kind .now)) _ _ (start .args .v) (omega (arith, small-pad (start .args .kind .now) _ (start .pre .1 .2) (start .pre .1 .3) (start .args .v) ((start .pre .1 .1) (omega (arith, (start .pre .1 .0), c .before .before .before .before .before .before .before .before .before .before .before .before .before .before .before .before .before .if2 .left))))) (c .before .before .before .before .before .before .before .before .before .before .before .before .before .before .before .before .before .before .if1 .left) (apart-done (start .args .kind .now) _ (start .pre .1 .2) (start .pre .1 .3) (start .args .v) ((start .pre .1 .1) (omega (arith, (start .pre .1 .0), c .before .before .before .before .before .before .before .before .before .before .before .before .before .before .before .before .before .if2 .left))) _ (c .before .before .before .before .before .before .before .before .before .before .before .before .before .before .before .before .width .ensures) _ (c .before .before .before .before .before .before .before .before .before .before .before .before .before .before .end-code .ensures) _ _ (c .before .before .before .before .before .before .before .before .before .before .loop .inv) (λ low. absurd (omega (arith, c .before .before .before .before .before .before .before .before .before .loop-test .left)))) (c .before .before .before .before .before .before .before .before .if3 .left) _ (settle-leaves (start .args .kind .now) _ (start .pre .1 .2) (apart-ready (start .args .kind .now) _ (start .pre .1 .2) (start .pre .1 .3) (start .args .v) ((start .pre .1 .1) (omega (arith, (start .pre .1 .0), c .before .before .before .before .before .before .before .before .before .before .before .before .before .before .before .before .before .if2 .left))) _ (c .before .before .before .before .before .before .before .before .before .before .before .before .before .before .before .before .width .ensures) _ (c .before .before .before .before .before .before .before .before .before .before .before .before .before .before .end-code .ensures) _ _ (c .before .before .before .before .before .before .before .before .before .before .loop .inv)) (start .args .v) ((start .pre .1 .1) (omega (arith, (start .pre .1 .0), c .before .before .before .before .before .before .before .before .before .before .before .before .before .before .before .before .before .if2 .left))) _ (c .before .before .before .before .before .before .before .before .before .before .before .before .before .before .before .before .width .ensures) _ (c .before .before .before .before .before .before .action .ensures .0) (c .before .before .before .before .if5 .taken) _ (c .decide-none2 .ensures))
+check-returns-5 t c =
+    let start = c .before .before .before .before .before .before .before .before .before .before .before .before .before .before .before .before .before .before .before in
+    let if2-left = c .before .before .before .before .before .before .before .before .before .before .before .before .before .before .before .before .before .if2 .left in
+    let width-says = c .before .before .before .before .before .before .before .before .before .before .before .before .before .before .before .before .width .ensures in
+    let end-code-says = c .before .before .before .before .before .before .before .before .before .before .before .before .before .before .end-code .ensures in
+    let loop-inv = c .before .before .before .before .before .before .before .before .before .before .loop .inv in
+    check-settles (grid-in (start .args .kind .now)) _ _ (start .args .v) (omega (arith, small-pad (start .args .kind .now) _ (start .pre .1 .2) (start .pre .1 .3) (start .args .v) ((start .pre .1 .1) (omega (arith, (start .pre .1 .0), if2-left))))) (c .before .before .before .before .before .before .before .before .before .before .before .before .before .before .before .before .before .before .if1 .left) (apart-done (start .args .kind .now) _ (start .pre .1 .2) (start .pre .1 .3) (start .args .v) ((start .pre .1 .1) (omega (arith, (start .pre .1 .0), if2-left))) _ (width-says) _ (end-code-says) _ _ (loop-inv) (λ low. absurd (omega (arith, c .before .before .before .before .before .before .before .before .before .loop-test .left)))) (c .before .before .before .before .before .before .before .before .if3 .left) _ (settle-leaves (start .args .kind .now) _ (start .pre .1 .2) (apart-ready (start .args .kind .now) _ (start .pre .1 .2) (start .pre .1 .3) (start .args .v) ((start .pre .1 .1) (omega (arith, (start .pre .1 .0), if2-left))) _ (width-says) _ (end-code-says) _ _ (loop-inv)) (start .args .v) ((start .pre .1 .1) (omega (arith, (start .pre .1 .0), if2-left))) _ (width-says) _ (c .before .before .before .before .before .before .action .ensures .0) (c .before .before .before .before .if5 .taken) _ (c .decide-none2 .ensures))
 
 check-sub-pad : (t : ℕ) → check-lts.Need-sub-pad (check-claims t) (check-at t) check.Post check-Inv-loop check-μ-loop
-check-sub-pad t c = let start = c .before .before .before .before .before .before .before .before .before .before .before .before .before .before .before in omega (arith, draw-high (start .args .kind .now) _ (start .pre .1 .2) (apart-ready (start .args .kind .now) _ (start .pre .1 .2) (start .pre .1 .3) (start .args .v) ((start .pre .1 .1) (omega (arith, (start .pre .1 .0), c .before .before .before .before .before .before .before .before .before .before .before .before .before .if2 .left))) _ (c .before .before .before .before .before .before .before .before .before .before .before .before .width .ensures) _ (c .before .before .before .before .before .before .before .before .before .before .end-code .ensures) _ _ (c .before .before .before .before .before .before .loop .inv)) (start .args .v) ((start .pre .1 .1) (omega (arith, (start .pre .1 .0), c .before .before .before .before .before .before .before .before .before .before .before .before .before .if2 .left))) _ (c .before .before .before .before .before .before .before .before .before .before .before .before .width .ensures) _ (c .before .before .action .ensures .0) (c .before .if4 .left) (c .if5 .left))
+check-sub-pad t c =
+    let start = c .before .before .before .before .before .before .before .before .before .before .before .before .before .before .before in
+    let if2-left = c .before .before .before .before .before .before .before .before .before .before .before .before .before .if2 .left in
+    let width-says = c .before .before .before .before .before .before .before .before .before .before .before .before .width .ensures in
+    omega (arith, draw-high (start .args .kind .now) _ (start .pre .1 .2) (apart-ready (start .args .kind .now) _ (start .pre .1 .2) (start .pre .1 .3) (start .args .v) ((start .pre .1 .1) (omega (arith, (start .pre .1 .0), if2-left))) _ (width-says) _ (c .before .before .before .before .before .before .before .before .before .before .end-code .ensures) _ _ (c .before .before .before .before .before .before .loop .inv)) (start .args .v) ((start .pre .1 .1) (omega (arith, (start .pre .1 .0), if2-left))) _ (width-says) _ (c .before .before .action .ensures .0) (c .before .if4 .left) (c .if5 .left))
 
 check-decide-line-right-requires : (t : ℕ) → check-lts.Need-decide-line-right-requires (check-claims t) (check-at t) check.Post check-Inv-loop check-μ-loop
-check-decide-line-right-requires t c κs = let start = c .before .before .before .before .before .before .before .before .before .before .before .before .before .before .before .before .before .before .before in ((omega (arith, start .pre .0, apart-fewer (start .args .kind .now) _ (start .pre .1 .2) (start .pre .1 .3) (start .args .v) ((start .pre .1 .1) (omega (arith, (start .pre .1 .0), c .before .before .before .before .before .before .before .before .before .before .before .before .before .before .before .before .before .if2 .left))) _ (c .before .before .before .before .before .before .before .before .before .before .before .before .before .before .before .before .width .ensures) _ (c .before .before .before .before .before .before .before .before .before .before .before .before .before .before .end-code .ensures) _ _ (c .before .before .before .before .before .before .before .before .before .before .loop .inv))), (draw-right (start .args .kind .now) _ (start .pre .1 .2) (apart-ready (start .args .kind .now) _ (start .pre .1 .2) (start .pre .1 .3) (start .args .v) ((start .pre .1 .1) (omega (arith, (start .pre .1 .0), c .before .before .before .before .before .before .before .before .before .before .before .before .before .before .before .before .before .if2 .left))) _ (c .before .before .before .before .before .before .before .before .before .before .before .before .before .before .before .before .width .ensures) _ (c .before .before .before .before .before .before .before .before .before .before .before .before .before .before .end-code .ensures) _ _ (c .before .before .before .before .before .before .before .before .before .before .loop .inv)) (start .args .v) ((start .pre .1 .1) (omega (arith, (start .pre .1 .0), c .before .before .before .before .before .before .before .before .before .before .before .before .before .before .before .before .before .if2 .left))) _ (c .before .before .before .before .before .before .before .before .before .before .before .before .before .before .before .before .width .ensures) _ (c .before .before .before .before .before .before .action .ensures .0) (c .before .before .before .before .before .if4 .left) (c .before .before .before .before .if5 .left) _ refl (c .before .before .before .if6 .taken), draw-small (start .args .kind .now) _ (start .pre .1 .2) (apart-ready (start .args .kind .now) _ (start .pre .1 .2) (start .pre .1 .3) (start .args .v) ((start .pre .1 .1) (omega (arith, (start .pre .1 .0), c .before .before .before .before .before .before .before .before .before .before .before .before .before .before .before .before .before .if2 .left))) _ (c .before .before .before .before .before .before .before .before .before .before .before .before .before .before .before .before .width .ensures) _ (c .before .before .before .before .before .before .before .before .before .before .before .before .before .before .end-code .ensures) _ _ (c .before .before .before .before .before .before .before .before .before .before .loop .inv)) (start .args .v) ((start .pre .1 .1) (omega (arith, (start .pre .1 .0), c .before .before .before .before .before .before .before .before .before .before .before .before .before .before .before .before .before .if2 .left))) _ (c .before .before .before .before .before .before .before .before .before .before .before .before .before .before .before .before .width .ensures) _ (c .before .before .before .before .before .before .action .ensures .0) (c .before .before .before .before .before .if4 .left) (c .before .before .before .before .if5 .left) _ refl, (start .pre .1 .2), apart-ready (start .args .kind .now) _ (start .pre .1 .2) (start .pre .1 .3) (start .args .v) ((start .pre .1 .1) (omega (arith, (start .pre .1 .0), c .before .before .before .before .before .before .before .before .before .before .before .before .before .before .before .before .before .if2 .left))) _ (c .before .before .before .before .before .before .before .before .before .before .before .before .before .before .before .before .width .ensures) _ (c .before .before .before .before .before .before .before .before .before .before .before .before .before .before .end-code .ensures) _ _ (c .before .before .before .before .before .before .before .before .before .before .loop .inv)))
+check-decide-line-right-requires t c κs =
+    let start = c .before .before .before .before .before .before .before .before .before .before .before .before .before .before .before .before .before .before .before in
+    let if2-left = c .before .before .before .before .before .before .before .before .before .before .before .before .before .before .before .before .before .if2 .left in
+    let width-says = c .before .before .before .before .before .before .before .before .before .before .before .before .before .before .before .before .width .ensures in
+    let end-code-says = c .before .before .before .before .before .before .before .before .before .before .before .before .before .before .end-code .ensures in
+    let loop-inv = c .before .before .before .before .before .before .before .before .before .before .loop .inv in
+    let action-says = c .before .before .before .before .before .before .action .ensures in
+    let if4-left = c .before .before .before .before .before .if4 .left in
+    let if5-left = c .before .before .before .before .if5 .left in
+    ((omega (arith, start .pre .0, apart-fewer (start .args .kind .now) _ (start .pre .1 .2) (start .pre .1 .3) (start .args .v) ((start .pre .1 .1) (omega (arith, (start .pre .1 .0), if2-left))) _ (width-says) _ (end-code-says) _ _ (loop-inv))), (draw-right (start .args .kind .now) _ (start .pre .1 .2) (apart-ready (start .args .kind .now) _ (start .pre .1 .2) (start .pre .1 .3) (start .args .v) ((start .pre .1 .1) (omega (arith, (start .pre .1 .0), if2-left))) _ (width-says) _ (end-code-says) _ _ (loop-inv)) (start .args .v) ((start .pre .1 .1) (omega (arith, (start .pre .1 .0), if2-left))) _ (width-says) _ (action-says .0) (if4-left) (if5-left) _ refl (c .before .before .before .if6 .taken), draw-small (start .args .kind .now) _ (start .pre .1 .2) (apart-ready (start .args .kind .now) _ (start .pre .1 .2) (start .pre .1 .3) (start .args .v) ((start .pre .1 .1) (omega (arith, (start .pre .1 .0), if2-left))) _ (width-says) _ (end-code-says) _ _ (loop-inv)) (start .args .v) ((start .pre .1 .1) (omega (arith, (start .pre .1 .0), if2-left))) _ (width-says) _ (action-says .0) (if4-left) (if5-left) _ refl, (start .pre .1 .2), apart-ready (start .args .kind .now) _ (start .pre .1 .2) (start .pre .1 .3) (start .args .v) ((start .pre .1 .1) (omega (arith, (start .pre .1 .0), if2-left))) _ (width-says) _ (end-code-says) _ _ (loop-inv)))
 
 check-returns-6 : (t : ℕ) → check-lts.Need-returns-6 (check-claims t) (check-at t) check.Post check-Inv-loop check-μ-loop
-check-returns-6 t c = let start = c .before .before .before .before .before .before .before .before .before .before .before .before .before .before .before .before .before .before .before .before in check-settles (grid-in (start .args .kind .now)) _ _ (start .args .v) (omega (arith, small-pad (start .args .kind .now) _ (start .pre .1 .2) (start .pre .1 .3) (start .args .v) ((start .pre .1 .1) (omega (arith, (start .pre .1 .0), c .before .before .before .before .before .before .before .before .before .before .before .before .before .before .before .before .before .before .if2 .left))))) (c .before .before .before .before .before .before .before .before .before .before .before .before .before .before .before .before .before .before .before .if1 .left) (apart-done (start .args .kind .now) _ (start .pre .1 .2) (start .pre .1 .3) (start .args .v) ((start .pre .1 .1) (omega (arith, (start .pre .1 .0), c .before .before .before .before .before .before .before .before .before .before .before .before .before .before .before .before .before .before .if2 .left))) _ (c .before .before .before .before .before .before .before .before .before .before .before .before .before .before .before .before .before .width .ensures) _ (c .before .before .before .before .before .before .before .before .before .before .before .before .before .before .before .end-code .ensures) _ _ (c .before .before .before .before .before .before .before .before .before .before .before .loop .inv) (λ low. absurd (omega (arith, c .before .before .before .before .before .before .before .before .before .before .loop-test .left)))) (c .before .before .before .before .before .before .before .before .before .if3 .left) _ (settle-draws-right (start .args .kind .now) _ (start .pre .1 .2) (apart-ready (start .args .kind .now) _ (start .pre .1 .2) (start .pre .1 .3) (start .args .v) ((start .pre .1 .1) (omega (arith, (start .pre .1 .0), c .before .before .before .before .before .before .before .before .before .before .before .before .before .before .before .before .before .before .if2 .left))) _ (c .before .before .before .before .before .before .before .before .before .before .before .before .before .before .before .before .before .width .ensures) _ (c .before .before .before .before .before .before .before .before .before .before .before .before .before .before .before .end-code .ensures) _ _ (c .before .before .before .before .before .before .before .before .before .before .before .loop .inv)) (start .args .v) ((start .pre .1 .1) (omega (arith, (start .pre .1 .0), c .before .before .before .before .before .before .before .before .before .before .before .before .before .before .before .before .before .before .if2 .left))) _ (c .before .before .before .before .before .before .before .before .before .before .before .before .before .before .before .before .before .width .ensures) _ (c .before .before .before .before .before .before .before .action .ensures .0) (c .before .before .before .before .before .before .if4 .left) (c .before .before .before .before .before .if5 .left) _ refl (c .before .before .before .before .if6 .taken) _ (c .decide-line-right .ensures))
+check-returns-6 t c =
+    let start = c .before .before .before .before .before .before .before .before .before .before .before .before .before .before .before .before .before .before .before .before in
+    let if2-left = c .before .before .before .before .before .before .before .before .before .before .before .before .before .before .before .before .before .before .if2 .left in
+    let width-says = c .before .before .before .before .before .before .before .before .before .before .before .before .before .before .before .before .before .width .ensures in
+    let end-code-says = c .before .before .before .before .before .before .before .before .before .before .before .before .before .before .before .end-code .ensures in
+    let loop-inv = c .before .before .before .before .before .before .before .before .before .before .before .loop .inv in
+    check-settles (grid-in (start .args .kind .now)) _ _ (start .args .v) (omega (arith, small-pad (start .args .kind .now) _ (start .pre .1 .2) (start .pre .1 .3) (start .args .v) ((start .pre .1 .1) (omega (arith, (start .pre .1 .0), if2-left))))) (c .before .before .before .before .before .before .before .before .before .before .before .before .before .before .before .before .before .before .before .if1 .left) (apart-done (start .args .kind .now) _ (start .pre .1 .2) (start .pre .1 .3) (start .args .v) ((start .pre .1 .1) (omega (arith, (start .pre .1 .0), if2-left))) _ (width-says) _ (end-code-says) _ _ (loop-inv) (λ low. absurd (omega (arith, c .before .before .before .before .before .before .before .before .before .before .loop-test .left)))) (c .before .before .before .before .before .before .before .before .before .if3 .left) _ (settle-draws-right (start .args .kind .now) _ (start .pre .1 .2) (apart-ready (start .args .kind .now) _ (start .pre .1 .2) (start .pre .1 .3) (start .args .v) ((start .pre .1 .1) (omega (arith, (start .pre .1 .0), if2-left))) _ (width-says) _ (end-code-says) _ _ (loop-inv)) (start .args .v) ((start .pre .1 .1) (omega (arith, (start .pre .1 .0), if2-left))) _ (width-says) _ (c .before .before .before .before .before .before .before .action .ensures .0) (c .before .before .before .before .before .before .if4 .left) (c .before .before .before .before .before .if5 .left) _ refl (c .before .before .before .before .if6 .taken) _ (c .decide-line-right .ensures))
 
 check-decide-line-down-requires : (t : ℕ) → check-lts.Need-decide-line-down-requires (check-claims t) (check-at t) check.Post check-Inv-loop check-μ-loop
-check-decide-line-down-requires t c κs = let start = c .before .before .before .before .before .before .before .before .before .before .before .before .before .before .before .before .before .before .before in ((omega (arith, start .pre .0, apart-fewer (start .args .kind .now) _ (start .pre .1 .2) (start .pre .1 .3) (start .args .v) ((start .pre .1 .1) (omega (arith, (start .pre .1 .0), c .before .before .before .before .before .before .before .before .before .before .before .before .before .before .before .before .before .if2 .left))) _ (c .before .before .before .before .before .before .before .before .before .before .before .before .before .before .before .before .width .ensures) _ (c .before .before .before .before .before .before .before .before .before .before .before .before .before .before .end-code .ensures) _ _ (c .before .before .before .before .before .before .before .before .before .before .loop .inv))), (draw-down (start .args .kind .now) _ (start .pre .1 .2) (apart-ready (start .args .kind .now) _ (start .pre .1 .2) (start .pre .1 .3) (start .args .v) ((start .pre .1 .1) (omega (arith, (start .pre .1 .0), c .before .before .before .before .before .before .before .before .before .before .before .before .before .before .before .before .before .if2 .left))) _ (c .before .before .before .before .before .before .before .before .before .before .before .before .before .before .before .before .width .ensures) _ (c .before .before .before .before .before .before .before .before .before .before .before .before .before .before .end-code .ensures) _ _ (c .before .before .before .before .before .before .before .before .before .before .loop .inv)) (start .args .v) ((start .pre .1 .1) (omega (arith, (start .pre .1 .0), c .before .before .before .before .before .before .before .before .before .before .before .before .before .before .before .before .before .if2 .left))) _ (c .before .before .before .before .before .before .before .before .before .before .before .before .before .before .before .before .width .ensures) _ (c .before .before .before .before .before .before .action .ensures .0) (c .before .before .before .before .before .if4 .left) (c .before .before .before .before .if5 .left) _ refl (c .before .before .before .if6 .left), draw-small (start .args .kind .now) _ (start .pre .1 .2) (apart-ready (start .args .kind .now) _ (start .pre .1 .2) (start .pre .1 .3) (start .args .v) ((start .pre .1 .1) (omega (arith, (start .pre .1 .0), c .before .before .before .before .before .before .before .before .before .before .before .before .before .before .before .before .before .if2 .left))) _ (c .before .before .before .before .before .before .before .before .before .before .before .before .before .before .before .before .width .ensures) _ (c .before .before .before .before .before .before .before .before .before .before .before .before .before .before .end-code .ensures) _ _ (c .before .before .before .before .before .before .before .before .before .before .loop .inv)) (start .args .v) ((start .pre .1 .1) (omega (arith, (start .pre .1 .0), c .before .before .before .before .before .before .before .before .before .before .before .before .before .before .before .before .before .if2 .left))) _ (c .before .before .before .before .before .before .before .before .before .before .before .before .before .before .before .before .width .ensures) _ (c .before .before .before .before .before .before .action .ensures .0) (c .before .before .before .before .before .if4 .left) (c .before .before .before .before .if5 .left) _ refl, (start .pre .1 .2), apart-ready (start .args .kind .now) _ (start .pre .1 .2) (start .pre .1 .3) (start .args .v) ((start .pre .1 .1) (omega (arith, (start .pre .1 .0), c .before .before .before .before .before .before .before .before .before .before .before .before .before .before .before .before .before .if2 .left))) _ (c .before .before .before .before .before .before .before .before .before .before .before .before .before .before .before .before .width .ensures) _ (c .before .before .before .before .before .before .before .before .before .before .before .before .before .before .end-code .ensures) _ _ (c .before .before .before .before .before .before .before .before .before .before .loop .inv)))
+check-decide-line-down-requires t c κs =
+    let start = c .before .before .before .before .before .before .before .before .before .before .before .before .before .before .before .before .before .before .before in
+    let if2-left = c .before .before .before .before .before .before .before .before .before .before .before .before .before .before .before .before .before .if2 .left in
+    let width-says = c .before .before .before .before .before .before .before .before .before .before .before .before .before .before .before .before .width .ensures in
+    let end-code-says = c .before .before .before .before .before .before .before .before .before .before .before .before .before .before .end-code .ensures in
+    let loop-inv = c .before .before .before .before .before .before .before .before .before .before .loop .inv in
+    let action-says = c .before .before .before .before .before .before .action .ensures in
+    let if4-left = c .before .before .before .before .before .if4 .left in
+    let if5-left = c .before .before .before .before .if5 .left in
+    ((omega (arith, start .pre .0, apart-fewer (start .args .kind .now) _ (start .pre .1 .2) (start .pre .1 .3) (start .args .v) ((start .pre .1 .1) (omega (arith, (start .pre .1 .0), if2-left))) _ (width-says) _ (end-code-says) _ _ (loop-inv))), (draw-down (start .args .kind .now) _ (start .pre .1 .2) (apart-ready (start .args .kind .now) _ (start .pre .1 .2) (start .pre .1 .3) (start .args .v) ((start .pre .1 .1) (omega (arith, (start .pre .1 .0), if2-left))) _ (width-says) _ (end-code-says) _ _ (loop-inv)) (start .args .v) ((start .pre .1 .1) (omega (arith, (start .pre .1 .0), if2-left))) _ (width-says) _ (action-says .0) (if4-left) (if5-left) _ refl (c .before .before .before .if6 .left), draw-small (start .args .kind .now) _ (start .pre .1 .2) (apart-ready (start .args .kind .now) _ (start .pre .1 .2) (start .pre .1 .3) (start .args .v) ((start .pre .1 .1) (omega (arith, (start .pre .1 .0), if2-left))) _ (width-says) _ (end-code-says) _ _ (loop-inv)) (start .args .v) ((start .pre .1 .1) (omega (arith, (start .pre .1 .0), if2-left))) _ (width-says) _ (action-says .0) (if4-left) (if5-left) _ refl, (start .pre .1 .2), apart-ready (start .args .kind .now) _ (start .pre .1 .2) (start .pre .1 .3) (start .args .v) ((start .pre .1 .1) (omega (arith, (start .pre .1 .0), if2-left))) _ (width-says) _ (end-code-says) _ _ (loop-inv)))
 
 check-returns-7 : (t : ℕ) → check-lts.Need-returns-7 (check-claims t) (check-at t) check.Post check-Inv-loop check-μ-loop
-check-returns-7 t c = let start = c .before .before .before .before .before .before .before .before .before .before .before .before .before .before .before .before .before .before .before .before in check-settles (grid-in (start .args .kind .now)) _ _ (start .args .v) (omega (arith, small-pad (start .args .kind .now) _ (start .pre .1 .2) (start .pre .1 .3) (start .args .v) ((start .pre .1 .1) (omega (arith, (start .pre .1 .0), c .before .before .before .before .before .before .before .before .before .before .before .before .before .before .before .before .before .before .if2 .left))))) (c .before .before .before .before .before .before .before .before .before .before .before .before .before .before .before .before .before .before .before .if1 .left) (apart-done (start .args .kind .now) _ (start .pre .1 .2) (start .pre .1 .3) (start .args .v) ((start .pre .1 .1) (omega (arith, (start .pre .1 .0), c .before .before .before .before .before .before .before .before .before .before .before .before .before .before .before .before .before .before .if2 .left))) _ (c .before .before .before .before .before .before .before .before .before .before .before .before .before .before .before .before .before .width .ensures) _ (c .before .before .before .before .before .before .before .before .before .before .before .before .before .before .before .end-code .ensures) _ _ (c .before .before .before .before .before .before .before .before .before .before .before .loop .inv) (λ low. absurd (omega (arith, c .before .before .before .before .before .before .before .before .before .before .loop-test .left)))) (c .before .before .before .before .before .before .before .before .before .if3 .left) _ (settle-draws-down (start .args .kind .now) _ (start .pre .1 .2) (apart-ready (start .args .kind .now) _ (start .pre .1 .2) (start .pre .1 .3) (start .args .v) ((start .pre .1 .1) (omega (arith, (start .pre .1 .0), c .before .before .before .before .before .before .before .before .before .before .before .before .before .before .before .before .before .before .if2 .left))) _ (c .before .before .before .before .before .before .before .before .before .before .before .before .before .before .before .before .before .width .ensures) _ (c .before .before .before .before .before .before .before .before .before .before .before .before .before .before .before .end-code .ensures) _ _ (c .before .before .before .before .before .before .before .before .before .before .before .loop .inv)) (start .args .v) ((start .pre .1 .1) (omega (arith, (start .pre .1 .0), c .before .before .before .before .before .before .before .before .before .before .before .before .before .before .before .before .before .before .if2 .left))) _ (c .before .before .before .before .before .before .before .before .before .before .before .before .before .before .before .before .before .width .ensures) _ (c .before .before .before .before .before .before .before .action .ensures .0) (c .before .before .before .before .before .before .if4 .left) (c .before .before .before .before .before .if5 .left) _ refl (c .before .before .before .before .if6 .left) _ (c .decide-line-down .ensures))
+check-returns-7 t c =
+    let start = c .before .before .before .before .before .before .before .before .before .before .before .before .before .before .before .before .before .before .before .before in
+    let if2-left = c .before .before .before .before .before .before .before .before .before .before .before .before .before .before .before .before .before .before .if2 .left in
+    let width-says = c .before .before .before .before .before .before .before .before .before .before .before .before .before .before .before .before .before .width .ensures in
+    let end-code-says = c .before .before .before .before .before .before .before .before .before .before .before .before .before .before .before .end-code .ensures in
+    let loop-inv = c .before .before .before .before .before .before .before .before .before .before .before .loop .inv in
+    check-settles (grid-in (start .args .kind .now)) _ _ (start .args .v) (omega (arith, small-pad (start .args .kind .now) _ (start .pre .1 .2) (start .pre .1 .3) (start .args .v) ((start .pre .1 .1) (omega (arith, (start .pre .1 .0), if2-left))))) (c .before .before .before .before .before .before .before .before .before .before .before .before .before .before .before .before .before .before .before .if1 .left) (apart-done (start .args .kind .now) _ (start .pre .1 .2) (start .pre .1 .3) (start .args .v) ((start .pre .1 .1) (omega (arith, (start .pre .1 .0), if2-left))) _ (width-says) _ (end-code-says) _ _ (loop-inv) (λ low. absurd (omega (arith, c .before .before .before .before .before .before .before .before .before .before .loop-test .left)))) (c .before .before .before .before .before .before .before .before .before .if3 .left) _ (settle-draws-down (start .args .kind .now) _ (start .pre .1 .2) (apart-ready (start .args .kind .now) _ (start .pre .1 .2) (start .pre .1 .3) (start .args .v) ((start .pre .1 .1) (omega (arith, (start .pre .1 .0), if2-left))) _ (width-says) _ (end-code-says) _ _ (loop-inv)) (start .args .v) ((start .pre .1 .1) (omega (arith, (start .pre .1 .0), if2-left))) _ (width-says) _ (c .before .before .before .before .before .before .before .action .ensures .0) (c .before .before .before .before .before .before .if4 .left) (c .before .before .before .before .before .if5 .left) _ refl (c .before .before .before .before .if6 .left) _ (c .decide-line-down .ensures))
 
 corner-left-returns : (t : ℕ) → corner-left-lts.Need-returns (corner-left-claims t) (corner-left-at t) corner-left.Post
 corner-left-returns t c = done-ended (grid-in (c .before .args .kind .now)) 1 _ _ (c .before .pre .1 .4) (c .if1 .taken)
@@ -309,25 +389,37 @@ corner-left-sub-decide-line-right : (t : ℕ) → corner-left-lts.Need-sub-decid
 corner-left-sub-decide-line-right t c = let start = c .before .before .before .before .before .before .before .before .before .before in omega (arith, corner-not-first (start .args .kind .now) (start .pre .1 .3) (start .args .q) ((start .pre .1 .2) (slot-is-on (grid-in (start .args .kind .now)) _ (start .pre .1 .4) (start .args .a) (start .pre .1 .0) (omega (arith, c .before .before .before .before .before .before .before .if2 .left)))) _ (c .before .before .before .before .has2 .ensures) (c .before .before .before .if4 .taken))
 
 corner-left-decide-line-right-requires : (t : ℕ) → corner-left-lts.Need-decide-line-right-requires (corner-left-claims t) (corner-left-at t) corner-left.Post
-corner-left-decide-line-right-requires t c κs = let start = c .before .before .before .before .before .before .before .before .before .before in ((omega (arith, start .pre .0)), (corner-line-left (start .args .kind .now) (start .pre .1 .3) (start .args .q) ((start .pre .1 .2) (slot-is-on (grid-in (start .args .kind .now)) _ (start .pre .1 .4) (start .args .a) (start .pre .1 .0) (omega (arith, c .before .before .before .before .before .before .before .if2 .left)))) _ (c .before .before .before .before .has2 .ensures) (c .before .before .before .if4 .taken), (omega (arith, ((start .pre .1 .2) (slot-is-on (grid-in (start .args .kind .now)) _ (start .pre .1 .4) (start .args .a) (start .pre .1 .0) (omega (arith, c .before .before .before .before .before .before .before .if2 .left)))), (start .pre .1 .4) .few-pads)), (start .pre .1 .3), (start .pre .1 .4)))
+corner-left-decide-line-right-requires t c κs =
+    let start = c .before .before .before .before .before .before .before .before .before .before in
+    let if2-left = c .before .before .before .before .before .before .before .if2 .left in
+    ((omega (arith, start .pre .0)), (corner-line-left (start .args .kind .now) (start .pre .1 .3) (start .args .q) ((start .pre .1 .2) (slot-is-on (grid-in (start .args .kind .now)) _ (start .pre .1 .4) (start .args .a) (start .pre .1 .0) (omega (arith, if2-left)))) _ (c .before .before .before .before .has2 .ensures) (c .before .before .before .if4 .taken), (omega (arith, ((start .pre .1 .2) (slot-is-on (grid-in (start .args .kind .now)) _ (start .pre .1 .4) (start .args .a) (start .pre .1 .0) (omega (arith, if2-left)))), (start .pre .1 .4) .few-pads)), (start .pre .1 .3), (start .pre .1 .4)))
 
 corner-left-go-on-requires : (t : ℕ) → corner-left-lts.Need-go-on-requires (corner-left-claims t) (corner-left-at t) corner-left.Post
 corner-left-go-on-requires t c κs = search needs
 
 corner-left-decide-line-down-requires : (t : ℕ) → corner-left-lts.Need-decide-line-down-requires (corner-left-claims t) (corner-left-at t) corner-left.Post
-corner-left-decide-line-down-requires t c κs = let start = c .before .before .before .before .before .before .before .before .before .before .before .before .before .before .before in let d = c .before .before .before .before .decide-line-right .ensures in ((omega (arith, start .pre .0, d .fewer)), (corner-down (start .args .kind .now) (start .pre .1 .3) (start .args .q) ((start .pre .1 .2) (slot-is-on (grid-in (start .args .kind .now)) _ (start .pre .1 .4) (start .args .a) (start .pre .1 .0) (omega (arith, c .before .before .before .before .before .before .before .before .before .before .before .before .if2 .left)))) _ on-left (c .before .before .before .before .before .before .before .before .before .has2 .ensures) (c .before .before .before .before .before .before .before .before .if4 .taken), (omega (arith, ((start .pre .1 .2) (slot-is-on (grid-in (start .args .kind .now)) _ (start .pre .1 .4) (start .args .a) (start .pre .1 .0) (omega (arith, c .before .before .before .before .before .before .before .before .before .before .before .before .if2 .left)))), (start .pre .1 .4) .few-pads)), (start .pre .1 .3), rw (c .go-on .ensures) (recount-decided d)))
+corner-left-decide-line-down-requires t c κs =
+    let start = c .before .before .before .before .before .before .before .before .before .before .before .before .before .before .before in
+    let if2-left = c .before .before .before .before .before .before .before .before .before .before .before .before .if2 .left in
+    let d = c .before .before .before .before .decide-line-right .ensures in ((omega (arith, start .pre .0, d .fewer)), (corner-down (start .args .kind .now) (start .pre .1 .3) (start .args .q) ((start .pre .1 .2) (slot-is-on (grid-in (start .args .kind .now)) _ (start .pre .1 .4) (start .args .a) (start .pre .1 .0) (omega (arith, if2-left)))) _ on-left (c .before .before .before .before .before .before .before .before .before .has2 .ensures) (c .before .before .before .before .before .before .before .before .if4 .taken), (omega (arith, ((start .pre .1 .2) (slot-is-on (grid-in (start .args .kind .now)) _ (start .pre .1 .4) (start .args .a) (start .pre .1 .0) (omega (arith, if2-left)))), (start .pre .1 .4) .few-pads)), (start .pre .1 .3), rw (c .go-on .ensures) (recount-decided d)))
 
 corner-left-go-on-requires-2 : (t : ℕ) → corner-left-lts.Need-go-on-requires-2 (corner-left-claims t) (corner-left-at t) corner-left.Post
 corner-left-go-on-requires-2 t c κs = search needs
 
 corner-left-returns-4 : (t : ℕ) → corner-left-lts.Need-returns-4 (corner-left-claims t) (corner-left-at t) corner-left.Post
-corner-left-returns-4 t c = let start = c .before .before .before .before .before .before .before .before .before .before .before .before .before .before .before .before .before in rw (c .go-on2 .ensures) (corner-lines (start .args .kind .now) on-left _ (start .pre .1 .4) (start .args .q) (start .args .a) (start .pre .1 .0) (c .before .before .before .before .before .before .before .before .before .before .before .before .before .before .before .before .if1 .left) (c .before .before .before .before .before .before .before .before .before .before .before .before .before .before .if2 .left) (omega (arith, ((start .pre .1 .2) (slot-is-on (grid-in (start .args .kind .now)) _ (start .pre .1 .4) (start .args .a) (start .pre .1 .0) (omega (arith, c .before .before .before .before .before .before .before .before .before .before .before .before .before .before .if2 .left)))), (start .pre .1 .4) .few-pads)) (sym (c .before .before .before .before .before .before .before .before .before .before .before .before .before .has .ensures) ∙ c .before .before .before .before .before .before .before .before .before .before .before .before .if3 .left) (corner-exists (start .args .kind .now) (start .pre .1 .3) (start .args .q) ((start .pre .1 .2) (slot-is-on (grid-in (start .args .kind .now)) _ (start .pre .1 .4) (start .args .a) (start .pre .1 .0) (omega (arith, c .before .before .before .before .before .before .before .before .before .before .before .before .before .before .if2 .left)))) _ on-left (c .before .before .before .before .before .before .before .before .before .before .before .has2 .ensures) ∙ (c .before .before .before .before .before .before .before .before .before .before .if4 .taken)) _ _ (c .before .before .before .before .before .before .decide-line-right .ensures) (rw (c .before .before .go-on .ensures) at (c .before .decide-line-down .ensures)))
+corner-left-returns-4 t c =
+    let start = c .before .before .before .before .before .before .before .before .before .before .before .before .before .before .before .before .before in
+    let if2-left = c .before .before .before .before .before .before .before .before .before .before .before .before .before .before .if2 .left in
+    rw (c .go-on2 .ensures) (corner-lines (start .args .kind .now) on-left _ (start .pre .1 .4) (start .args .q) (start .args .a) (start .pre .1 .0) (c .before .before .before .before .before .before .before .before .before .before .before .before .before .before .before .before .if1 .left) (if2-left) (omega (arith, ((start .pre .1 .2) (slot-is-on (grid-in (start .args .kind .now)) _ (start .pre .1 .4) (start .args .a) (start .pre .1 .0) (omega (arith, if2-left)))), (start .pre .1 .4) .few-pads)) (sym (c .before .before .before .before .before .before .before .before .before .before .before .before .before .has .ensures) ∙ c .before .before .before .before .before .before .before .before .before .before .before .before .if3 .left) (corner-exists (start .args .kind .now) (start .pre .1 .3) (start .args .q) ((start .pre .1 .2) (slot-is-on (grid-in (start .args .kind .now)) _ (start .pre .1 .4) (start .args .a) (start .pre .1 .0) (omega (arith, if2-left)))) _ on-left (c .before .before .before .before .before .before .before .before .before .before .before .has2 .ensures) ∙ (c .before .before .before .before .before .before .before .before .before .before .if4 .taken)) _ _ (c .before .before .before .before .before .before .decide-line-right .ensures) (rw (c .before .before .go-on .ensures) at (c .before .decide-line-down .ensures)))
 
 corner-left-stop-requires : (t : ℕ) → corner-left-lts.Need-stop-requires (corner-left-claims t) (corner-left-at t) corner-left.Post
 corner-left-stop-requires t c κs = search needs
 
 corner-left-returns-5 : (t : ℕ) → corner-left-lts.Need-returns-5 (corner-left-claims t) (corner-left-at t) corner-left.Post
-corner-left-returns-5 t c = let start = c .before .before .before .before .before .before .before .before in rw (c .stop .ensures) (corner-ends (start .args .kind .now) on-left _ (start .pre .1 .4) (start .args .q) (start .args .a) (start .pre .1 .0) (c .before .before .before .before .before .before .before .if1 .left) (c .before .before .before .before .before .if2 .left) (omega (arith, ((start .pre .1 .2) (slot-is-on (grid-in (start .args .kind .now)) _ (start .pre .1 .4) (start .args .a) (start .pre .1 .0) (omega (arith, c .before .before .before .before .before .if2 .left)))), (start .pre .1 .4) .few-pads)) (sym (c .before .before .before .before .has .ensures) ∙ c .before .before .before .if3 .left) (corner-exists (start .args .kind .now) (start .pre .1 .3) (start .args .q) ((start .pre .1 .2) (slot-is-on (grid-in (start .args .kind .now)) _ (start .pre .1 .4) (start .args .a) (start .pre .1 .0) (omega (arith, c .before .before .before .before .before .if2 .left)))) _ on-left (c .before .before .has2 .ensures) ∙ c .before .if4 .left))
+corner-left-returns-5 t c =
+    let start = c .before .before .before .before .before .before .before .before in
+    let if2-left = c .before .before .before .before .before .if2 .left in
+    rw (c .stop .ensures) (corner-ends (start .args .kind .now) on-left _ (start .pre .1 .4) (start .args .q) (start .args .a) (start .pre .1 .0) (c .before .before .before .before .before .before .before .if1 .left) (if2-left) (omega (arith, ((start .pre .1 .2) (slot-is-on (grid-in (start .args .kind .now)) _ (start .pre .1 .4) (start .args .a) (start .pre .1 .0) (omega (arith, if2-left)))), (start .pre .1 .4) .few-pads)) (sym (c .before .before .before .before .has .ensures) ∙ c .before .before .before .if3 .left) (corner-exists (start .args .kind .now) (start .pre .1 .3) (start .args .q) ((start .pre .1 .2) (slot-is-on (grid-in (start .args .kind .now)) _ (start .pre .1 .4) (start .args .a) (start .pre .1 .0) (omega (arith, if2-left)))) _ on-left (c .before .before .has2 .ensures) ∙ c .before .if4 .left))
 
 corner-right-returns : (t : ℕ) → corner-right-lts.Need-returns (corner-right-claims t) (corner-right-at t) corner-right.Post
 corner-right-returns t c = done-ended (grid-in (c .before .args .kind .now)) 1 _ _ (c .before .pre .1 .4) (c .if1 .taken)
@@ -348,25 +440,37 @@ corner-right-has-requires-2 : (t : ℕ) → corner-right-lts.Need-has-requires-2
 corner-right-has-requires-2 t c κs = (omega (arith, (c .before .before .before .before .before .pre .1 .1)))
 
 corner-right-decide-line-right-requires : (t : ℕ) → corner-right-lts.Need-decide-line-right-requires (corner-right-claims t) (corner-right-at t) corner-right.Post
-corner-right-decide-line-right-requires t c κs = let start = c .before .before .before .before .before .before .before .before .before .before in ((omega (arith, start .pre .0)), (corner-line-right (start .args .kind .now) (start .pre .1 .3) (start .args .q) ((start .pre .1 .2) (slot-is-on (grid-in (start .args .kind .now)) _ (start .pre .1 .4) (start .args .a) (start .pre .1 .0) (omega (arith, c .before .before .before .before .before .before .before .if2 .left)))) _ (c .before .before .before .before .has2 .ensures) (c .before .before .before .if4 .taken), (omega (arith, ((start .pre .1 .2) (slot-is-on (grid-in (start .args .kind .now)) _ (start .pre .1 .4) (start .args .a) (start .pre .1 .0) (omega (arith, c .before .before .before .before .before .before .before .if2 .left)))), (start .pre .1 .4) .few-pads)), (start .pre .1 .3), (start .pre .1 .4)))
+corner-right-decide-line-right-requires t c κs =
+    let start = c .before .before .before .before .before .before .before .before .before .before in
+    let if2-left = c .before .before .before .before .before .before .before .if2 .left in
+    ((omega (arith, start .pre .0)), (corner-line-right (start .args .kind .now) (start .pre .1 .3) (start .args .q) ((start .pre .1 .2) (slot-is-on (grid-in (start .args .kind .now)) _ (start .pre .1 .4) (start .args .a) (start .pre .1 .0) (omega (arith, if2-left)))) _ (c .before .before .before .before .has2 .ensures) (c .before .before .before .if4 .taken), (omega (arith, ((start .pre .1 .2) (slot-is-on (grid-in (start .args .kind .now)) _ (start .pre .1 .4) (start .args .a) (start .pre .1 .0) (omega (arith, if2-left)))), (start .pre .1 .4) .few-pads)), (start .pre .1 .3), (start .pre .1 .4)))
 
 corner-right-go-on-requires : (t : ℕ) → corner-right-lts.Need-go-on-requires (corner-right-claims t) (corner-right-at t) corner-right.Post
 corner-right-go-on-requires t c κs = search needs
 
 corner-right-decide-line-down-requires : (t : ℕ) → corner-right-lts.Need-decide-line-down-requires (corner-right-claims t) (corner-right-at t) corner-right.Post
-corner-right-decide-line-down-requires t c κs = let start = c .before .before .before .before .before .before .before .before .before .before .before .before .before .before .before in let d = c .before .before .before .before .decide-line-right .ensures in ((omega (arith, start .pre .0, d .fewer)), (corner-down (start .args .kind .now) (start .pre .1 .3) (start .args .q) ((start .pre .1 .2) (slot-is-on (grid-in (start .args .kind .now)) _ (start .pre .1 .4) (start .args .a) (start .pre .1 .0) (omega (arith, c .before .before .before .before .before .before .before .before .before .before .before .before .if2 .left)))) _ on-right (c .before .before .before .before .before .before .before .before .before .has2 .ensures) (c .before .before .before .before .before .before .before .before .if4 .taken), (omega (arith, ((start .pre .1 .2) (slot-is-on (grid-in (start .args .kind .now)) _ (start .pre .1 .4) (start .args .a) (start .pre .1 .0) (omega (arith, c .before .before .before .before .before .before .before .before .before .before .before .before .if2 .left)))), (start .pre .1 .4) .few-pads)), (start .pre .1 .3), rw (c .go-on .ensures) (recount-decided d)))
+corner-right-decide-line-down-requires t c κs =
+    let start = c .before .before .before .before .before .before .before .before .before .before .before .before .before .before .before in
+    let if2-left = c .before .before .before .before .before .before .before .before .before .before .before .before .if2 .left in
+    let d = c .before .before .before .before .decide-line-right .ensures in ((omega (arith, start .pre .0, d .fewer)), (corner-down (start .args .kind .now) (start .pre .1 .3) (start .args .q) ((start .pre .1 .2) (slot-is-on (grid-in (start .args .kind .now)) _ (start .pre .1 .4) (start .args .a) (start .pre .1 .0) (omega (arith, if2-left)))) _ on-right (c .before .before .before .before .before .before .before .before .before .has2 .ensures) (c .before .before .before .before .before .before .before .before .if4 .taken), (omega (arith, ((start .pre .1 .2) (slot-is-on (grid-in (start .args .kind .now)) _ (start .pre .1 .4) (start .args .a) (start .pre .1 .0) (omega (arith, if2-left)))), (start .pre .1 .4) .few-pads)), (start .pre .1 .3), rw (c .go-on .ensures) (recount-decided d)))
 
 corner-right-go-on-requires-2 : (t : ℕ) → corner-right-lts.Need-go-on-requires-2 (corner-right-claims t) (corner-right-at t) corner-right.Post
 corner-right-go-on-requires-2 t c κs = search needs
 
 corner-right-returns-4 : (t : ℕ) → corner-right-lts.Need-returns-4 (corner-right-claims t) (corner-right-at t) corner-right.Post
-corner-right-returns-4 t c = let start = c .before .before .before .before .before .before .before .before .before .before .before .before .before .before .before .before .before in rw (c .go-on2 .ensures) (corner-lines (start .args .kind .now) on-right _ (start .pre .1 .4) (start .args .q) (start .args .a) (start .pre .1 .0) (c .before .before .before .before .before .before .before .before .before .before .before .before .before .before .before .before .if1 .left) (c .before .before .before .before .before .before .before .before .before .before .before .before .before .before .if2 .left) (omega (arith, ((start .pre .1 .2) (slot-is-on (grid-in (start .args .kind .now)) _ (start .pre .1 .4) (start .args .a) (start .pre .1 .0) (omega (arith, c .before .before .before .before .before .before .before .before .before .before .before .before .before .before .if2 .left)))), (start .pre .1 .4) .few-pads)) (sym (c .before .before .before .before .before .before .before .before .before .before .before .before .before .has .ensures) ∙ c .before .before .before .before .before .before .before .before .before .before .before .before .if3 .left) (corner-exists (start .args .kind .now) (start .pre .1 .3) (start .args .q) ((start .pre .1 .2) (slot-is-on (grid-in (start .args .kind .now)) _ (start .pre .1 .4) (start .args .a) (start .pre .1 .0) (omega (arith, c .before .before .before .before .before .before .before .before .before .before .before .before .before .before .if2 .left)))) _ on-right (c .before .before .before .before .before .before .before .before .before .before .before .has2 .ensures) ∙ (c .before .before .before .before .before .before .before .before .before .before .if4 .taken)) _ _ (c .before .before .before .before .before .before .decide-line-right .ensures) (rw (c .before .before .go-on .ensures) at (c .before .decide-line-down .ensures)))
+corner-right-returns-4 t c =
+    let start = c .before .before .before .before .before .before .before .before .before .before .before .before .before .before .before .before .before in
+    let if2-left = c .before .before .before .before .before .before .before .before .before .before .before .before .before .before .if2 .left in
+    rw (c .go-on2 .ensures) (corner-lines (start .args .kind .now) on-right _ (start .pre .1 .4) (start .args .q) (start .args .a) (start .pre .1 .0) (c .before .before .before .before .before .before .before .before .before .before .before .before .before .before .before .before .if1 .left) (if2-left) (omega (arith, ((start .pre .1 .2) (slot-is-on (grid-in (start .args .kind .now)) _ (start .pre .1 .4) (start .args .a) (start .pre .1 .0) (omega (arith, if2-left)))), (start .pre .1 .4) .few-pads)) (sym (c .before .before .before .before .before .before .before .before .before .before .before .before .before .has .ensures) ∙ c .before .before .before .before .before .before .before .before .before .before .before .before .if3 .left) (corner-exists (start .args .kind .now) (start .pre .1 .3) (start .args .q) ((start .pre .1 .2) (slot-is-on (grid-in (start .args .kind .now)) _ (start .pre .1 .4) (start .args .a) (start .pre .1 .0) (omega (arith, if2-left)))) _ on-right (c .before .before .before .before .before .before .before .before .before .before .before .has2 .ensures) ∙ (c .before .before .before .before .before .before .before .before .before .before .if4 .taken)) _ _ (c .before .before .before .before .before .before .decide-line-right .ensures) (rw (c .before .before .go-on .ensures) at (c .before .decide-line-down .ensures)))
 
 corner-right-stop-requires : (t : ℕ) → corner-right-lts.Need-stop-requires (corner-right-claims t) (corner-right-at t) corner-right.Post
 corner-right-stop-requires t c κs = search needs
 
 corner-right-returns-5 : (t : ℕ) → corner-right-lts.Need-returns-5 (corner-right-claims t) (corner-right-at t) corner-right.Post
-corner-right-returns-5 t c = let start = c .before .before .before .before .before .before .before .before in rw (c .stop .ensures) (corner-ends (start .args .kind .now) on-right _ (start .pre .1 .4) (start .args .q) (start .args .a) (start .pre .1 .0) (c .before .before .before .before .before .before .before .if1 .left) (c .before .before .before .before .before .if2 .left) (omega (arith, ((start .pre .1 .2) (slot-is-on (grid-in (start .args .kind .now)) _ (start .pre .1 .4) (start .args .a) (start .pre .1 .0) (omega (arith, c .before .before .before .before .before .if2 .left)))), (start .pre .1 .4) .few-pads)) (sym (c .before .before .before .before .has .ensures) ∙ c .before .before .before .if3 .left) (corner-exists (start .args .kind .now) (start .pre .1 .3) (start .args .q) ((start .pre .1 .2) (slot-is-on (grid-in (start .args .kind .now)) _ (start .pre .1 .4) (start .args .a) (start .pre .1 .0) (omega (arith, c .before .before .before .before .before .if2 .left)))) _ on-right (c .before .before .has2 .ensures) ∙ c .before .if4 .left))
+corner-right-returns-5 t c =
+    let start = c .before .before .before .before .before .before .before .before in
+    let if2-left = c .before .before .before .before .before .if2 .left in
+    rw (c .stop .ensures) (corner-ends (start .args .kind .now) on-right _ (start .pre .1 .4) (start .args .q) (start .args .a) (start .pre .1 .0) (c .before .before .before .before .before .before .before .if1 .left) (if2-left) (omega (arith, ((start .pre .1 .2) (slot-is-on (grid-in (start .args .kind .now)) _ (start .pre .1 .4) (start .args .a) (start .pre .1 .0) (omega (arith, if2-left)))), (start .pre .1 .4) .few-pads)) (sym (c .before .before .before .before .has .ensures) ∙ c .before .before .before .if3 .left) (corner-exists (start .args .kind .now) (start .pre .1 .3) (start .args .q) ((start .pre .1 .2) (slot-is-on (grid-in (start .args .kind .now)) _ (start .pre .1 .4) (start .args .a) (start .pre .1 .0) (omega (arith, if2-left)))) _ on-right (c .before .before .has2 .ensures) ∙ c .before .if4 .left))
 
 decide-line-down-mul-slot : (t : ℕ) → decide-line-down-lts.Need-mul-slot (decide-line-down-claims t) (decide-line-down-at t) decide-line-down.Post
 decide-line-down-mul-slot t c = omega (arith, (c .pre .1 .1), (c .pre .1 .2) .largest-width, (c .pre .1 .2) .least-width)
@@ -456,58 +560,128 @@ decide-line-down-end-pad-requires-2 : (t : ℕ) → decide-line-down-lts.Need-en
 decide-line-down-end-pad-requires-2 t c κs = let start = c .before .before .before .before .before .before .before .before in ((omega (arith, line-second (start .args .kind .now) _ (down (start .args .v)) (start .pre .1 .2) (start .pre .1 .3) (start .pre .1 .0) (c .before .before .before .before .before .before .if1 .taken) _ (ap (_+_ (start .args .v)) (c .before .before .before .before .before .width .ensures)), (start .pre .1 .3) .few-pads)), ((start .pre .1 .3) .ends-long))
 
 decide-line-down-begin-line-requires : (t : ℕ) → decide-line-down-lts.Need-begin-line-requires (decide-line-down-claims t) (decide-line-down-at t) decide-line-down.Post
-decide-line-down-begin-line-requires t c κs = let start = c .before .before .before .before .before .before .before .before .before .before .before .before in (omega (arith, (start .pre .1 .1)), omega (arith, (start .pre .1 .1)), (omega (arith, line-second (start .args .kind .now) _ (down (start .args .v)) (start .pre .1 .2) (start .pre .1 .3) (start .pre .1 .0) (c .before .before .before .before .before .before .before .before .before .before .if1 .taken) _ (ap (_+_ (start .args .v)) (c .before .before .before .before .before .before .before .before .before .width .ensures)), (start .pre .1 .3) .few-pads)), (start .pre .1 .3) .mode, line-room (start .args .kind .now) _ (down (start .args .v)) (start .pre .1 .2) (start .pre .1 .3) (start .pre .1 .0) (c .before .before .before .before .before .before .before .before .before .before .if1 .taken) _ (ap (_+_ (start .args .v)) (c .before .before .before .before .before .before .before .before .before .width .ensures)), (start .pre .1 .3) .ends-long)
+decide-line-down-begin-line-requires t c κs =
+    let start = c .before .before .before .before .before .before .before .before .before .before .before .before in
+    let if1-taken = c .before .before .before .before .before .before .before .before .before .before .if1 .taken in
+    let width-says = c .before .before .before .before .before .before .before .before .before .width .ensures in
+    (omega (arith, (start .pre .1 .1)), omega (arith, (start .pre .1 .1)), (omega (arith, line-second (start .args .kind .now) _ (down (start .args .v)) (start .pre .1 .2) (start .pre .1 .3) (start .pre .1 .0) (if1-taken) _ (ap (_+_ (start .args .v)) (width-says)), (start .pre .1 .3) .few-pads)), (start .pre .1 .3) .mode, line-room (start .args .kind .now) _ (down (start .args .v)) (start .pre .1 .2) (start .pre .1 .3) (start .pre .1 .0) (if1-taken) _ (ap (_+_ (start .args .v)) (width-says)), (start .pre .1 .3) .ends-long)
 
 decide-line-down-returns : (t : ℕ) → decide-line-down-lts.Need-returns (decide-line-down-claims t) (decide-line-down-at t) decide-line-down.Post
 decide-line-down-returns t c = let start = c .before .before .before .before .before .before .before .before .before .before .before .before .before .before in line-stops (start .args .kind .now) _ (down (start .args .v)) (start .pre .1 .2) (start .pre .1 .3) (start .pre .1 .0) (c .before .before .before .before .before .before .before .before .before .before .before .before .if1 .taken) _ (ap (_+_ (start .args .v)) (c .before .before .before .before .before .before .before .before .before .before .before .width .ensures)) _ (c .before .begin-line .ensures) (c .if2 .taken)
 
 decide-line-down-detour-requires : (t : ℕ) → decide-line-down-lts.Need-detour-requires (decide-line-down-claims t) (decide-line-down-at t) decide-line-down.Post
-decide-line-down-detour-requires t c κs = let start = c .before .before .before .before .before .before .before .before .before .before .before .before .before .before .before .before .before in let st = line-is-stored (start .args .kind .now) _ (down (start .args .v)) (start .pre .1 .2) (start .pre .1 .3) (start .pre .1 .0) (c .before .before .before .before .before .before .before .before .before .before .before .before .before .before .before .if1 .taken) _ (ap (_+_ (start .args .v)) (c .before .before .before .before .before .before .before .before .before .before .before .before .before .before .width .ensures)) _ (c .before .before .before .before .begin-line .ensures) (c .before .before .before .if2 .left) in ((omega (arith, start .pre .0, st .less)), ((omega (arith, (start .pre .1 .1), (start .pre .1 .2) .largest-width, c .before .before .before .before .before .before .before .before .before .before .before .before .before .before .width .ensures)), (omega (arith, (start .pre .1 .1), (start .pre .1 .2) .largest-width, c .before .before .before .before .before .before .before .before .before .before .before .before .before .before .width .ensures)), (omega (arith, (start .pre .1 .1), (start .pre .1 .2) .largest-width, c .before .before .before .before .before .before .before .before .before .before .before .before .before .before .width .ensures)), (λ o. (same-on (down-left (start .args .kind .now) (start .pre .1 .2) ((start .pre .1 .3) .few-pads) (start .args .v) _ (c .before .before .before .before .before .before .before .before .before .before .before .before .before .before .width .ensures) (start .pre .1 .0)) (down-left-below (start .args .kind .now) (start .pre .1 .2) ((start .pre .1 .3) .few-pads) (start .args .v) _ (c .before .before .before .before .before .before .before .before .before .before .before .before .before .before .width .ensures) (start .pre .1 .0)) o, down-far-left (start .args .kind .now) (start .pre .1 .2) ((start .pre .1 .3) .few-pads) (start .args .v) _ (c .before .before .before .before .before .before .before .before .before .before .before .before .before .before .width .ensures) (start .pre .1 .0) (sym (down-left (start .args .kind .now) (start .pre .1 .2) ((start .pre .1 .3) .few-pads) (start .args .v) _ (c .before .before .before .before .before .before .before .before .before .before .before .before .before .before .width .ensures) (start .pre .1 .0)) ∙ o))), (start .pre .1 .2), st .ready))
+decide-line-down-detour-requires t c κs =
+    let start = c .before .before .before .before .before .before .before .before .before .before .before .before .before .before .before .before .before in
+    let width-says = c .before .before .before .before .before .before .before .before .before .before .before .before .before .before .width .ensures in
+    let st = line-is-stored (start .args .kind .now) _ (down (start .args .v)) (start .pre .1 .2) (start .pre .1 .3) (start .pre .1 .0) (c .before .before .before .before .before .before .before .before .before .before .before .before .before .before .before .if1 .taken) _ (ap (_+_ (start .args .v)) (width-says)) _ (c .before .before .before .before .begin-line .ensures) (c .before .before .before .if2 .left) in ((omega (arith, start .pre .0, st .less)), ((omega (arith, (start .pre .1 .1), (start .pre .1 .2) .largest-width, width-says)), (omega (arith, (start .pre .1 .1), (start .pre .1 .2) .largest-width, width-says)), (omega (arith, (start .pre .1 .1), (start .pre .1 .2) .largest-width, width-says)), (λ o. (same-on (down-left (start .args .kind .now) (start .pre .1 .2) ((start .pre .1 .3) .few-pads) (start .args .v) _ (width-says) (start .pre .1 .0)) (down-left-below (start .args .kind .now) (start .pre .1 .2) ((start .pre .1 .3) .few-pads) (start .args .v) _ (width-says) (start .pre .1 .0)) o, down-far-left (start .args .kind .now) (start .pre .1 .2) ((start .pre .1 .3) .few-pads) (start .args .v) _ (width-says) (start .pre .1 .0) (sym (down-left (start .args .kind .now) (start .pre .1 .2) ((start .pre .1 .3) .few-pads) (start .args .v) _ (width-says) (start .pre .1 .0)) ∙ o))), (start .pre .1 .2), st .ready))
 
 decide-line-down-detour-requires-2 : (t : ℕ) → decide-line-down-lts.Need-detour-requires-2 (decide-line-down-claims t) (decide-line-down-at t) decide-line-down.Post
-decide-line-down-detour-requires-2 t c κs = let start = c .before .before .before .before .before .before .before .before .before .before .before .before .before .before .before .before .before .before .before .before .before in let st = line-is-stored (start .args .kind .now) _ (down (start .args .v)) (start .pre .1 .2) (start .pre .1 .3) (start .pre .1 .0) (c .before .before .before .before .before .before .before .before .before .before .before .before .before .before .before .before .before .before .before .if1 .taken) _ (ap (_+_ (start .args .v)) (c .before .before .before .before .before .before .before .before .before .before .before .before .before .before .before .before .before .before .width .ensures)) _ (c .before .before .before .before .before .before .before .before .begin-line .ensures) (c .before .before .before .before .before .before .before .if2 .left) in ((omega (arith, start .pre .0, st .less, c .before .before .before .detour .ensures .fewer)), ((omega (arith, (start .pre .1 .1), (start .pre .1 .2) .largest-width, c .before .before .before .before .before .before .before .before .before .before .before .before .before .before .before .before .before .before .width .ensures)), (omega (arith, (start .pre .1 .1), (start .pre .1 .2) .largest-width, c .before .before .before .before .before .before .before .before .before .before .before .before .before .before .before .before .before .before .width .ensures)), (omega (arith, (start .pre .1 .1), (start .pre .1 .2) .largest-width, c .before .before .before .before .before .before .before .before .before .before .before .before .before .before .before .before .before .before .width .ensures)), (λ o. (same-on (down-left-below (start .args .kind .now) (start .pre .1 .2) ((start .pre .1 .3) .few-pads) (start .args .v) _ (c .before .before .before .before .before .before .before .before .before .before .before .before .before .before .before .before .before .before .width .ensures) (start .pre .1 .0)) (down-left (start .args .kind .now) (start .pre .1 .2) ((start .pre .1 .3) .few-pads) (start .args .v) _ (c .before .before .before .before .before .before .before .before .before .before .before .before .before .before .before .before .before .before .width .ensures) (start .pre .1 .0)) o, down-far-left (start .args .kind .now) (start .pre .1 .2) ((start .pre .1 .3) .few-pads) (start .args .v) _ (c .before .before .before .before .before .before .before .before .before .before .before .before .before .before .before .before .before .before .width .ensures) (start .pre .1 .0) (sym (down-left-below (start .args .kind .now) (start .pre .1 .2) ((start .pre .1 .3) .few-pads) (start .args .v) _ (c .before .before .before .before .before .before .before .before .before .before .before .before .before .before .before .before .before .before .width .ensures) (start .pre .1 .0)) ∙ o))), (start .pre .1 .2), c .before .before .before .detour .ensures .ready))
+decide-line-down-detour-requires-2 t c κs =
+    let start = c .before .before .before .before .before .before .before .before .before .before .before .before .before .before .before .before .before .before .before .before .before in
+    let width-says = c .before .before .before .before .before .before .before .before .before .before .before .before .before .before .before .before .before .before .width .ensures in
+    let detour-says = c .before .before .before .detour .ensures in
+    let st = line-is-stored (start .args .kind .now) _ (down (start .args .v)) (start .pre .1 .2) (start .pre .1 .3) (start .pre .1 .0) (c .before .before .before .before .before .before .before .before .before .before .before .before .before .before .before .before .before .before .before .if1 .taken) _ (ap (_+_ (start .args .v)) (width-says)) _ (c .before .before .before .before .before .before .before .before .begin-line .ensures) (c .before .before .before .before .before .before .before .if2 .left) in ((omega (arith, start .pre .0, st .less, detour-says .fewer)), ((omega (arith, (start .pre .1 .1), (start .pre .1 .2) .largest-width, width-says)), (omega (arith, (start .pre .1 .1), (start .pre .1 .2) .largest-width, width-says)), (omega (arith, (start .pre .1 .1), (start .pre .1 .2) .largest-width, width-says)), (λ o. (same-on (down-left-below (start .args .kind .now) (start .pre .1 .2) ((start .pre .1 .3) .few-pads) (start .args .v) _ (width-says) (start .pre .1 .0)) (down-left (start .args .kind .now) (start .pre .1 .2) ((start .pre .1 .3) .few-pads) (start .args .v) _ (width-says) (start .pre .1 .0)) o, down-far-left (start .args .kind .now) (start .pre .1 .2) ((start .pre .1 .3) .few-pads) (start .args .v) _ (width-says) (start .pre .1 .0) (sym (down-left-below (start .args .kind .now) (start .pre .1 .2) ((start .pre .1 .3) .few-pads) (start .args .v) _ (width-says) (start .pre .1 .0)) ∙ o))), (start .pre .1 .2), detour-says .ready))
 
 decide-line-down-detour-requires-3 : (t : ℕ) → decide-line-down-lts.Need-detour-requires-3 (decide-line-down-claims t) (decide-line-down-at t) decide-line-down.Post
-decide-line-down-detour-requires-3 t c κs = let start = c .before .before .before .before .before .before .before .before .before .before .before .before .before .before .before .before .before .before .before .before .before .before .before .before .before in let st = line-is-stored (start .args .kind .now) _ (down (start .args .v)) (start .pre .1 .2) (start .pre .1 .3) (start .pre .1 .0) (c .before .before .before .before .before .before .before .before .before .before .before .before .before .before .before .before .before .before .before .before .before .before .before .if1 .taken) _ (ap (_+_ (start .args .v)) (c .before .before .before .before .before .before .before .before .before .before .before .before .before .before .before .before .before .before .before .before .before .before .width .ensures)) _ (c .before .before .before .before .before .before .before .before .before .before .before .before .begin-line .ensures) (c .before .before .before .before .before .before .before .before .before .before .before .if2 .left) in ((omega (arith, start .pre .0, st .less, c .before .before .before .before .before .before .before .detour .ensures .fewer, c .before .before .before .detour2 .ensures .fewer)), (picked-small (start .args .kind .now) (start .pre .1 .2) ((start .pre .1 .3) .few-pads) (start .args .v) _ (c .before .before .before .before .before .before .before .before .before .before .before .before .before .before .before .before .before .before .before .before .before .before .width .ensures) (start .pre .1 .0) (has-bit (start .args .kind .now) (start .args .v) 16) _ (31 + 2 * (start .args .v)) (c .before .before .before .before .before .before .before .before .before .before .before .before .before .before .before .before .before .before .before .before .before .slot-where .ensures) (omega (arith, (start .pre .1 .1), (start .pre .1 .2) .largest-width, c .before .before .before .before .before .before .before .before .before .before .before .before .before .before .before .before .before .before .before .before .before .before .width .ensures)), (omega (arith, (start .pre .1 .1), (start .pre .1 .2) .largest-width, c .before .before .before .before .before .before .before .before .before .before .before .before .before .before .before .before .before .before .before .before .before .before .width .ensures)), (omega (arith, (start .pre .1 .1), (start .pre .1 .2) .largest-width, c .before .before .before .before .before .before .before .before .before .before .before .before .before .before .before .before .before .before .before .before .before .before .width .ensures)), (λ o. (same-on (down-if-left (start .args .kind .now) (start .pre .1 .2) ((start .pre .1 .3) .few-pads) (start .args .v) _ (c .before .before .before .before .before .before .before .before .before .before .before .before .before .before .before .before .before .before .before .before .before .before .width .ensures) (start .pre .1 .0) _ (c .before .before .before .before .before .before .before .before .before .before .before .before .before .before .before .before .before .before .before .before .before .slot-where .ensures)) (down-left (start .args .kind .now) (start .pre .1 .2) ((start .pre .1 .3) .few-pads) (start .args .v) _ (c .before .before .before .before .before .before .before .before .before .before .before .before .before .before .before .before .before .before .before .before .before .before .width .ensures) (start .pre .1 .0)) o, same-on (down-if-left (start .args .kind .now) (start .pre .1 .2) ((start .pre .1 .3) .few-pads) (start .args .v) _ (c .before .before .before .before .before .before .before .before .before .before .before .before .before .before .before .before .before .before .before .before .before .before .width .ensures) (start .pre .1 .0) _ (c .before .before .before .before .before .before .before .before .before .before .before .before .before .before .before .before .before .before .before .before .before .slot-where .ensures)) (down-left-below (start .args .kind .now) (start .pre .1 .2) ((start .pre .1 .3) .few-pads) (start .args .v) _ (c .before .before .before .before .before .before .before .before .before .before .before .before .before .before .before .before .before .before .before .before .before .before .width .ensures) (start .pre .1 .0)) o)), (start .pre .1 .2), c .before .before .before .detour2 .ensures .ready))
+decide-line-down-detour-requires-3 t c κs =
+    let start = c .before .before .before .before .before .before .before .before .before .before .before .before .before .before .before .before .before .before .before .before .before .before .before .before .before in
+    let width-says = c .before .before .before .before .before .before .before .before .before .before .before .before .before .before .before .before .before .before .before .before .before .before .width .ensures in
+    let detour2-says = c .before .before .before .detour2 .ensures in
+    let slot-where-says = c .before .before .before .before .before .before .before .before .before .before .before .before .before .before .before .before .before .before .before .before .before .slot-where .ensures in
+    let st = line-is-stored (start .args .kind .now) _ (down (start .args .v)) (start .pre .1 .2) (start .pre .1 .3) (start .pre .1 .0) (c .before .before .before .before .before .before .before .before .before .before .before .before .before .before .before .before .before .before .before .before .before .before .before .if1 .taken) _ (ap (_+_ (start .args .v)) (width-says)) _ (c .before .before .before .before .before .before .before .before .before .before .before .before .begin-line .ensures) (c .before .before .before .before .before .before .before .before .before .before .before .if2 .left) in ((omega (arith, start .pre .0, st .less, c .before .before .before .before .before .before .before .detour .ensures .fewer, detour2-says .fewer)), (picked-small (start .args .kind .now) (start .pre .1 .2) ((start .pre .1 .3) .few-pads) (start .args .v) _ (width-says) (start .pre .1 .0) (has-bit (start .args .kind .now) (start .args .v) 16) _ (31 + 2 * (start .args .v)) (slot-where-says) (omega (arith, (start .pre .1 .1), (start .pre .1 .2) .largest-width, width-says)), (omega (arith, (start .pre .1 .1), (start .pre .1 .2) .largest-width, width-says)), (omega (arith, (start .pre .1 .1), (start .pre .1 .2) .largest-width, width-says)), (λ o. (same-on (down-if-left (start .args .kind .now) (start .pre .1 .2) ((start .pre .1 .3) .few-pads) (start .args .v) _ (width-says) (start .pre .1 .0) _ (slot-where-says)) (down-left (start .args .kind .now) (start .pre .1 .2) ((start .pre .1 .3) .few-pads) (start .args .v) _ (width-says) (start .pre .1 .0)) o, same-on (down-if-left (start .args .kind .now) (start .pre .1 .2) ((start .pre .1 .3) .few-pads) (start .args .v) _ (width-says) (start .pre .1 .0) _ (slot-where-says)) (down-left-below (start .args .kind .now) (start .pre .1 .2) ((start .pre .1 .3) .few-pads) (start .args .v) _ (width-says) (start .pre .1 .0)) o)), (start .pre .1 .2), detour2-says .ready))
 
 decide-line-down-detour-requires-4 : (t : ℕ) → decide-line-down-lts.Need-detour-requires-4 (decide-line-down-claims t) (decide-line-down-at t) decide-line-down.Post
-decide-line-down-detour-requires-4 t c κs = let start = c .before .before .before .before .before .before .before .before .before .before .before .before .before .before .before .before .before .before .before .before .before .before .before .before .before .before .before .before .before in let st = line-is-stored (start .args .kind .now) _ (down (start .args .v)) (start .pre .1 .2) (start .pre .1 .3) (start .pre .1 .0) (c .before .before .before .before .before .before .before .before .before .before .before .before .before .before .before .before .before .before .before .before .before .before .before .before .before .before .before .if1 .taken) _ (ap (_+_ (start .args .v)) (c .before .before .before .before .before .before .before .before .before .before .before .before .before .before .before .before .before .before .before .before .before .before .before .before .before .before .width .ensures)) _ (c .before .before .before .before .before .before .before .before .before .before .before .before .before .before .before .before .begin-line .ensures) (c .before .before .before .before .before .before .before .before .before .before .before .before .before .before .before .if2 .left) in ((omega (arith, start .pre .0, st .less, c .before .before .before .before .before .before .before .before .before .before .before .detour .ensures .fewer, c .before .before .before .before .before .before .before .detour2 .ensures .fewer, c .before .before .before .detour3 .ensures .fewer)), ((omega (arith, (start .pre .1 .1), (start .pre .1 .2) .largest-width, c .before .before .before .before .before .before .before .before .before .before .before .before .before .before .before .before .before .before .before .before .before .before .before .before .before .before .width .ensures)), (omega (arith, (start .pre .1 .1), (start .pre .1 .2) .largest-width, c .before .before .before .before .before .before .before .before .before .before .before .before .before .before .before .before .before .before .before .before .before .before .before .before .before .before .width .ensures)), (omega (arith, (start .pre .1 .1), (start .pre .1 .2) .largest-width, c .before .before .before .before .before .before .before .before .before .before .before .before .before .before .before .before .before .before .before .before .before .before .before .before .before .before .width .ensures)), (λ o. (same-on (down-right (start .args .kind .now) (start .pre .1 .2) ((start .pre .1 .3) .few-pads) (start .args .v) _ (c .before .before .before .before .before .before .before .before .before .before .before .before .before .before .before .before .before .before .before .before .before .before .before .before .before .before .width .ensures) (start .pre .1 .0)) (down-right-below (start .args .kind .now) (start .pre .1 .2) ((start .pre .1 .3) .few-pads) (start .args .v) _ (c .before .before .before .before .before .before .before .before .before .before .before .before .before .before .before .before .before .before .before .before .before .before .before .before .before .before .width .ensures) (start .pre .1 .0)) o, down-far-right (start .args .kind .now) (start .pre .1 .2) ((start .pre .1 .3) .few-pads) (start .args .v) _ (c .before .before .before .before .before .before .before .before .before .before .before .before .before .before .before .before .before .before .before .before .before .before .before .before .before .before .width .ensures) (start .pre .1 .0) (sym (down-right (start .args .kind .now) (start .pre .1 .2) ((start .pre .1 .3) .few-pads) (start .args .v) _ (c .before .before .before .before .before .before .before .before .before .before .before .before .before .before .before .before .before .before .before .before .before .before .before .before .before .before .width .ensures) (start .pre .1 .0)) ∙ o))), (start .pre .1 .2), c .before .before .before .detour3 .ensures .ready))
+decide-line-down-detour-requires-4 t c κs =
+    let start = c .before .before .before .before .before .before .before .before .before .before .before .before .before .before .before .before .before .before .before .before .before .before .before .before .before .before .before .before .before in
+    let width-says = c .before .before .before .before .before .before .before .before .before .before .before .before .before .before .before .before .before .before .before .before .before .before .before .before .before .before .width .ensures in
+    let detour3-says = c .before .before .before .detour3 .ensures in
+    let st = line-is-stored (start .args .kind .now) _ (down (start .args .v)) (start .pre .1 .2) (start .pre .1 .3) (start .pre .1 .0) (c .before .before .before .before .before .before .before .before .before .before .before .before .before .before .before .before .before .before .before .before .before .before .before .before .before .before .before .if1 .taken) _ (ap (_+_ (start .args .v)) (width-says)) _ (c .before .before .before .before .before .before .before .before .before .before .before .before .before .before .before .before .begin-line .ensures) (c .before .before .before .before .before .before .before .before .before .before .before .before .before .before .before .if2 .left) in ((omega (arith, start .pre .0, st .less, c .before .before .before .before .before .before .before .before .before .before .before .detour .ensures .fewer, c .before .before .before .before .before .before .before .detour2 .ensures .fewer, detour3-says .fewer)), ((omega (arith, (start .pre .1 .1), (start .pre .1 .2) .largest-width, width-says)), (omega (arith, (start .pre .1 .1), (start .pre .1 .2) .largest-width, width-says)), (omega (arith, (start .pre .1 .1), (start .pre .1 .2) .largest-width, width-says)), (λ o. (same-on (down-right (start .args .kind .now) (start .pre .1 .2) ((start .pre .1 .3) .few-pads) (start .args .v) _ (width-says) (start .pre .1 .0)) (down-right-below (start .args .kind .now) (start .pre .1 .2) ((start .pre .1 .3) .few-pads) (start .args .v) _ (width-says) (start .pre .1 .0)) o, down-far-right (start .args .kind .now) (start .pre .1 .2) ((start .pre .1 .3) .few-pads) (start .args .v) _ (width-says) (start .pre .1 .0) (sym (down-right (start .args .kind .now) (start .pre .1 .2) ((start .pre .1 .3) .few-pads) (start .args .v) _ (width-says) (start .pre .1 .0)) ∙ o))), (start .pre .1 .2), detour3-says .ready))
 
 decide-line-down-detour-requires-5 : (t : ℕ) → decide-line-down-lts.Need-detour-requires-5 (decide-line-down-claims t) (decide-line-down-at t) decide-line-down.Post
-decide-line-down-detour-requires-5 t c κs = let start = c .before .before .before .before .before .before .before .before .before .before .before .before .before .before .before .before .before .before .before .before .before .before .before .before .before .before .before .before .before .before .before .before .before in let st = line-is-stored (start .args .kind .now) _ (down (start .args .v)) (start .pre .1 .2) (start .pre .1 .3) (start .pre .1 .0) (c .before .before .before .before .before .before .before .before .before .before .before .before .before .before .before .before .before .before .before .before .before .before .before .before .before .before .before .before .before .before .before .if1 .taken) _ (ap (_+_ (start .args .v)) (c .before .before .before .before .before .before .before .before .before .before .before .before .before .before .before .before .before .before .before .before .before .before .before .before .before .before .before .before .before .before .width .ensures)) _ (c .before .before .before .before .before .before .before .before .before .before .before .before .before .before .before .before .before .before .before .before .begin-line .ensures) (c .before .before .before .before .before .before .before .before .before .before .before .before .before .before .before .before .before .before .before .if2 .left) in ((omega (arith, start .pre .0, st .less, c .before .before .before .before .before .before .before .before .before .before .before .before .before .before .before .detour .ensures .fewer, c .before .before .before .before .before .before .before .before .before .before .before .detour2 .ensures .fewer, c .before .before .before .before .before .before .before .detour3 .ensures .fewer, c .before .before .before .detour4 .ensures .fewer)), ((omega (arith, (start .pre .1 .1), (start .pre .1 .2) .largest-width, c .before .before .before .before .before .before .before .before .before .before .before .before .before .before .before .before .before .before .before .before .before .before .before .before .before .before .before .before .before .before .width .ensures)), (omega (arith, (start .pre .1 .1), (start .pre .1 .2) .largest-width, c .before .before .before .before .before .before .before .before .before .before .before .before .before .before .before .before .before .before .before .before .before .before .before .before .before .before .before .before .before .before .width .ensures)), (omega (arith, (start .pre .1 .1), (start .pre .1 .2) .largest-width, c .before .before .before .before .before .before .before .before .before .before .before .before .before .before .before .before .before .before .before .before .before .before .before .before .before .before .before .before .before .before .width .ensures)), (λ o. (same-on (down-right-below (start .args .kind .now) (start .pre .1 .2) ((start .pre .1 .3) .few-pads) (start .args .v) _ (c .before .before .before .before .before .before .before .before .before .before .before .before .before .before .before .before .before .before .before .before .before .before .before .before .before .before .before .before .before .before .width .ensures) (start .pre .1 .0)) (down-right (start .args .kind .now) (start .pre .1 .2) ((start .pre .1 .3) .few-pads) (start .args .v) _ (c .before .before .before .before .before .before .before .before .before .before .before .before .before .before .before .before .before .before .before .before .before .before .before .before .before .before .before .before .before .before .width .ensures) (start .pre .1 .0)) o, down-far-right (start .args .kind .now) (start .pre .1 .2) ((start .pre .1 .3) .few-pads) (start .args .v) _ (c .before .before .before .before .before .before .before .before .before .before .before .before .before .before .before .before .before .before .before .before .before .before .before .before .before .before .before .before .before .before .width .ensures) (start .pre .1 .0) (sym (down-right-below (start .args .kind .now) (start .pre .1 .2) ((start .pre .1 .3) .few-pads) (start .args .v) _ (c .before .before .before .before .before .before .before .before .before .before .before .before .before .before .before .before .before .before .before .before .before .before .before .before .before .before .before .before .before .before .width .ensures) (start .pre .1 .0)) ∙ o))), (start .pre .1 .2), c .before .before .before .detour4 .ensures .ready))
+decide-line-down-detour-requires-5 t c κs =
+    let start = c .before .before .before .before .before .before .before .before .before .before .before .before .before .before .before .before .before .before .before .before .before .before .before .before .before .before .before .before .before .before .before .before .before in
+    let width-says = c .before .before .before .before .before .before .before .before .before .before .before .before .before .before .before .before .before .before .before .before .before .before .before .before .before .before .before .before .before .before .width .ensures in
+    let detour4-says = c .before .before .before .detour4 .ensures in
+    let st = line-is-stored (start .args .kind .now) _ (down (start .args .v)) (start .pre .1 .2) (start .pre .1 .3) (start .pre .1 .0) (c .before .before .before .before .before .before .before .before .before .before .before .before .before .before .before .before .before .before .before .before .before .before .before .before .before .before .before .before .before .before .before .if1 .taken) _ (ap (_+_ (start .args .v)) (width-says)) _ (c .before .before .before .before .before .before .before .before .before .before .before .before .before .before .before .before .before .before .before .before .begin-line .ensures) (c .before .before .before .before .before .before .before .before .before .before .before .before .before .before .before .before .before .before .before .if2 .left) in ((omega (arith, start .pre .0, st .less, c .before .before .before .before .before .before .before .before .before .before .before .before .before .before .before .detour .ensures .fewer, c .before .before .before .before .before .before .before .before .before .before .before .detour2 .ensures .fewer, c .before .before .before .before .before .before .before .detour3 .ensures .fewer, detour4-says .fewer)), ((omega (arith, (start .pre .1 .1), (start .pre .1 .2) .largest-width, width-says)), (omega (arith, (start .pre .1 .1), (start .pre .1 .2) .largest-width, width-says)), (omega (arith, (start .pre .1 .1), (start .pre .1 .2) .largest-width, width-says)), (λ o. (same-on (down-right-below (start .args .kind .now) (start .pre .1 .2) ((start .pre .1 .3) .few-pads) (start .args .v) _ (width-says) (start .pre .1 .0)) (down-right (start .args .kind .now) (start .pre .1 .2) ((start .pre .1 .3) .few-pads) (start .args .v) _ (width-says) (start .pre .1 .0)) o, down-far-right (start .args .kind .now) (start .pre .1 .2) ((start .pre .1 .3) .few-pads) (start .args .v) _ (width-says) (start .pre .1 .0) (sym (down-right-below (start .args .kind .now) (start .pre .1 .2) ((start .pre .1 .3) .few-pads) (start .args .v) _ (width-says) (start .pre .1 .0)) ∙ o))), (start .pre .1 .2), detour4-says .ready))
 
 decide-line-down-detour-requires-6 : (t : ℕ) → decide-line-down-lts.Need-detour-requires-6 (decide-line-down-claims t) (decide-line-down-at t) decide-line-down.Post
-decide-line-down-detour-requires-6 t c κs = let start = c .before .before .before .before .before .before .before .before .before .before .before .before .before .before .before .before .before .before .before .before .before .before .before .before .before .before .before .before .before .before .before .before .before .before .before .before .before in let st = line-is-stored (start .args .kind .now) _ (down (start .args .v)) (start .pre .1 .2) (start .pre .1 .3) (start .pre .1 .0) (c .before .before .before .before .before .before .before .before .before .before .before .before .before .before .before .before .before .before .before .before .before .before .before .before .before .before .before .before .before .before .before .before .before .before .before .if1 .taken) _ (ap (_+_ (start .args .v)) (c .before .before .before .before .before .before .before .before .before .before .before .before .before .before .before .before .before .before .before .before .before .before .before .before .before .before .before .before .before .before .before .before .before .before .width .ensures)) _ (c .before .before .before .before .before .before .before .before .before .before .before .before .before .before .before .before .before .before .before .before .before .before .before .before .begin-line .ensures) (c .before .before .before .before .before .before .before .before .before .before .before .before .before .before .before .before .before .before .before .before .before .before .before .if2 .left) in ((omega (arith, start .pre .0, st .less, c .before .before .before .before .before .before .before .before .before .before .before .before .before .before .before .before .before .before .before .detour .ensures .fewer, c .before .before .before .before .before .before .before .before .before .before .before .before .before .before .before .detour2 .ensures .fewer, c .before .before .before .before .before .before .before .before .before .before .before .detour3 .ensures .fewer, c .before .before .before .before .before .before .before .detour4 .ensures .fewer, c .before .before .before .detour5 .ensures .fewer)), (picked-small (start .args .kind .now) (start .pre .1 .2) ((start .pre .1 .3) .few-pads) (start .args .v) _ (c .before .before .before .before .before .before .before .before .before .before .before .before .before .before .before .before .before .before .before .before .before .before .before .before .before .before .before .before .before .before .before .before .before .before .width .ensures) (start .pre .1 .0) (has-bit (start .args .kind .now) (start .args .v) 8) _ (35 + 2 * (start .args .v)) (c .before .before .before .before .before .before .before .before .before .before .before .before .before .before .before .before .before .before .before .before .before .before .before .before .before .before .before .before .before .before .before .before .slot-where2 .ensures) (omega (arith, (start .pre .1 .1), (start .pre .1 .2) .largest-width, c .before .before .before .before .before .before .before .before .before .before .before .before .before .before .before .before .before .before .before .before .before .before .before .before .before .before .before .before .before .before .before .before .before .before .width .ensures)), (omega (arith, (start .pre .1 .1), (start .pre .1 .2) .largest-width, c .before .before .before .before .before .before .before .before .before .before .before .before .before .before .before .before .before .before .before .before .before .before .before .before .before .before .before .before .before .before .before .before .before .before .width .ensures)), (omega (arith, (start .pre .1 .1), (start .pre .1 .2) .largest-width, c .before .before .before .before .before .before .before .before .before .before .before .before .before .before .before .before .before .before .before .before .before .before .before .before .before .before .before .before .before .before .before .before .before .before .width .ensures)), (λ o. (same-on (down-if-right (start .args .kind .now) (start .pre .1 .2) ((start .pre .1 .3) .few-pads) (start .args .v) _ (c .before .before .before .before .before .before .before .before .before .before .before .before .before .before .before .before .before .before .before .before .before .before .before .before .before .before .before .before .before .before .before .before .before .before .width .ensures) (start .pre .1 .0) _ (c .before .before .before .before .before .before .before .before .before .before .before .before .before .before .before .before .before .before .before .before .before .before .before .before .before .before .before .before .before .before .before .before .slot-where2 .ensures)) (down-right (start .args .kind .now) (start .pre .1 .2) ((start .pre .1 .3) .few-pads) (start .args .v) _ (c .before .before .before .before .before .before .before .before .before .before .before .before .before .before .before .before .before .before .before .before .before .before .before .before .before .before .before .before .before .before .before .before .before .before .width .ensures) (start .pre .1 .0)) o, same-on (down-if-right (start .args .kind .now) (start .pre .1 .2) ((start .pre .1 .3) .few-pads) (start .args .v) _ (c .before .before .before .before .before .before .before .before .before .before .before .before .before .before .before .before .before .before .before .before .before .before .before .before .before .before .before .before .before .before .before .before .before .before .width .ensures) (start .pre .1 .0) _ (c .before .before .before .before .before .before .before .before .before .before .before .before .before .before .before .before .before .before .before .before .before .before .before .before .before .before .before .before .before .before .before .before .slot-where2 .ensures)) (down-right-below (start .args .kind .now) (start .pre .1 .2) ((start .pre .1 .3) .few-pads) (start .args .v) _ (c .before .before .before .before .before .before .before .before .before .before .before .before .before .before .before .before .before .before .before .before .before .before .before .before .before .before .before .before .before .before .before .before .before .before .width .ensures) (start .pre .1 .0)) o)), (start .pre .1 .2), c .before .before .before .detour5 .ensures .ready))
+decide-line-down-detour-requires-6 t c κs =
+    let start = c .before .before .before .before .before .before .before .before .before .before .before .before .before .before .before .before .before .before .before .before .before .before .before .before .before .before .before .before .before .before .before .before .before .before .before .before .before in
+    let width-says = c .before .before .before .before .before .before .before .before .before .before .before .before .before .before .before .before .before .before .before .before .before .before .before .before .before .before .before .before .before .before .before .before .before .before .width .ensures in
+    let detour5-says = c .before .before .before .detour5 .ensures in
+    let slot-where2-says = c .before .before .before .before .before .before .before .before .before .before .before .before .before .before .before .before .before .before .before .before .before .before .before .before .before .before .before .before .before .before .before .before .slot-where2 .ensures in
+    let st = line-is-stored (start .args .kind .now) _ (down (start .args .v)) (start .pre .1 .2) (start .pre .1 .3) (start .pre .1 .0) (c .before .before .before .before .before .before .before .before .before .before .before .before .before .before .before .before .before .before .before .before .before .before .before .before .before .before .before .before .before .before .before .before .before .before .before .if1 .taken) _ (ap (_+_ (start .args .v)) (width-says)) _ (c .before .before .before .before .before .before .before .before .before .before .before .before .before .before .before .before .before .before .before .before .before .before .before .before .begin-line .ensures) (c .before .before .before .before .before .before .before .before .before .before .before .before .before .before .before .before .before .before .before .before .before .before .before .if2 .left) in ((omega (arith, start .pre .0, st .less, c .before .before .before .before .before .before .before .before .before .before .before .before .before .before .before .before .before .before .before .detour .ensures .fewer, c .before .before .before .before .before .before .before .before .before .before .before .before .before .before .before .detour2 .ensures .fewer, c .before .before .before .before .before .before .before .before .before .before .before .detour3 .ensures .fewer, c .before .before .before .before .before .before .before .detour4 .ensures .fewer, detour5-says .fewer)), (picked-small (start .args .kind .now) (start .pre .1 .2) ((start .pre .1 .3) .few-pads) (start .args .v) _ (width-says) (start .pre .1 .0) (has-bit (start .args .kind .now) (start .args .v) 8) _ (35 + 2 * (start .args .v)) (slot-where2-says) (omega (arith, (start .pre .1 .1), (start .pre .1 .2) .largest-width, width-says)), (omega (arith, (start .pre .1 .1), (start .pre .1 .2) .largest-width, width-says)), (omega (arith, (start .pre .1 .1), (start .pre .1 .2) .largest-width, width-says)), (λ o. (same-on (down-if-right (start .args .kind .now) (start .pre .1 .2) ((start .pre .1 .3) .few-pads) (start .args .v) _ (width-says) (start .pre .1 .0) _ (slot-where2-says)) (down-right (start .args .kind .now) (start .pre .1 .2) ((start .pre .1 .3) .few-pads) (start .args .v) _ (width-says) (start .pre .1 .0)) o, same-on (down-if-right (start .args .kind .now) (start .pre .1 .2) ((start .pre .1 .3) .few-pads) (start .args .v) _ (width-says) (start .pre .1 .0) _ (slot-where2-says)) (down-right-below (start .args .kind .now) (start .pre .1 .2) ((start .pre .1 .3) .few-pads) (start .args .v) _ (width-says) (start .pre .1 .0)) o)), (start .pre .1 .2), detour5-says .ready))
 
 decide-line-down-corner-left-requires : (t : ℕ) → decide-line-down-lts.Need-corner-left-requires (decide-line-down-claims t) (decide-line-down-at t) decide-line-down.Post
-decide-line-down-corner-left-requires t c κs = let start = c .before .before .before .before .before .before .before .before .before .before .before .before .before .before .before .before .before .before .before .before .before .before .before .before .before .before .before .before .before .before .before .before .before .before .before .before .before .before .before .before .before in let st = line-is-stored (start .args .kind .now) _ (down (start .args .v)) (start .pre .1 .2) (start .pre .1 .3) (start .pre .1 .0) (c .before .before .before .before .before .before .before .before .before .before .before .before .before .before .before .before .before .before .before .before .before .before .before .before .before .before .before .before .before .before .before .before .before .before .before .before .before .before .before .if1 .taken) _ (ap (_+_ (start .args .v)) (c .before .before .before .before .before .before .before .before .before .before .before .before .before .before .before .before .before .before .before .before .before .before .before .before .before .before .before .before .before .before .before .before .before .before .before .before .before .before .width .ensures)) _ (c .before .before .before .before .before .before .before .before .before .before .before .before .before .before .before .before .before .before .before .before .before .before .before .before .before .before .before .before .begin-line .ensures) (c .before .before .before .before .before .before .before .before .before .before .before .before .before .before .before .before .before .before .before .before .before .before .before .before .before .before .before .if2 .left) in ((omega (arith, start .pre .0, st .less, c .before .before .before .before .before .before .before .before .before .before .before .before .before .before .before .before .before .before .before .before .before .before .before .detour .ensures .fewer, c .before .before .before .before .before .before .before .before .before .before .before .before .before .before .before .before .before .before .before .detour2 .ensures .fewer, c .before .before .before .before .before .before .before .before .before .before .before .before .before .before .before .detour3 .ensures .fewer, c .before .before .before .before .before .before .before .before .before .before .before .detour4 .ensures .fewer, c .before .before .before .before .before .before .before .detour5 .ensures .fewer, c .before .before .before .detour6 .ensures .fewer)), ((omega (arith, (start .pre .1 .1), (start .pre .1 .2) .largest-width, c .before .before .before .before .before .before .before .before .before .before .before .before .before .before .before .before .before .before .before .before .before .before .before .before .before .before .before .before .before .before .before .before .before .before .before .before .before .before .width .ensures)), (omega (arith, (start .pre .1 .1), (start .pre .1 .2) .largest-width, c .before .before .before .before .before .before .before .before .before .before .before .before .before .before .before .before .before .before .before .before .before .before .before .before .before .before .before .before .before .before .before .before .before .before .before .before .before .before .width .ensures)), (λ o. down-left-corner (start .args .kind .now) (start .pre .1 .2) ((start .pre .1 .3) .few-pads) (start .args .v) _ (c .before .before .before .before .before .before .before .before .before .before .before .before .before .before .before .before .before .before .before .before .before .before .before .before .before .before .before .before .before .before .before .before .before .before .before .before .before .before .width .ensures) (start .pre .1 .0) _ refl), (start .pre .1 .2), c .before .before .before .detour6 .ensures .ready))
+decide-line-down-corner-left-requires t c κs =
+    let start = c .before .before .before .before .before .before .before .before .before .before .before .before .before .before .before .before .before .before .before .before .before .before .before .before .before .before .before .before .before .before .before .before .before .before .before .before .before .before .before .before .before in
+    let width-says = c .before .before .before .before .before .before .before .before .before .before .before .before .before .before .before .before .before .before .before .before .before .before .before .before .before .before .before .before .before .before .before .before .before .before .before .before .before .before .width .ensures in
+    let detour6-says = c .before .before .before .detour6 .ensures in
+    let st = line-is-stored (start .args .kind .now) _ (down (start .args .v)) (start .pre .1 .2) (start .pre .1 .3) (start .pre .1 .0) (c .before .before .before .before .before .before .before .before .before .before .before .before .before .before .before .before .before .before .before .before .before .before .before .before .before .before .before .before .before .before .before .before .before .before .before .before .before .before .before .if1 .taken) _ (ap (_+_ (start .args .v)) (width-says)) _ (c .before .before .before .before .before .before .before .before .before .before .before .before .before .before .before .before .before .before .before .before .before .before .before .before .before .before .before .before .begin-line .ensures) (c .before .before .before .before .before .before .before .before .before .before .before .before .before .before .before .before .before .before .before .before .before .before .before .before .before .before .before .if2 .left) in ((omega (arith, start .pre .0, st .less, c .before .before .before .before .before .before .before .before .before .before .before .before .before .before .before .before .before .before .before .before .before .before .before .detour .ensures .fewer, c .before .before .before .before .before .before .before .before .before .before .before .before .before .before .before .before .before .before .before .detour2 .ensures .fewer, c .before .before .before .before .before .before .before .before .before .before .before .before .before .before .before .detour3 .ensures .fewer, c .before .before .before .before .before .before .before .before .before .before .before .detour4 .ensures .fewer, c .before .before .before .before .before .before .before .detour5 .ensures .fewer, detour6-says .fewer)), ((omega (arith, (start .pre .1 .1), (start .pre .1 .2) .largest-width, width-says)), (omega (arith, (start .pre .1 .1), (start .pre .1 .2) .largest-width, width-says)), (λ o. down-left-corner (start .args .kind .now) (start .pre .1 .2) ((start .pre .1 .3) .few-pads) (start .args .v) _ (width-says) (start .pre .1 .0) _ refl), (start .pre .1 .2), detour6-says .ready))
 
 decide-line-down-corner-right-requires : (t : ℕ) → decide-line-down-lts.Need-corner-right-requires (decide-line-down-claims t) (decide-line-down-at t) decide-line-down.Post
-decide-line-down-corner-right-requires t c κs = let start = c .before .before .before .before .before .before .before .before .before .before .before .before .before .before .before .before .before .before .before .before .before .before .before .before .before .before .before .before .before .before .before .before .before .before .before .before .before .before .before .before .before .before .before .before .before in let st = line-is-stored (start .args .kind .now) _ (down (start .args .v)) (start .pre .1 .2) (start .pre .1 .3) (start .pre .1 .0) (c .before .before .before .before .before .before .before .before .before .before .before .before .before .before .before .before .before .before .before .before .before .before .before .before .before .before .before .before .before .before .before .before .before .before .before .before .before .before .before .before .before .before .before .if1 .taken) _ (ap (_+_ (start .args .v)) (c .before .before .before .before .before .before .before .before .before .before .before .before .before .before .before .before .before .before .before .before .before .before .before .before .before .before .before .before .before .before .before .before .before .before .before .before .before .before .before .before .before .before .width .ensures)) _ (c .before .before .before .before .before .before .before .before .before .before .before .before .before .before .before .before .before .before .before .before .before .before .before .before .before .before .before .before .before .before .before .before .begin-line .ensures) (c .before .before .before .before .before .before .before .before .before .before .before .before .before .before .before .before .before .before .before .before .before .before .before .before .before .before .before .before .before .before .before .if2 .left) in ((omega (arith, start .pre .0, st .less, c .before .before .before .before .before .before .before .before .before .before .before .before .before .before .before .before .before .before .before .before .before .before .before .before .before .before .before .detour .ensures .fewer, c .before .before .before .before .before .before .before .before .before .before .before .before .before .before .before .before .before .before .before .before .before .before .before .detour2 .ensures .fewer, c .before .before .before .before .before .before .before .before .before .before .before .before .before .before .before .before .before .before .before .detour3 .ensures .fewer, c .before .before .before .before .before .before .before .before .before .before .before .before .before .before .before .detour4 .ensures .fewer, c .before .before .before .before .before .before .before .before .before .before .before .detour5 .ensures .fewer, c .before .before .before .before .before .before .before .detour6 .ensures .fewer, c .before .before .before .corner-left .ensures .fewer)), ((omega (arith, (start .pre .1 .1), (start .pre .1 .2) .largest-width, c .before .before .before .before .before .before .before .before .before .before .before .before .before .before .before .before .before .before .before .before .before .before .before .before .before .before .before .before .before .before .before .before .before .before .before .before .before .before .before .before .before .before .width .ensures)), (omega (arith, (start .pre .1 .1), (start .pre .1 .2) .largest-width, c .before .before .before .before .before .before .before .before .before .before .before .before .before .before .before .before .before .before .before .before .before .before .before .before .before .before .before .before .before .before .before .before .before .before .before .before .before .before .before .before .before .before .width .ensures)), (λ o. down-right-corner (start .args .kind .now) (start .pre .1 .2) ((start .pre .1 .3) .few-pads) (start .args .v) _ (c .before .before .before .before .before .before .before .before .before .before .before .before .before .before .before .before .before .before .before .before .before .before .before .before .before .before .before .before .before .before .before .before .before .before .before .before .before .before .before .before .before .before .width .ensures) (start .pre .1 .0) _ refl o), (start .pre .1 .2), c .before .before .before .corner-left .ensures .ready))
+decide-line-down-corner-right-requires t c κs =
+    let start = c .before .before .before .before .before .before .before .before .before .before .before .before .before .before .before .before .before .before .before .before .before .before .before .before .before .before .before .before .before .before .before .before .before .before .before .before .before .before .before .before .before .before .before .before .before in
+    let width-says = c .before .before .before .before .before .before .before .before .before .before .before .before .before .before .before .before .before .before .before .before .before .before .before .before .before .before .before .before .before .before .before .before .before .before .before .before .before .before .before .before .before .before .width .ensures in
+    let corner-left-says = c .before .before .before .corner-left .ensures in
+    let st = line-is-stored (start .args .kind .now) _ (down (start .args .v)) (start .pre .1 .2) (start .pre .1 .3) (start .pre .1 .0) (c .before .before .before .before .before .before .before .before .before .before .before .before .before .before .before .before .before .before .before .before .before .before .before .before .before .before .before .before .before .before .before .before .before .before .before .before .before .before .before .before .before .before .before .if1 .taken) _ (ap (_+_ (start .args .v)) (width-says)) _ (c .before .before .before .before .before .before .before .before .before .before .before .before .before .before .before .before .before .before .before .before .before .before .before .before .before .before .before .before .before .before .before .before .begin-line .ensures) (c .before .before .before .before .before .before .before .before .before .before .before .before .before .before .before .before .before .before .before .before .before .before .before .before .before .before .before .before .before .before .before .if2 .left) in ((omega (arith, start .pre .0, st .less, c .before .before .before .before .before .before .before .before .before .before .before .before .before .before .before .before .before .before .before .before .before .before .before .before .before .before .before .detour .ensures .fewer, c .before .before .before .before .before .before .before .before .before .before .before .before .before .before .before .before .before .before .before .before .before .before .before .detour2 .ensures .fewer, c .before .before .before .before .before .before .before .before .before .before .before .before .before .before .before .before .before .before .before .detour3 .ensures .fewer, c .before .before .before .before .before .before .before .before .before .before .before .before .before .before .before .detour4 .ensures .fewer, c .before .before .before .before .before .before .before .before .before .before .before .detour5 .ensures .fewer, c .before .before .before .before .before .before .before .detour6 .ensures .fewer, corner-left-says .fewer)), ((omega (arith, (start .pre .1 .1), (start .pre .1 .2) .largest-width, width-says)), (omega (arith, (start .pre .1 .1), (start .pre .1 .2) .largest-width, width-says)), (λ o. down-right-corner (start .args .kind .now) (start .pre .1 .2) ((start .pre .1 .3) .few-pads) (start .args .v) _ (width-says) (start .pre .1 .0) _ refl o), (start .pre .1 .2), corner-left-says .ready))
 
 decide-line-down-bar-requires : (t : ℕ) → decide-line-down-lts.Need-bar-requires (decide-line-down-claims t) (decide-line-down-at t) decide-line-down.Post
-decide-line-down-bar-requires t c κs = let start = c .before .before .before .before .before .before .before .before .before .before .before .before .before .before .before .before .before .before .before .before .before .before .before .before .before .before .before .before .before .before .before .before .before .before .before .before .before .before .before .before .before .before .before .before .before .before .before .before .before in let st = line-is-stored (start .args .kind .now) _ (down (start .args .v)) (start .pre .1 .2) (start .pre .1 .3) (start .pre .1 .0) (c .before .before .before .before .before .before .before .before .before .before .before .before .before .before .before .before .before .before .before .before .before .before .before .before .before .before .before .before .before .before .before .before .before .before .before .before .before .before .before .before .before .before .before .before .before .before .before .if1 .taken) _ (ap (_+_ (start .args .v)) (c .before .before .before .before .before .before .before .before .before .before .before .before .before .before .before .before .before .before .before .before .before .before .before .before .before .before .before .before .before .before .before .before .before .before .before .before .before .before .before .before .before .before .before .before .before .before .width .ensures)) _ (c .before .before .before .before .before .before .before .before .before .before .before .before .before .before .before .before .before .before .before .before .before .before .before .before .before .before .before .before .before .before .before .before .before .before .before .before .begin-line .ensures) (c .before .before .before .before .before .before .before .before .before .before .before .before .before .before .before .before .before .before .before .before .before .before .before .before .before .before .before .before .before .before .before .before .before .before .before .if2 .left) in ((omega (arith, start .pre .0, st .less, c .before .before .before .before .before .before .before .before .before .before .before .before .before .before .before .before .before .before .before .before .before .before .before .before .before .before .before .before .before .before .before .detour .ensures .fewer, c .before .before .before .before .before .before .before .before .before .before .before .before .before .before .before .before .before .before .before .before .before .before .before .before .before .before .before .detour2 .ensures .fewer, c .before .before .before .before .before .before .before .before .before .before .before .before .before .before .before .before .before .before .before .before .before .before .before .detour3 .ensures .fewer, c .before .before .before .before .before .before .before .before .before .before .before .before .before .before .before .before .before .before .before .detour4 .ensures .fewer, c .before .before .before .before .before .before .before .before .before .before .before .before .before .before .before .detour5 .ensures .fewer, c .before .before .before .before .before .before .before .before .before .before .before .detour6 .ensures .fewer, c .before .before .before .before .before .before .before .corner-left .ensures .fewer, c .before .before .before .corner-right .ensures .fewer)), ((omega (arith, (start .pre .1 .1), (start .pre .1 .2) .largest-width, c .before .before .before .before .before .before .before .before .before .before .before .before .before .before .before .before .before .before .before .before .before .before .before .before .before .before .before .before .before .before .before .before .before .before .before .before .before .before .before .before .before .before .before .before .before .before .width .ensures)), (omega (arith, (start .pre .1 .1), (start .pre .1 .2) .largest-width, c .before .before .before .before .before .before .before .before .before .before .before .before .before .before .before .before .before .before .before .before .before .before .before .before .before .before .before .before .before .before .before .before .before .before .before .before .before .before .before .before .before .before .before .before .before .before .width .ensures)), down-left-bar-on (start .args .kind .now) (start .pre .1 .2) ((start .pre .1 .3) .few-pads) (start .args .v) _ (c .before .before .before .before .before .before .before .before .before .before .before .before .before .before .before .before .before .before .before .before .before .before .before .before .before .before .before .before .before .before .before .before .before .before .before .before .before .before .before .before .before .before .before .before .before .before .width .ensures) (start .pre .1 .0), (start .pre .1 .2), c .before .before .before .corner-right .ensures .ready))
+decide-line-down-bar-requires t c κs =
+    let start = c .before .before .before .before .before .before .before .before .before .before .before .before .before .before .before .before .before .before .before .before .before .before .before .before .before .before .before .before .before .before .before .before .before .before .before .before .before .before .before .before .before .before .before .before .before .before .before .before .before in
+    let width-says = c .before .before .before .before .before .before .before .before .before .before .before .before .before .before .before .before .before .before .before .before .before .before .before .before .before .before .before .before .before .before .before .before .before .before .before .before .before .before .before .before .before .before .before .before .before .before .width .ensures in
+    let corner-right-says = c .before .before .before .corner-right .ensures in
+    let st = line-is-stored (start .args .kind .now) _ (down (start .args .v)) (start .pre .1 .2) (start .pre .1 .3) (start .pre .1 .0) (c .before .before .before .before .before .before .before .before .before .before .before .before .before .before .before .before .before .before .before .before .before .before .before .before .before .before .before .before .before .before .before .before .before .before .before .before .before .before .before .before .before .before .before .before .before .before .before .if1 .taken) _ (ap (_+_ (start .args .v)) (width-says)) _ (c .before .before .before .before .before .before .before .before .before .before .before .before .before .before .before .before .before .before .before .before .before .before .before .before .before .before .before .before .before .before .before .before .before .before .before .before .begin-line .ensures) (c .before .before .before .before .before .before .before .before .before .before .before .before .before .before .before .before .before .before .before .before .before .before .before .before .before .before .before .before .before .before .before .before .before .before .before .if2 .left) in ((omega (arith, start .pre .0, st .less, c .before .before .before .before .before .before .before .before .before .before .before .before .before .before .before .before .before .before .before .before .before .before .before .before .before .before .before .before .before .before .before .detour .ensures .fewer, c .before .before .before .before .before .before .before .before .before .before .before .before .before .before .before .before .before .before .before .before .before .before .before .before .before .before .before .detour2 .ensures .fewer, c .before .before .before .before .before .before .before .before .before .before .before .before .before .before .before .before .before .before .before .before .before .before .before .detour3 .ensures .fewer, c .before .before .before .before .before .before .before .before .before .before .before .before .before .before .before .before .before .before .before .detour4 .ensures .fewer, c .before .before .before .before .before .before .before .before .before .before .before .before .before .before .before .detour5 .ensures .fewer, c .before .before .before .before .before .before .before .before .before .before .before .detour6 .ensures .fewer, c .before .before .before .before .before .before .before .corner-left .ensures .fewer, corner-right-says .fewer)), ((omega (arith, (start .pre .1 .1), (start .pre .1 .2) .largest-width, width-says)), (omega (arith, (start .pre .1 .1), (start .pre .1 .2) .largest-width, width-says)), down-left-bar-on (start .args .kind .now) (start .pre .1 .2) ((start .pre .1 .3) .few-pads) (start .args .v) _ (width-says) (start .pre .1 .0), (start .pre .1 .2), corner-right-says .ready))
 
 decide-line-down-bar-requires-2 : (t : ℕ) → decide-line-down-lts.Need-bar-requires-2 (decide-line-down-claims t) (decide-line-down-at t) decide-line-down.Post
-decide-line-down-bar-requires-2 t c κs = let start = c .before .before .before .before .before .before .before .before .before .before .before .before .before .before .before .before .before .before .before .before .before .before .before .before .before .before .before .before .before .before .before .before .before .before .before .before .before .before .before .before .before .before .before .before .before .before .before .before .before .before .before .before .before in let st = line-is-stored (start .args .kind .now) _ (down (start .args .v)) (start .pre .1 .2) (start .pre .1 .3) (start .pre .1 .0) (c .before .before .before .before .before .before .before .before .before .before .before .before .before .before .before .before .before .before .before .before .before .before .before .before .before .before .before .before .before .before .before .before .before .before .before .before .before .before .before .before .before .before .before .before .before .before .before .before .before .before .before .if1 .taken) _ (ap (_+_ (start .args .v)) (c .before .before .before .before .before .before .before .before .before .before .before .before .before .before .before .before .before .before .before .before .before .before .before .before .before .before .before .before .before .before .before .before .before .before .before .before .before .before .before .before .before .before .before .before .before .before .before .before .before .before .width .ensures)) _ (c .before .before .before .before .before .before .before .before .before .before .before .before .before .before .before .before .before .before .before .before .before .before .before .before .before .before .before .before .before .before .before .before .before .before .before .before .before .before .before .before .begin-line .ensures) (c .before .before .before .before .before .before .before .before .before .before .before .before .before .before .before .before .before .before .before .before .before .before .before .before .before .before .before .before .before .before .before .before .before .before .before .before .before .before .before .if2 .left) in ((omega (arith, start .pre .0, st .less, c .before .before .before .before .before .before .before .before .before .before .before .before .before .before .before .before .before .before .before .before .before .before .before .before .before .before .before .before .before .before .before .before .before .before .before .detour .ensures .fewer, c .before .before .before .before .before .before .before .before .before .before .before .before .before .before .before .before .before .before .before .before .before .before .before .before .before .before .before .before .before .before .before .detour2 .ensures .fewer, c .before .before .before .before .before .before .before .before .before .before .before .before .before .before .before .before .before .before .before .before .before .before .before .before .before .before .before .detour3 .ensures .fewer, c .before .before .before .before .before .before .before .before .before .before .before .before .before .before .before .before .before .before .before .before .before .before .before .detour4 .ensures .fewer, c .before .before .before .before .before .before .before .before .before .before .before .before .before .before .before .before .before .before .before .detour5 .ensures .fewer, c .before .before .before .before .before .before .before .before .before .before .before .before .before .before .before .detour6 .ensures .fewer, c .before .before .before .before .before .before .before .before .before .before .before .corner-left .ensures .fewer, c .before .before .before .before .before .before .before .corner-right .ensures .fewer, c .before .before .before .bar .ensures .fewer)), ((omega (arith, (start .pre .1 .1), (start .pre .1 .2) .largest-width, c .before .before .before .before .before .before .before .before .before .before .before .before .before .before .before .before .before .before .before .before .before .before .before .before .before .before .before .before .before .before .before .before .before .before .before .before .before .before .before .before .before .before .before .before .before .before .before .before .before .before .width .ensures)), (omega (arith, (start .pre .1 .1), (start .pre .1 .2) .largest-width, c .before .before .before .before .before .before .before .before .before .before .before .before .before .before .before .before .before .before .before .before .before .before .before .before .before .before .before .before .before .before .before .before .before .before .before .before .before .before .before .before .before .before .before .before .before .before .before .before .before .before .width .ensures)), down-right-bar-on (start .args .kind .now) (start .pre .1 .2) ((start .pre .1 .3) .few-pads) (start .args .v) _ (c .before .before .before .before .before .before .before .before .before .before .before .before .before .before .before .before .before .before .before .before .before .before .before .before .before .before .before .before .before .before .before .before .before .before .before .before .before .before .before .before .before .before .before .before .before .before .before .before .before .before .width .ensures) (start .pre .1 .0), (start .pre .1 .2), c .before .before .before .bar .ensures .ready))
+decide-line-down-bar-requires-2 t c κs =
+    let start = c .before .before .before .before .before .before .before .before .before .before .before .before .before .before .before .before .before .before .before .before .before .before .before .before .before .before .before .before .before .before .before .before .before .before .before .before .before .before .before .before .before .before .before .before .before .before .before .before .before .before .before .before .before in
+    let width-says = c .before .before .before .before .before .before .before .before .before .before .before .before .before .before .before .before .before .before .before .before .before .before .before .before .before .before .before .before .before .before .before .before .before .before .before .before .before .before .before .before .before .before .before .before .before .before .before .before .before .before .width .ensures in
+    let bar-says = c .before .before .before .bar .ensures in
+    let st = line-is-stored (start .args .kind .now) _ (down (start .args .v)) (start .pre .1 .2) (start .pre .1 .3) (start .pre .1 .0) (c .before .before .before .before .before .before .before .before .before .before .before .before .before .before .before .before .before .before .before .before .before .before .before .before .before .before .before .before .before .before .before .before .before .before .before .before .before .before .before .before .before .before .before .before .before .before .before .before .before .before .before .if1 .taken) _ (ap (_+_ (start .args .v)) (width-says)) _ (c .before .before .before .before .before .before .before .before .before .before .before .before .before .before .before .before .before .before .before .before .before .before .before .before .before .before .before .before .before .before .before .before .before .before .before .before .before .before .before .before .begin-line .ensures) (c .before .before .before .before .before .before .before .before .before .before .before .before .before .before .before .before .before .before .before .before .before .before .before .before .before .before .before .before .before .before .before .before .before .before .before .before .before .before .before .if2 .left) in ((omega (arith, start .pre .0, st .less, c .before .before .before .before .before .before .before .before .before .before .before .before .before .before .before .before .before .before .before .before .before .before .before .before .before .before .before .before .before .before .before .before .before .before .before .detour .ensures .fewer, c .before .before .before .before .before .before .before .before .before .before .before .before .before .before .before .before .before .before .before .before .before .before .before .before .before .before .before .before .before .before .before .detour2 .ensures .fewer, c .before .before .before .before .before .before .before .before .before .before .before .before .before .before .before .before .before .before .before .before .before .before .before .before .before .before .before .detour3 .ensures .fewer, c .before .before .before .before .before .before .before .before .before .before .before .before .before .before .before .before .before .before .before .before .before .before .before .detour4 .ensures .fewer, c .before .before .before .before .before .before .before .before .before .before .before .before .before .before .before .before .before .before .before .detour5 .ensures .fewer, c .before .before .before .before .before .before .before .before .before .before .before .before .before .before .before .detour6 .ensures .fewer, c .before .before .before .before .before .before .before .before .before .before .before .corner-left .ensures .fewer, c .before .before .before .before .before .before .before .corner-right .ensures .fewer, bar-says .fewer)), ((omega (arith, (start .pre .1 .1), (start .pre .1 .2) .largest-width, width-says)), (omega (arith, (start .pre .1 .1), (start .pre .1 .2) .largest-width, width-says)), down-right-bar-on (start .args .kind .now) (start .pre .1 .2) ((start .pre .1 .3) .few-pads) (start .args .v) _ (width-says) (start .pre .1 .0), (start .pre .1 .2), bar-says .ready))
 
 decide-line-down-check-requires : (t : ℕ) → decide-line-down-lts.Need-check-requires (decide-line-down-claims t) (decide-line-down-at t) decide-line-down.Post
-decide-line-down-check-requires t c κs = let start = c .before .before .before .before .before .before .before .before .before .before .before .before .before .before .before .before .before .before .before .before .before .before .before .before .before .before .before .before .before .before .before .before .before .before .before .before .before .before .before .before .before .before .before .before .before .before .before .before .before .before .before .before .before .before .before .before .before in let st = line-is-stored (start .args .kind .now) _ (down (start .args .v)) (start .pre .1 .2) (start .pre .1 .3) (start .pre .1 .0) (c .before .before .before .before .before .before .before .before .before .before .before .before .before .before .before .before .before .before .before .before .before .before .before .before .before .before .before .before .before .before .before .before .before .before .before .before .before .before .before .before .before .before .before .before .before .before .before .before .before .before .before .before .before .before .before .if1 .taken) _ (ap (_+_ (start .args .v)) (c .before .before .before .before .before .before .before .before .before .before .before .before .before .before .before .before .before .before .before .before .before .before .before .before .before .before .before .before .before .before .before .before .before .before .before .before .before .before .before .before .before .before .before .before .before .before .before .before .before .before .before .before .before .before .width .ensures)) _ (c .before .before .before .before .before .before .before .before .before .before .before .before .before .before .before .before .before .before .before .before .before .before .before .before .before .before .before .before .before .before .before .before .before .before .before .before .before .before .before .before .before .before .before .before .begin-line .ensures) (c .before .before .before .before .before .before .before .before .before .before .before .before .before .before .before .before .before .before .before .before .before .before .before .before .before .before .before .before .before .before .before .before .before .before .before .before .before .before .before .before .before .before .before .if2 .left) in ((omega (arith, start .pre .0, st .less, c .before .before .before .before .before .before .before .before .before .before .before .before .before .before .before .before .before .before .before .before .before .before .before .before .before .before .before .before .before .before .before .before .before .before .before .before .before .before .before .detour .ensures .fewer, c .before .before .before .before .before .before .before .before .before .before .before .before .before .before .before .before .before .before .before .before .before .before .before .before .before .before .before .before .before .before .before .before .before .before .before .detour2 .ensures .fewer, c .before .before .before .before .before .before .before .before .before .before .before .before .before .before .before .before .before .before .before .before .before .before .before .before .before .before .before .before .before .before .before .detour3 .ensures .fewer, c .before .before .before .before .before .before .before .before .before .before .before .before .before .before .before .before .before .before .before .before .before .before .before .before .before .before .before .detour4 .ensures .fewer, c .before .before .before .before .before .before .before .before .before .before .before .before .before .before .before .before .before .before .before .before .before .before .before .detour5 .ensures .fewer, c .before .before .before .before .before .before .before .before .before .before .before .before .before .before .before .before .before .before .before .detour6 .ensures .fewer, c .before .before .before .before .before .before .before .before .before .before .before .before .before .before .before .corner-left .ensures .fewer, c .before .before .before .before .before .before .before .before .before .before .before .corner-right .ensures .fewer, c .before .before .before .before .before .before .before .bar .ensures .fewer, c .before .before .before .bar2 .ensures .fewer)), ((omega (arith, (line-first (start .args .kind .now) _ (down (start .args .v)) (start .pre .1 .2) (start .pre .1 .3) (start .pre .1 .0) (c .before .before .before .before .before .before .before .before .before .before .before .before .before .before .before .before .before .before .before .before .before .before .before .before .before .before .before .before .before .before .before .before .before .before .before .before .before .before .before .before .before .before .before .before .before .before .before .before .before .before .before .before .before .before .before .if1 .taken) _ (ap (_+_ (start .args .v)) (c .before .before .before .before .before .before .before .before .before .before .before .before .before .before .before .before .before .before .before .before .before .before .before .before .before .before .before .before .before .before .before .before .before .before .before .before .before .before .before .before .before .before .before .before .before .before .before .before .before .before .before .before .before .before .width .ensures))), (start .pre .1 .3) .few-pads)), (λ h. (line-first (start .args .kind .now) _ (down (start .args .v)) (start .pre .1 .2) (start .pre .1 .3) (start .pre .1 .0) (c .before .before .before .before .before .before .before .before .before .before .before .before .before .before .before .before .before .before .before .before .before .before .before .before .before .before .before .before .before .before .before .before .before .before .before .before .before .before .before .before .before .before .before .before .before .before .before .before .before .before .before .before .before .before .before .if1 .taken) _ (ap (_+_ (start .args .v)) (c .before .before .before .before .before .before .before .before .before .before .before .before .before .before .before .before .before .before .before .before .before .before .before .before .before .before .before .before .before .before .before .before .before .before .before .before .before .before .before .before .before .before .before .before .before .before .before .before .before .before .before .before .before .before .width .ensures)))), (start .pre .1 .2), c .before .before .before .bar2 .ensures .ready))
+decide-line-down-check-requires t c κs =
+    let start = c .before .before .before .before .before .before .before .before .before .before .before .before .before .before .before .before .before .before .before .before .before .before .before .before .before .before .before .before .before .before .before .before .before .before .before .before .before .before .before .before .before .before .before .before .before .before .before .before .before .before .before .before .before .before .before .before .before in
+    let if1-taken = c .before .before .before .before .before .before .before .before .before .before .before .before .before .before .before .before .before .before .before .before .before .before .before .before .before .before .before .before .before .before .before .before .before .before .before .before .before .before .before .before .before .before .before .before .before .before .before .before .before .before .before .before .before .before .before .if1 .taken in
+    let width-says = c .before .before .before .before .before .before .before .before .before .before .before .before .before .before .before .before .before .before .before .before .before .before .before .before .before .before .before .before .before .before .before .before .before .before .before .before .before .before .before .before .before .before .before .before .before .before .before .before .before .before .before .before .before .before .width .ensures in
+    let bar2-says = c .before .before .before .bar2 .ensures in
+    let st = line-is-stored (start .args .kind .now) _ (down (start .args .v)) (start .pre .1 .2) (start .pre .1 .3) (start .pre .1 .0) (if1-taken) _ (ap (_+_ (start .args .v)) (width-says)) _ (c .before .before .before .before .before .before .before .before .before .before .before .before .before .before .before .before .before .before .before .before .before .before .before .before .before .before .before .before .before .before .before .before .before .before .before .before .before .before .before .before .before .before .before .before .begin-line .ensures) (c .before .before .before .before .before .before .before .before .before .before .before .before .before .before .before .before .before .before .before .before .before .before .before .before .before .before .before .before .before .before .before .before .before .before .before .before .before .before .before .before .before .before .before .if2 .left) in ((omega (arith, start .pre .0, st .less, c .before .before .before .before .before .before .before .before .before .before .before .before .before .before .before .before .before .before .before .before .before .before .before .before .before .before .before .before .before .before .before .before .before .before .before .before .before .before .before .detour .ensures .fewer, c .before .before .before .before .before .before .before .before .before .before .before .before .before .before .before .before .before .before .before .before .before .before .before .before .before .before .before .before .before .before .before .before .before .before .before .detour2 .ensures .fewer, c .before .before .before .before .before .before .before .before .before .before .before .before .before .before .before .before .before .before .before .before .before .before .before .before .before .before .before .before .before .before .before .detour3 .ensures .fewer, c .before .before .before .before .before .before .before .before .before .before .before .before .before .before .before .before .before .before .before .before .before .before .before .before .before .before .before .detour4 .ensures .fewer, c .before .before .before .before .before .before .before .before .before .before .before .before .before .before .before .before .before .before .before .before .before .before .before .detour5 .ensures .fewer, c .before .before .before .before .before .before .before .before .before .before .before .before .before .before .before .before .before .before .before .detour6 .ensures .fewer, c .before .before .before .before .before .before .before .before .before .before .before .before .before .before .before .corner-left .ensures .fewer, c .before .before .before .before .before .before .before .before .before .before .before .corner-right .ensures .fewer, c .before .before .before .before .before .before .before .bar .ensures .fewer, bar2-says .fewer)), ((omega (arith, (line-first (start .args .kind .now) _ (down (start .args .v)) (start .pre .1 .2) (start .pre .1 .3) (start .pre .1 .0) (if1-taken) _ (ap (_+_ (start .args .v)) (width-says))), (start .pre .1 .3) .few-pads)), (λ h. (line-first (start .args .kind .now) _ (down (start .args .v)) (start .pre .1 .2) (start .pre .1 .3) (start .pre .1 .0) (if1-taken) _ (ap (_+_ (start .args .v)) (width-says)))), (start .pre .1 .2), bar2-says .ready))
 
 decide-line-down-check-requires-2 : (t : ℕ) → decide-line-down-lts.Need-check-requires-2 (decide-line-down-claims t) (decide-line-down-at t) decide-line-down.Post
-decide-line-down-check-requires-2 t c κs = let start = c .before .before .before .before .before .before .before .before .before .before .before .before .before .before .before .before .before .before .before .before .before .before .before .before .before .before .before .before .before .before .before .before .before .before .before .before .before .before .before .before .before .before .before .before .before .before .before .before .before .before .before .before .before .before .before .before .before .before .before .before .before in let st = line-is-stored (start .args .kind .now) _ (down (start .args .v)) (start .pre .1 .2) (start .pre .1 .3) (start .pre .1 .0) (c .before .before .before .before .before .before .before .before .before .before .before .before .before .before .before .before .before .before .before .before .before .before .before .before .before .before .before .before .before .before .before .before .before .before .before .before .before .before .before .before .before .before .before .before .before .before .before .before .before .before .before .before .before .before .before .before .before .before .before .if1 .taken) _ (ap (_+_ (start .args .v)) (c .before .before .before .before .before .before .before .before .before .before .before .before .before .before .before .before .before .before .before .before .before .before .before .before .before .before .before .before .before .before .before .before .before .before .before .before .before .before .before .before .before .before .before .before .before .before .before .before .before .before .before .before .before .before .before .before .before .before .width .ensures)) _ (c .before .before .before .before .before .before .before .before .before .before .before .before .before .before .before .before .before .before .before .before .before .before .before .before .before .before .before .before .before .before .before .before .before .before .before .before .before .before .before .before .before .before .before .before .before .before .before .before .begin-line .ensures) (c .before .before .before .before .before .before .before .before .before .before .before .before .before .before .before .before .before .before .before .before .before .before .before .before .before .before .before .before .before .before .before .before .before .before .before .before .before .before .before .before .before .before .before .before .before .before .before .if2 .left) in ((omega (arith, start .pre .0, st .less, c .before .before .before .before .before .before .before .before .before .before .before .before .before .before .before .before .before .before .before .before .before .before .before .before .before .before .before .before .before .before .before .before .before .before .before .before .before .before .before .before .before .before .before .detour .ensures .fewer, c .before .before .before .before .before .before .before .before .before .before .before .before .before .before .before .before .before .before .before .before .before .before .before .before .before .before .before .before .before .before .before .before .before .before .before .before .before .before .before .detour2 .ensures .fewer, c .before .before .before .before .before .before .before .before .before .before .before .before .before .before .before .before .before .before .before .before .before .before .before .before .before .before .before .before .before .before .before .before .before .before .before .detour3 .ensures .fewer, c .before .before .before .before .before .before .before .before .before .before .before .before .before .before .before .before .before .before .before .before .before .before .before .before .before .before .before .before .before .before .before .detour4 .ensures .fewer, c .before .before .before .before .before .before .before .before .before .before .before .before .before .before .before .before .before .before .before .before .before .before .before .before .before .before .before .detour5 .ensures .fewer, c .before .before .before .before .before .before .before .before .before .before .before .before .before .before .before .before .before .before .before .before .before .before .before .detour6 .ensures .fewer, c .before .before .before .before .before .before .before .before .before .before .before .before .before .before .before .before .before .before .before .corner-left .ensures .fewer, c .before .before .before .before .before .before .before .before .before .before .before .before .before .before .before .corner-right .ensures .fewer, c .before .before .before .before .before .before .before .before .before .before .before .bar .ensures .fewer, c .before .before .before .before .before .before .before .bar2 .ensures .fewer, c .before .before .before .check .ensures .fewer)), ((omega (arith, (line-second (start .args .kind .now) _ (down (start .args .v)) (start .pre .1 .2) (start .pre .1 .3) (start .pre .1 .0) (c .before .before .before .before .before .before .before .before .before .before .before .before .before .before .before .before .before .before .before .before .before .before .before .before .before .before .before .before .before .before .before .before .before .before .before .before .before .before .before .before .before .before .before .before .before .before .before .before .before .before .before .before .before .before .before .before .before .before .before .if1 .taken) _ (ap (_+_ (start .args .v)) (c .before .before .before .before .before .before .before .before .before .before .before .before .before .before .before .before .before .before .before .before .before .before .before .before .before .before .before .before .before .before .before .before .before .before .before .before .before .before .before .before .before .before .before .before .before .before .before .before .before .before .before .before .before .before .before .before .before .before .width .ensures))), (start .pre .1 .3) .few-pads)), (λ h. (line-second (start .args .kind .now) _ (down (start .args .v)) (start .pre .1 .2) (start .pre .1 .3) (start .pre .1 .0) (c .before .before .before .before .before .before .before .before .before .before .before .before .before .before .before .before .before .before .before .before .before .before .before .before .before .before .before .before .before .before .before .before .before .before .before .before .before .before .before .before .before .before .before .before .before .before .before .before .before .before .before .before .before .before .before .before .before .before .before .if1 .taken) _ (ap (_+_ (start .args .v)) (c .before .before .before .before .before .before .before .before .before .before .before .before .before .before .before .before .before .before .before .before .before .before .before .before .before .before .before .before .before .before .before .before .before .before .before .before .before .before .before .before .before .before .before .before .before .before .before .before .before .before .before .before .before .before .before .before .before .before .width .ensures)))), (start .pre .1 .2), c .before .before .before .check .ensures .ready))
+decide-line-down-check-requires-2 t c κs =
+    let start = c .before .before .before .before .before .before .before .before .before .before .before .before .before .before .before .before .before .before .before .before .before .before .before .before .before .before .before .before .before .before .before .before .before .before .before .before .before .before .before .before .before .before .before .before .before .before .before .before .before .before .before .before .before .before .before .before .before .before .before .before .before in
+    let if1-taken = c .before .before .before .before .before .before .before .before .before .before .before .before .before .before .before .before .before .before .before .before .before .before .before .before .before .before .before .before .before .before .before .before .before .before .before .before .before .before .before .before .before .before .before .before .before .before .before .before .before .before .before .before .before .before .before .before .before .before .before .if1 .taken in
+    let width-says = c .before .before .before .before .before .before .before .before .before .before .before .before .before .before .before .before .before .before .before .before .before .before .before .before .before .before .before .before .before .before .before .before .before .before .before .before .before .before .before .before .before .before .before .before .before .before .before .before .before .before .before .before .before .before .before .before .before .before .width .ensures in
+    let check-says = c .before .before .before .check .ensures in
+    let st = line-is-stored (start .args .kind .now) _ (down (start .args .v)) (start .pre .1 .2) (start .pre .1 .3) (start .pre .1 .0) (if1-taken) _ (ap (_+_ (start .args .v)) (width-says)) _ (c .before .before .before .before .before .before .before .before .before .before .before .before .before .before .before .before .before .before .before .before .before .before .before .before .before .before .before .before .before .before .before .before .before .before .before .before .before .before .before .before .before .before .before .before .before .before .before .before .begin-line .ensures) (c .before .before .before .before .before .before .before .before .before .before .before .before .before .before .before .before .before .before .before .before .before .before .before .before .before .before .before .before .before .before .before .before .before .before .before .before .before .before .before .before .before .before .before .before .before .before .before .if2 .left) in ((omega (arith, start .pre .0, st .less, c .before .before .before .before .before .before .before .before .before .before .before .before .before .before .before .before .before .before .before .before .before .before .before .before .before .before .before .before .before .before .before .before .before .before .before .before .before .before .before .before .before .before .before .detour .ensures .fewer, c .before .before .before .before .before .before .before .before .before .before .before .before .before .before .before .before .before .before .before .before .before .before .before .before .before .before .before .before .before .before .before .before .before .before .before .before .before .before .before .detour2 .ensures .fewer, c .before .before .before .before .before .before .before .before .before .before .before .before .before .before .before .before .before .before .before .before .before .before .before .before .before .before .before .before .before .before .before .before .before .before .before .detour3 .ensures .fewer, c .before .before .before .before .before .before .before .before .before .before .before .before .before .before .before .before .before .before .before .before .before .before .before .before .before .before .before .before .before .before .before .detour4 .ensures .fewer, c .before .before .before .before .before .before .before .before .before .before .before .before .before .before .before .before .before .before .before .before .before .before .before .before .before .before .before .detour5 .ensures .fewer, c .before .before .before .before .before .before .before .before .before .before .before .before .before .before .before .before .before .before .before .before .before .before .before .detour6 .ensures .fewer, c .before .before .before .before .before .before .before .before .before .before .before .before .before .before .before .before .before .before .before .corner-left .ensures .fewer, c .before .before .before .before .before .before .before .before .before .before .before .before .before .before .before .corner-right .ensures .fewer, c .before .before .before .before .before .before .before .before .before .before .before .bar .ensures .fewer, c .before .before .before .before .before .before .before .bar2 .ensures .fewer, check-says .fewer)), ((omega (arith, (line-second (start .args .kind .now) _ (down (start .args .v)) (start .pre .1 .2) (start .pre .1 .3) (start .pre .1 .0) (if1-taken) _ (ap (_+_ (start .args .v)) (width-says))), (start .pre .1 .3) .few-pads)), (λ h. (line-second (start .args .kind .now) _ (down (start .args .v)) (start .pre .1 .2) (start .pre .1 .3) (start .pre .1 .0) (if1-taken) _ (ap (_+_ (start .args .v)) (width-says)))), (start .pre .1 .2), check-says .ready))
 
 decide-line-down-check-requires-3 : (t : ℕ) → decide-line-down-lts.Need-check-requires-3 (decide-line-down-claims t) (decide-line-down-at t) decide-line-down.Post
-decide-line-down-check-requires-3 t c κs = let start = c .before .before .before .before .before .before .before .before .before .before .before .before .before .before .before .before .before .before .before .before .before .before .before .before .before .before .before .before .before .before .before .before .before .before .before .before .before .before .before .before .before .before .before .before .before .before .before .before .before .before .before .before .before .before .before .before .before .before .before .before .before .before .before .before .before in let st = line-is-stored (start .args .kind .now) _ (down (start .args .v)) (start .pre .1 .2) (start .pre .1 .3) (start .pre .1 .0) (c .before .before .before .before .before .before .before .before .before .before .before .before .before .before .before .before .before .before .before .before .before .before .before .before .before .before .before .before .before .before .before .before .before .before .before .before .before .before .before .before .before .before .before .before .before .before .before .before .before .before .before .before .before .before .before .before .before .before .before .before .before .before .before .if1 .taken) _ (ap (_+_ (start .args .v)) (c .before .before .before .before .before .before .before .before .before .before .before .before .before .before .before .before .before .before .before .before .before .before .before .before .before .before .before .before .before .before .before .before .before .before .before .before .before .before .before .before .before .before .before .before .before .before .before .before .before .before .before .before .before .before .before .before .before .before .before .before .before .before .width .ensures)) _ (c .before .before .before .before .before .before .before .before .before .before .before .before .before .before .before .before .before .before .before .before .before .before .before .before .before .before .before .before .before .before .before .before .before .before .before .before .before .before .before .before .before .before .before .before .before .before .before .before .before .before .before .before .begin-line .ensures) (c .before .before .before .before .before .before .before .before .before .before .before .before .before .before .before .before .before .before .before .before .before .before .before .before .before .before .before .before .before .before .before .before .before .before .before .before .before .before .before .before .before .before .before .before .before .before .before .before .before .before .before .if2 .left) in ((omega (arith, start .pre .0, st .less, c .before .before .before .before .before .before .before .before .before .before .before .before .before .before .before .before .before .before .before .before .before .before .before .before .before .before .before .before .before .before .before .before .before .before .before .before .before .before .before .before .before .before .before .before .before .before .before .detour .ensures .fewer, c .before .before .before .before .before .before .before .before .before .before .before .before .before .before .before .before .before .before .before .before .before .before .before .before .before .before .before .before .before .before .before .before .before .before .before .before .before .before .before .before .before .before .before .detour2 .ensures .fewer, c .before .before .before .before .before .before .before .before .before .before .before .before .before .before .before .before .before .before .before .before .before .before .before .before .before .before .before .before .before .before .before .before .before .before .before .before .before .before .before .detour3 .ensures .fewer, c .before .before .before .before .before .before .before .before .before .before .before .before .before .before .before .before .before .before .before .before .before .before .before .before .before .before .before .before .before .before .before .before .before .before .before .detour4 .ensures .fewer, c .before .before .before .before .before .before .before .before .before .before .before .before .before .before .before .before .before .before .before .before .before .before .before .before .before .before .before .before .before .before .before .detour5 .ensures .fewer, c .before .before .before .before .before .before .before .before .before .before .before .before .before .before .before .before .before .before .before .before .before .before .before .before .before .before .before .detour6 .ensures .fewer, c .before .before .before .before .before .before .before .before .before .before .before .before .before .before .before .before .before .before .before .before .before .before .before .corner-left .ensures .fewer, c .before .before .before .before .before .before .before .before .before .before .before .before .before .before .before .before .before .before .before .corner-right .ensures .fewer, c .before .before .before .before .before .before .before .before .before .before .before .before .before .before .before .bar .ensures .fewer, c .before .before .before .before .before .before .before .before .before .before .before .bar2 .ensures .fewer, c .before .before .before .before .before .before .before .check .ensures .fewer, c .before .before .before .check2 .ensures .fewer)), ((line-end (start .args .kind .now) _ (down (start .args .v)) (start .pre .1 .2) (start .pre .1 .3) (start .pre .1 .0) (c .before .before .before .before .before .before .before .before .before .before .before .before .before .before .before .before .before .before .before .before .before .before .before .before .before .before .before .before .before .before .before .before .before .before .before .before .before .before .before .before .before .before .before .before .before .before .before .before .before .before .before .before .before .before .before .before .before .before .before .before .before .before .before .if1 .taken) _ (ap (_+_ (start .args .v)) (c .before .before .before .before .before .before .before .before .before .before .before .before .before .before .before .before .before .before .before .before .before .before .before .before .before .before .before .before .before .before .before .before .before .before .before .before .before .before .before .before .before .before .before .before .before .before .before .before .before .before .before .before .before .before .before .before .before .before .before .before .before .before .width .ensures)) (start .args .v) (line-first (start .args .kind .now) _ (down (start .args .v)) (start .pre .1 .2) (start .pre .1 .3) (start .pre .1 .0) (c .before .before .before .before .before .before .before .before .before .before .before .before .before .before .before .before .before .before .before .before .before .before .before .before .before .before .before .before .before .before .before .before .before .before .before .before .before .before .before .before .before .before .before .before .before .before .before .before .before .before .before .before .before .before .before .before .before .before .before .before .before .before .before .if1 .taken) _ (ap (_+_ (start .args .v)) (c .before .before .before .before .before .before .before .before .before .before .before .before .before .before .before .before .before .before .before .before .before .before .before .before .before .before .before .before .before .before .before .before .before .before .before .before .before .before .before .before .before .before .before .before .before .before .before .before .before .before .before .before .before .before .before .before .before .before .before .before .before .before .width .ensures))) _ (c .before .before .before .before .before .before .before .before .before .before .before .before .before .before .before .before .before .before .before .before .before .before .before .before .before .before .before .before .before .before .before .before .before .before .before .before .before .before .before .before .before .before .before .before .before .before .before .before .before .before .before .before .before .before .before .before .before .before .end-pad .ensures)) .0, (line-end (start .args .kind .now) _ (down (start .args .v)) (start .pre .1 .2) (start .pre .1 .3) (start .pre .1 .0) (c .before .before .before .before .before .before .before .before .before .before .before .before .before .before .before .before .before .before .before .before .before .before .before .before .before .before .before .before .before .before .before .before .before .before .before .before .before .before .before .before .before .before .before .before .before .before .before .before .before .before .before .before .before .before .before .before .before .before .before .before .before .before .before .if1 .taken) _ (ap (_+_ (start .args .v)) (c .before .before .before .before .before .before .before .before .before .before .before .before .before .before .before .before .before .before .before .before .before .before .before .before .before .before .before .before .before .before .before .before .before .before .before .before .before .before .before .before .before .before .before .before .before .before .before .before .before .before .before .before .before .before .before .before .before .before .before .before .before .before .width .ensures)) (start .args .v) (line-first (start .args .kind .now) _ (down (start .args .v)) (start .pre .1 .2) (start .pre .1 .3) (start .pre .1 .0) (c .before .before .before .before .before .before .before .before .before .before .before .before .before .before .before .before .before .before .before .before .before .before .before .before .before .before .before .before .before .before .before .before .before .before .before .before .before .before .before .before .before .before .before .before .before .before .before .before .before .before .before .before .before .before .before .before .before .before .before .before .before .before .before .if1 .taken) _ (ap (_+_ (start .args .v)) (c .before .before .before .before .before .before .before .before .before .before .before .before .before .before .before .before .before .before .before .before .before .before .before .before .before .before .before .before .before .before .before .before .before .before .before .before .before .before .before .before .before .before .before .before .before .before .before .before .before .before .before .before .before .before .before .before .before .before .before .before .before .before .width .ensures))) _ (c .before .before .before .before .before .before .before .before .before .before .before .before .before .before .before .before .before .before .before .before .before .before .before .before .before .before .before .before .before .before .before .before .before .before .before .before .before .before .before .before .before .before .before .before .before .before .before .before .before .before .before .before .before .before .before .before .before .before .end-pad .ensures)) .1, (start .pre .1 .2), c .before .before .before .check2 .ensures .ready))
+decide-line-down-check-requires-3 t c κs =
+    let start = c .before .before .before .before .before .before .before .before .before .before .before .before .before .before .before .before .before .before .before .before .before .before .before .before .before .before .before .before .before .before .before .before .before .before .before .before .before .before .before .before .before .before .before .before .before .before .before .before .before .before .before .before .before .before .before .before .before .before .before .before .before .before .before .before .before in
+    let if1-taken = c .before .before .before .before .before .before .before .before .before .before .before .before .before .before .before .before .before .before .before .before .before .before .before .before .before .before .before .before .before .before .before .before .before .before .before .before .before .before .before .before .before .before .before .before .before .before .before .before .before .before .before .before .before .before .before .before .before .before .before .before .before .before .before .if1 .taken in
+    let width-says = c .before .before .before .before .before .before .before .before .before .before .before .before .before .before .before .before .before .before .before .before .before .before .before .before .before .before .before .before .before .before .before .before .before .before .before .before .before .before .before .before .before .before .before .before .before .before .before .before .before .before .before .before .before .before .before .before .before .before .before .before .before .before .width .ensures in
+    let check2-says = c .before .before .before .check2 .ensures in
+    let end-pad-says = c .before .before .before .before .before .before .before .before .before .before .before .before .before .before .before .before .before .before .before .before .before .before .before .before .before .before .before .before .before .before .before .before .before .before .before .before .before .before .before .before .before .before .before .before .before .before .before .before .before .before .before .before .before .before .before .before .before .before .end-pad .ensures in
+    let st = line-is-stored (start .args .kind .now) _ (down (start .args .v)) (start .pre .1 .2) (start .pre .1 .3) (start .pre .1 .0) (if1-taken) _ (ap (_+_ (start .args .v)) (width-says)) _ (c .before .before .before .before .before .before .before .before .before .before .before .before .before .before .before .before .before .before .before .before .before .before .before .before .before .before .before .before .before .before .before .before .before .before .before .before .before .before .before .before .before .before .before .before .before .before .before .before .before .before .before .before .begin-line .ensures) (c .before .before .before .before .before .before .before .before .before .before .before .before .before .before .before .before .before .before .before .before .before .before .before .before .before .before .before .before .before .before .before .before .before .before .before .before .before .before .before .before .before .before .before .before .before .before .before .before .before .before .before .if2 .left) in ((omega (arith, start .pre .0, st .less, c .before .before .before .before .before .before .before .before .before .before .before .before .before .before .before .before .before .before .before .before .before .before .before .before .before .before .before .before .before .before .before .before .before .before .before .before .before .before .before .before .before .before .before .before .before .before .before .detour .ensures .fewer, c .before .before .before .before .before .before .before .before .before .before .before .before .before .before .before .before .before .before .before .before .before .before .before .before .before .before .before .before .before .before .before .before .before .before .before .before .before .before .before .before .before .before .before .detour2 .ensures .fewer, c .before .before .before .before .before .before .before .before .before .before .before .before .before .before .before .before .before .before .before .before .before .before .before .before .before .before .before .before .before .before .before .before .before .before .before .before .before .before .before .detour3 .ensures .fewer, c .before .before .before .before .before .before .before .before .before .before .before .before .before .before .before .before .before .before .before .before .before .before .before .before .before .before .before .before .before .before .before .before .before .before .before .detour4 .ensures .fewer, c .before .before .before .before .before .before .before .before .before .before .before .before .before .before .before .before .before .before .before .before .before .before .before .before .before .before .before .before .before .before .before .detour5 .ensures .fewer, c .before .before .before .before .before .before .before .before .before .before .before .before .before .before .before .before .before .before .before .before .before .before .before .before .before .before .before .detour6 .ensures .fewer, c .before .before .before .before .before .before .before .before .before .before .before .before .before .before .before .before .before .before .before .before .before .before .before .corner-left .ensures .fewer, c .before .before .before .before .before .before .before .before .before .before .before .before .before .before .before .before .before .before .before .corner-right .ensures .fewer, c .before .before .before .before .before .before .before .before .before .before .before .before .before .before .before .bar .ensures .fewer, c .before .before .before .before .before .before .before .before .before .before .before .bar2 .ensures .fewer, c .before .before .before .before .before .before .before .check .ensures .fewer, check2-says .fewer)), ((line-end (start .args .kind .now) _ (down (start .args .v)) (start .pre .1 .2) (start .pre .1 .3) (start .pre .1 .0) (if1-taken) _ (ap (_+_ (start .args .v)) (width-says)) (start .args .v) (line-first (start .args .kind .now) _ (down (start .args .v)) (start .pre .1 .2) (start .pre .1 .3) (start .pre .1 .0) (if1-taken) _ (ap (_+_ (start .args .v)) (width-says))) _ (end-pad-says)) .0, (line-end (start .args .kind .now) _ (down (start .args .v)) (start .pre .1 .2) (start .pre .1 .3) (start .pre .1 .0) (if1-taken) _ (ap (_+_ (start .args .v)) (width-says)) (start .args .v) (line-first (start .args .kind .now) _ (down (start .args .v)) (start .pre .1 .2) (start .pre .1 .3) (start .pre .1 .0) (if1-taken) _ (ap (_+_ (start .args .v)) (width-says))) _ (end-pad-says)) .1, (start .pre .1 .2), check2-says .ready))
 
 decide-line-down-check-requires-4 : (t : ℕ) → decide-line-down-lts.Need-check-requires-4 (decide-line-down-claims t) (decide-line-down-at t) decide-line-down.Post
-decide-line-down-check-requires-4 t c κs = let start = c .before .before .before .before .before .before .before .before .before .before .before .before .before .before .before .before .before .before .before .before .before .before .before .before .before .before .before .before .before .before .before .before .before .before .before .before .before .before .before .before .before .before .before .before .before .before .before .before .before .before .before .before .before .before .before .before .before .before .before .before .before .before .before .before .before .before .before .before .before in let st = line-is-stored (start .args .kind .now) _ (down (start .args .v)) (start .pre .1 .2) (start .pre .1 .3) (start .pre .1 .0) (c .before .before .before .before .before .before .before .before .before .before .before .before .before .before .before .before .before .before .before .before .before .before .before .before .before .before .before .before .before .before .before .before .before .before .before .before .before .before .before .before .before .before .before .before .before .before .before .before .before .before .before .before .before .before .before .before .before .before .before .before .before .before .before .before .before .before .before .if1 .taken) _ (ap (_+_ (start .args .v)) (c .before .before .before .before .before .before .before .before .before .before .before .before .before .before .before .before .before .before .before .before .before .before .before .before .before .before .before .before .before .before .before .before .before .before .before .before .before .before .before .before .before .before .before .before .before .before .before .before .before .before .before .before .before .before .before .before .before .before .before .before .before .before .before .before .before .before .width .ensures)) _ (c .before .before .before .before .before .before .before .before .before .before .before .before .before .before .before .before .before .before .before .before .before .before .before .before .before .before .before .before .before .before .before .before .before .before .before .before .before .before .before .before .before .before .before .before .before .before .before .before .before .before .before .before .before .before .before .before .begin-line .ensures) (c .before .before .before .before .before .before .before .before .before .before .before .before .before .before .before .before .before .before .before .before .before .before .before .before .before .before .before .before .before .before .before .before .before .before .before .before .before .before .before .before .before .before .before .before .before .before .before .before .before .before .before .before .before .before .before .if2 .left) in ((omega (arith, start .pre .0, st .less, c .before .before .before .before .before .before .before .before .before .before .before .before .before .before .before .before .before .before .before .before .before .before .before .before .before .before .before .before .before .before .before .before .before .before .before .before .before .before .before .before .before .before .before .before .before .before .before .before .before .before .before .detour .ensures .fewer, c .before .before .before .before .before .before .before .before .before .before .before .before .before .before .before .before .before .before .before .before .before .before .before .before .before .before .before .before .before .before .before .before .before .before .before .before .before .before .before .before .before .before .before .before .before .before .before .detour2 .ensures .fewer, c .before .before .before .before .before .before .before .before .before .before .before .before .before .before .before .before .before .before .before .before .before .before .before .before .before .before .before .before .before .before .before .before .before .before .before .before .before .before .before .before .before .before .before .detour3 .ensures .fewer, c .before .before .before .before .before .before .before .before .before .before .before .before .before .before .before .before .before .before .before .before .before .before .before .before .before .before .before .before .before .before .before .before .before .before .before .before .before .before .before .detour4 .ensures .fewer, c .before .before .before .before .before .before .before .before .before .before .before .before .before .before .before .before .before .before .before .before .before .before .before .before .before .before .before .before .before .before .before .before .before .before .before .detour5 .ensures .fewer, c .before .before .before .before .before .before .before .before .before .before .before .before .before .before .before .before .before .before .before .before .before .before .before .before .before .before .before .before .before .before .before .detour6 .ensures .fewer, c .before .before .before .before .before .before .before .before .before .before .before .before .before .before .before .before .before .before .before .before .before .before .before .before .before .before .before .corner-left .ensures .fewer, c .before .before .before .before .before .before .before .before .before .before .before .before .before .before .before .before .before .before .before .before .before .before .before .corner-right .ensures .fewer, c .before .before .before .before .before .before .before .before .before .before .before .before .before .before .before .before .before .before .before .bar .ensures .fewer, c .before .before .before .before .before .before .before .before .before .before .before .before .before .before .before .bar2 .ensures .fewer, c .before .before .before .before .before .before .before .before .before .before .before .check .ensures .fewer, c .before .before .before .before .before .before .before .check2 .ensures .fewer, c .before .before .before .check3 .ensures .fewer)), ((line-end (start .args .kind .now) _ (down (start .args .v)) (start .pre .1 .2) (start .pre .1 .3) (start .pre .1 .0) (c .before .before .before .before .before .before .before .before .before .before .before .before .before .before .before .before .before .before .before .before .before .before .before .before .before .before .before .before .before .before .before .before .before .before .before .before .before .before .before .before .before .before .before .before .before .before .before .before .before .before .before .before .before .before .before .before .before .before .before .before .before .before .before .before .before .before .before .if1 .taken) _ (ap (_+_ (start .args .v)) (c .before .before .before .before .before .before .before .before .before .before .before .before .before .before .before .before .before .before .before .before .before .before .before .before .before .before .before .before .before .before .before .before .before .before .before .before .before .before .before .before .before .before .before .before .before .before .before .before .before .before .before .before .before .before .before .before .before .before .before .before .before .before .before .before .before .before .width .ensures)) _ (line-second (start .args .kind .now) _ (down (start .args .v)) (start .pre .1 .2) (start .pre .1 .3) (start .pre .1 .0) (c .before .before .before .before .before .before .before .before .before .before .before .before .before .before .before .before .before .before .before .before .before .before .before .before .before .before .before .before .before .before .before .before .before .before .before .before .before .before .before .before .before .before .before .before .before .before .before .before .before .before .before .before .before .before .before .before .before .before .before .before .before .before .before .before .before .before .before .if1 .taken) _ (ap (_+_ (start .args .v)) (c .before .before .before .before .before .before .before .before .before .before .before .before .before .before .before .before .before .before .before .before .before .before .before .before .before .before .before .before .before .before .before .before .before .before .before .before .before .before .before .before .before .before .before .before .before .before .before .before .before .before .before .before .before .before .before .before .before .before .before .before .before .before .before .before .before .before .width .ensures))) _ (c .before .before .before .before .before .before .before .before .before .before .before .before .before .before .before .before .before .before .before .before .before .before .before .before .before .before .before .before .before .before .before .before .before .before .before .before .before .before .before .before .before .before .before .before .before .before .before .before .before .before .before .before .before .before .before .before .before .before .before .before .end-pad2 .ensures)) .0, (line-end (start .args .kind .now) _ (down (start .args .v)) (start .pre .1 .2) (start .pre .1 .3) (start .pre .1 .0) (c .before .before .before .before .before .before .before .before .before .before .before .before .before .before .before .before .before .before .before .before .before .before .before .before .before .before .before .before .before .before .before .before .before .before .before .before .before .before .before .before .before .before .before .before .before .before .before .before .before .before .before .before .before .before .before .before .before .before .before .before .before .before .before .before .before .before .before .if1 .taken) _ (ap (_+_ (start .args .v)) (c .before .before .before .before .before .before .before .before .before .before .before .before .before .before .before .before .before .before .before .before .before .before .before .before .before .before .before .before .before .before .before .before .before .before .before .before .before .before .before .before .before .before .before .before .before .before .before .before .before .before .before .before .before .before .before .before .before .before .before .before .before .before .before .before .before .before .width .ensures)) _ (line-second (start .args .kind .now) _ (down (start .args .v)) (start .pre .1 .2) (start .pre .1 .3) (start .pre .1 .0) (c .before .before .before .before .before .before .before .before .before .before .before .before .before .before .before .before .before .before .before .before .before .before .before .before .before .before .before .before .before .before .before .before .before .before .before .before .before .before .before .before .before .before .before .before .before .before .before .before .before .before .before .before .before .before .before .before .before .before .before .before .before .before .before .before .before .before .before .if1 .taken) _ (ap (_+_ (start .args .v)) (c .before .before .before .before .before .before .before .before .before .before .before .before .before .before .before .before .before .before .before .before .before .before .before .before .before .before .before .before .before .before .before .before .before .before .before .before .before .before .before .before .before .before .before .before .before .before .before .before .before .before .before .before .before .before .before .before .before .before .before .before .before .before .before .before .before .before .width .ensures))) _ (c .before .before .before .before .before .before .before .before .before .before .before .before .before .before .before .before .before .before .before .before .before .before .before .before .before .before .before .before .before .before .before .before .before .before .before .before .before .before .before .before .before .before .before .before .before .before .before .before .before .before .before .before .before .before .before .before .before .before .before .before .end-pad2 .ensures)) .1, (start .pre .1 .2), c .before .before .before .check3 .ensures .ready))
+decide-line-down-check-requires-4 t c κs =
+    let start = c .before .before .before .before .before .before .before .before .before .before .before .before .before .before .before .before .before .before .before .before .before .before .before .before .before .before .before .before .before .before .before .before .before .before .before .before .before .before .before .before .before .before .before .before .before .before .before .before .before .before .before .before .before .before .before .before .before .before .before .before .before .before .before .before .before .before .before .before .before in
+    let if1-taken = c .before .before .before .before .before .before .before .before .before .before .before .before .before .before .before .before .before .before .before .before .before .before .before .before .before .before .before .before .before .before .before .before .before .before .before .before .before .before .before .before .before .before .before .before .before .before .before .before .before .before .before .before .before .before .before .before .before .before .before .before .before .before .before .before .before .before .before .if1 .taken in
+    let width-says = c .before .before .before .before .before .before .before .before .before .before .before .before .before .before .before .before .before .before .before .before .before .before .before .before .before .before .before .before .before .before .before .before .before .before .before .before .before .before .before .before .before .before .before .before .before .before .before .before .before .before .before .before .before .before .before .before .before .before .before .before .before .before .before .before .before .before .width .ensures in
+    let check3-says = c .before .before .before .check3 .ensures in
+    let end-pad2-says = c .before .before .before .before .before .before .before .before .before .before .before .before .before .before .before .before .before .before .before .before .before .before .before .before .before .before .before .before .before .before .before .before .before .before .before .before .before .before .before .before .before .before .before .before .before .before .before .before .before .before .before .before .before .before .before .before .before .before .before .before .end-pad2 .ensures in
+    let st = line-is-stored (start .args .kind .now) _ (down (start .args .v)) (start .pre .1 .2) (start .pre .1 .3) (start .pre .1 .0) (if1-taken) _ (ap (_+_ (start .args .v)) (width-says)) _ (c .before .before .before .before .before .before .before .before .before .before .before .before .before .before .before .before .before .before .before .before .before .before .before .before .before .before .before .before .before .before .before .before .before .before .before .before .before .before .before .before .before .before .before .before .before .before .before .before .before .before .before .before .before .before .before .before .begin-line .ensures) (c .before .before .before .before .before .before .before .before .before .before .before .before .before .before .before .before .before .before .before .before .before .before .before .before .before .before .before .before .before .before .before .before .before .before .before .before .before .before .before .before .before .before .before .before .before .before .before .before .before .before .before .before .before .before .before .if2 .left) in ((omega (arith, start .pre .0, st .less, c .before .before .before .before .before .before .before .before .before .before .before .before .before .before .before .before .before .before .before .before .before .before .before .before .before .before .before .before .before .before .before .before .before .before .before .before .before .before .before .before .before .before .before .before .before .before .before .before .before .before .before .detour .ensures .fewer, c .before .before .before .before .before .before .before .before .before .before .before .before .before .before .before .before .before .before .before .before .before .before .before .before .before .before .before .before .before .before .before .before .before .before .before .before .before .before .before .before .before .before .before .before .before .before .before .detour2 .ensures .fewer, c .before .before .before .before .before .before .before .before .before .before .before .before .before .before .before .before .before .before .before .before .before .before .before .before .before .before .before .before .before .before .before .before .before .before .before .before .before .before .before .before .before .before .before .detour3 .ensures .fewer, c .before .before .before .before .before .before .before .before .before .before .before .before .before .before .before .before .before .before .before .before .before .before .before .before .before .before .before .before .before .before .before .before .before .before .before .before .before .before .before .detour4 .ensures .fewer, c .before .before .before .before .before .before .before .before .before .before .before .before .before .before .before .before .before .before .before .before .before .before .before .before .before .before .before .before .before .before .before .before .before .before .before .detour5 .ensures .fewer, c .before .before .before .before .before .before .before .before .before .before .before .before .before .before .before .before .before .before .before .before .before .before .before .before .before .before .before .before .before .before .before .detour6 .ensures .fewer, c .before .before .before .before .before .before .before .before .before .before .before .before .before .before .before .before .before .before .before .before .before .before .before .before .before .before .before .corner-left .ensures .fewer, c .before .before .before .before .before .before .before .before .before .before .before .before .before .before .before .before .before .before .before .before .before .before .before .corner-right .ensures .fewer, c .before .before .before .before .before .before .before .before .before .before .before .before .before .before .before .before .before .before .before .bar .ensures .fewer, c .before .before .before .before .before .before .before .before .before .before .before .before .before .before .before .bar2 .ensures .fewer, c .before .before .before .before .before .before .before .before .before .before .before .check .ensures .fewer, c .before .before .before .before .before .before .before .check2 .ensures .fewer, check3-says .fewer)), ((line-end (start .args .kind .now) _ (down (start .args .v)) (start .pre .1 .2) (start .pre .1 .3) (start .pre .1 .0) (if1-taken) _ (ap (_+_ (start .args .v)) (width-says)) _ (line-second (start .args .kind .now) _ (down (start .args .v)) (start .pre .1 .2) (start .pre .1 .3) (start .pre .1 .0) (if1-taken) _ (ap (_+_ (start .args .v)) (width-says))) _ (end-pad2-says)) .0, (line-end (start .args .kind .now) _ (down (start .args .v)) (start .pre .1 .2) (start .pre .1 .3) (start .pre .1 .0) (if1-taken) _ (ap (_+_ (start .args .v)) (width-says)) _ (line-second (start .args .kind .now) _ (down (start .args .v)) (start .pre .1 .2) (start .pre .1 .3) (start .pre .1 .0) (if1-taken) _ (ap (_+_ (start .args .v)) (width-says))) _ (end-pad2-says)) .1, (start .pre .1 .2), check3-says .ready))
 
 decide-line-down-end-requires : (t : ℕ) → decide-line-down-lts.Need-end-requires (decide-line-down-claims t) (decide-line-down-at t) decide-line-down.Post
 decide-line-down-end-requires t c κs = search needs
 
 decide-line-down-returns-2 : (t : ℕ) → decide-line-down-lts.Need-returns-2 (decide-line-down-claims t) (decide-line-down-at t) decide-line-down.Post
-decide-line-down-returns-2 t c = let start = c .before .before .before .before .before .before .before .before .before .before .before .before .before .before .before .before .before .before .before .before .before .before .before .before .before .before .before .before .before .before .before .before .before .before .before .before .before .before .before .before .before .before .before .before .before .before .before .before .before .before .before .before .before .before .before .before .before .before .before .before .before .before .before .before .before .before .before .before .before .before .before in line-returns (start .args .kind .now) _ (down (start .args .v)) (start .pre .1 .2) (start .pre .1 .3) (start .pre .1 .0) (c .before .before .before .before .before .before .before .before .before .before .before .before .before .before .before .before .before .before .before .before .before .before .before .before .before .before .before .before .before .before .before .before .before .before .before .before .before .before .before .before .before .before .before .before .before .before .before .before .before .before .before .before .before .before .before .before .before .before .before .before .before .before .before .before .before .before .before .before .before .if1 .taken) _ (ap (_+_ (start .args .v)) (c .before .before .before .before .before .before .before .before .before .before .before .before .before .before .before .before .before .before .before .before .before .before .before .before .before .before .before .before .before .before .before .before .before .before .before .before .before .before .before .before .before .before .before .before .before .before .before .before .before .before .before .before .before .before .before .before .before .before .before .before .before .before .before .before .before .before .before .before .width .ensures)) _ (c .before .before .before .before .before .before .before .before .before .before .before .before .before .before .before .before .before .before .before .before .before .before .before .before .before .before .before .before .before .before .before .before .before .before .before .before .before .before .before .before .before .before .before .before .before .before .before .before .before .before .before .before .before .before .before .before .before .before .begin-line .ensures) (c .before .before .before .before .before .before .before .before .before .before .before .before .before .before .before .before .before .before .before .before .before .before .before .before .before .before .before .before .before .before .before .before .before .before .before .before .before .before .before .before .before .before .before .before .before .before .before .before .before .before .before .before .before .before .before .before .before .if2 .left) _ _ (c .before .before .before .before .before .before .before .before .before .before .before .before .before .before .before .before .before .before .before .before .before .before .before .before .before .before .before .before .before .before .before .before .before .before .before .before .before .before .before .before .before .before .before .before .before .before .before .before .before .before .before .before .before .before .before .before .before .before .before .before .before .before .before .before .end-pad .ensures) (c .before .before .before .before .before .before .before .before .before .before .before .before .before .before .before .before .before .before .before .before .before .before .before .before .before .before .before .before .before .before .before .before .before .before .before .before .before .before .before .before .before .before .before .before .before .before .before .before .before .before .before .before .before .before .before .before .before .before .before .before .before .before .end-pad2 .ensures) _ (down-done (start .args .kind .now) (start .pre .1 .2) ((start .pre .1 .3) .few-pads) (start .args .v) _ (c .before .before .before .before .before .before .before .before .before .before .before .before .before .before .before .before .before .before .before .before .before .before .before .before .before .before .before .before .before .before .before .before .before .before .before .before .before .before .before .before .before .before .before .before .before .before .before .before .before .before .before .before .before .before .before .before .before .before .before .before .before .before .before .before .before .before .before .before .width .ensures) (start .pre .1 .0) _ _ (c .before .before .before .before .before .before .before .before .before .before .before .before .before .before .before .before .before .before .before .before .before .before .before .before .before .before .before .before .before .before .before .before .before .before .before .before .before .before .before .before .before .before .before .before .before .before .before .before .before .before .before .before .before .before .before .before .before .before .before .before .before .before .before .before .before .before .before .slot-where .ensures) (c .before .before .before .before .before .before .before .before .before .before .before .before .before .before .before .before .before .before .before .before .before .before .before .before .before .before .before .before .before .before .before .before .before .before .before .before .before .before .before .before .before .before .before .before .before .before .before .before .before .before .before .before .before .before .before .before .before .before .before .before .before .before .before .before .before .before .slot-where2 .ensures) _ (done-then (grid-in (start .args .kind .now)) (c .before .before .before .before .before .before .before .before .before .before .before .before .before .before .before .before .before .before .before .before .before .before .before .before .before .before .before .before .before .before .before .before .before .before .before .before .before .before .before .before .before .before .before .before .before .before .before .before .before .before .before .before .before .detour .ensures) (done-then (grid-in (start .args .kind .now)) (c .before .before .before .before .before .before .before .before .before .before .before .before .before .before .before .before .before .before .before .before .before .before .before .before .before .before .before .before .before .before .before .before .before .before .before .before .before .before .before .before .before .before .before .before .before .before .before .before .before .detour2 .ensures) (done-then (grid-in (start .args .kind .now)) (c .before .before .before .before .before .before .before .before .before .before .before .before .before .before .before .before .before .before .before .before .before .before .before .before .before .before .before .before .before .before .before .before .before .before .before .before .before .before .before .before .before .before .before .before .before .detour3 .ensures) (done-then (grid-in (start .args .kind .now)) (c .before .before .before .before .before .before .before .before .before .before .before .before .before .before .before .before .before .before .before .before .before .before .before .before .before .before .before .before .before .before .before .before .before .before .before .before .before .before .before .before .before .detour4 .ensures) (done-then (grid-in (start .args .kind .now)) (c .before .before .before .before .before .before .before .before .before .before .before .before .before .before .before .before .before .before .before .before .before .before .before .before .before .before .before .before .before .before .before .before .before .before .before .before .before .detour5 .ensures) (done-then (grid-in (start .args .kind .now)) (c .before .before .before .before .before .before .before .before .before .before .before .before .before .before .before .before .before .before .before .before .before .before .before .before .before .before .before .before .before .before .before .before .before .detour6 .ensures) (done-then (grid-in (start .args .kind .now)) (c .before .before .before .before .before .before .before .before .before .before .before .before .before .before .before .before .before .before .before .before .before .before .before .before .before .before .before .before .before .corner-left .ensures) (done-then (grid-in (start .args .kind .now)) (c .before .before .before .before .before .before .before .before .before .before .before .before .before .before .before .before .before .before .before .before .before .before .before .before .before .corner-right .ensures) (done-then (grid-in (start .args .kind .now)) (c .before .before .before .before .before .before .before .before .before .before .before .before .before .before .before .before .before .before .before .before .before .bar .ensures) (done-then (grid-in (start .args .kind .now)) (c .before .before .before .before .before .before .before .before .before .before .before .before .before .before .before .before .before .bar2 .ensures) (done-then (grid-in (start .args .kind .now)) (c .before .before .before .before .before .before .before .before .before .before .before .before .before .check .ensures) (done-then (grid-in (start .args .kind .now)) (c .before .before .before .before .before .before .before .before .before .check2 .ensures) (done-then (grid-in (start .args .kind .now)) (c .before .before .before .before .before .check3 .ensures) (c .before .check4 .ensures))))))))))))))) _ (c .end .ensures)
+decide-line-down-returns-2 t c =
+    let start = c .before .before .before .before .before .before .before .before .before .before .before .before .before .before .before .before .before .before .before .before .before .before .before .before .before .before .before .before .before .before .before .before .before .before .before .before .before .before .before .before .before .before .before .before .before .before .before .before .before .before .before .before .before .before .before .before .before .before .before .before .before .before .before .before .before .before .before .before .before .before .before in
+    let width-says = c .before .before .before .before .before .before .before .before .before .before .before .before .before .before .before .before .before .before .before .before .before .before .before .before .before .before .before .before .before .before .before .before .before .before .before .before .before .before .before .before .before .before .before .before .before .before .before .before .before .before .before .before .before .before .before .before .before .before .before .before .before .before .before .before .before .before .before .before .width .ensures in
+    line-returns (start .args .kind .now) _ (down (start .args .v)) (start .pre .1 .2) (start .pre .1 .3) (start .pre .1 .0) (c .before .before .before .before .before .before .before .before .before .before .before .before .before .before .before .before .before .before .before .before .before .before .before .before .before .before .before .before .before .before .before .before .before .before .before .before .before .before .before .before .before .before .before .before .before .before .before .before .before .before .before .before .before .before .before .before .before .before .before .before .before .before .before .before .before .before .before .before .before .if1 .taken) _ (ap (_+_ (start .args .v)) (width-says)) _ (c .before .before .before .before .before .before .before .before .before .before .before .before .before .before .before .before .before .before .before .before .before .before .before .before .before .before .before .before .before .before .before .before .before .before .before .before .before .before .before .before .before .before .before .before .before .before .before .before .before .before .before .before .before .before .before .before .before .before .begin-line .ensures) (c .before .before .before .before .before .before .before .before .before .before .before .before .before .before .before .before .before .before .before .before .before .before .before .before .before .before .before .before .before .before .before .before .before .before .before .before .before .before .before .before .before .before .before .before .before .before .before .before .before .before .before .before .before .before .before .before .before .if2 .left) _ _ (c .before .before .before .before .before .before .before .before .before .before .before .before .before .before .before .before .before .before .before .before .before .before .before .before .before .before .before .before .before .before .before .before .before .before .before .before .before .before .before .before .before .before .before .before .before .before .before .before .before .before .before .before .before .before .before .before .before .before .before .before .before .before .before .before .end-pad .ensures) (c .before .before .before .before .before .before .before .before .before .before .before .before .before .before .before .before .before .before .before .before .before .before .before .before .before .before .before .before .before .before .before .before .before .before .before .before .before .before .before .before .before .before .before .before .before .before .before .before .before .before .before .before .before .before .before .before .before .before .before .before .before .before .end-pad2 .ensures) _ (down-done (start .args .kind .now) (start .pre .1 .2) ((start .pre .1 .3) .few-pads) (start .args .v) _ (width-says) (start .pre .1 .0) _ _ (c .before .before .before .before .before .before .before .before .before .before .before .before .before .before .before .before .before .before .before .before .before .before .before .before .before .before .before .before .before .before .before .before .before .before .before .before .before .before .before .before .before .before .before .before .before .before .before .before .before .before .before .before .before .before .before .before .before .before .before .before .before .before .before .before .before .before .before .slot-where .ensures) (c .before .before .before .before .before .before .before .before .before .before .before .before .before .before .before .before .before .before .before .before .before .before .before .before .before .before .before .before .before .before .before .before .before .before .before .before .before .before .before .before .before .before .before .before .before .before .before .before .before .before .before .before .before .before .before .before .before .before .before .before .before .before .before .before .before .before .slot-where2 .ensures) _ (done-then (grid-in (start .args .kind .now)) (c .before .before .before .before .before .before .before .before .before .before .before .before .before .before .before .before .before .before .before .before .before .before .before .before .before .before .before .before .before .before .before .before .before .before .before .before .before .before .before .before .before .before .before .before .before .before .before .before .before .before .before .before .before .detour .ensures) (done-then (grid-in (start .args .kind .now)) (c .before .before .before .before .before .before .before .before .before .before .before .before .before .before .before .before .before .before .before .before .before .before .before .before .before .before .before .before .before .before .before .before .before .before .before .before .before .before .before .before .before .before .before .before .before .before .before .before .before .detour2 .ensures) (done-then (grid-in (start .args .kind .now)) (c .before .before .before .before .before .before .before .before .before .before .before .before .before .before .before .before .before .before .before .before .before .before .before .before .before .before .before .before .before .before .before .before .before .before .before .before .before .before .before .before .before .before .before .before .before .detour3 .ensures) (done-then (grid-in (start .args .kind .now)) (c .before .before .before .before .before .before .before .before .before .before .before .before .before .before .before .before .before .before .before .before .before .before .before .before .before .before .before .before .before .before .before .before .before .before .before .before .before .before .before .before .before .detour4 .ensures) (done-then (grid-in (start .args .kind .now)) (c .before .before .before .before .before .before .before .before .before .before .before .before .before .before .before .before .before .before .before .before .before .before .before .before .before .before .before .before .before .before .before .before .before .before .before .before .before .detour5 .ensures) (done-then (grid-in (start .args .kind .now)) (c .before .before .before .before .before .before .before .before .before .before .before .before .before .before .before .before .before .before .before .before .before .before .before .before .before .before .before .before .before .before .before .before .before .detour6 .ensures) (done-then (grid-in (start .args .kind .now)) (c .before .before .before .before .before .before .before .before .before .before .before .before .before .before .before .before .before .before .before .before .before .before .before .before .before .before .before .before .before .corner-left .ensures) (done-then (grid-in (start .args .kind .now)) (c .before .before .before .before .before .before .before .before .before .before .before .before .before .before .before .before .before .before .before .before .before .before .before .before .before .corner-right .ensures) (done-then (grid-in (start .args .kind .now)) (c .before .before .before .before .before .before .before .before .before .before .before .before .before .before .before .before .before .before .before .before .before .bar .ensures) (done-then (grid-in (start .args .kind .now)) (c .before .before .before .before .before .before .before .before .before .before .before .before .before .before .before .before .before .bar2 .ensures) (done-then (grid-in (start .args .kind .now)) (c .before .before .before .before .before .before .before .before .before .before .before .before .before .check .ensures) (done-then (grid-in (start .args .kind .now)) (c .before .before .before .before .before .before .before .before .before .check2 .ensures) (done-then (grid-in (start .args .kind .now)) (c .before .before .before .before .before .check3 .ensures) (c .before .check4 .ensures))))))))))))))) _ (c .end .ensures)
 
 decide-line-down-end-requires-2 : (t : ℕ) → decide-line-down-lts.Need-end-requires-2 (decide-line-down-claims t) (decide-line-down-at t) decide-line-down.Post
 decide-line-down-end-requires-2 t c κs = search needs
@@ -612,52 +786,112 @@ decide-line-right-end-pad-requires-2 : (t : ℕ) → decide-line-right-lts.Need-
 decide-line-right-end-pad-requires-2 t c κs = let start = c .before .before .before .before .before .before in ((omega (arith, line-second (start .args .kind .now) _ (right (start .args .v)) (start .pre .1 .2) (start .pre .1 .3) (start .pre .1 .0) (c .before .before .before .before .if1 .taken) _ refl, (start .pre .1 .3) .few-pads)), ((start .pre .1 .3) .ends-long))
 
 decide-line-right-begin-line-requires : (t : ℕ) → decide-line-right-lts.Need-begin-line-requires (decide-line-right-claims t) (decide-line-right-at t) decide-line-right.Post
-decide-line-right-begin-line-requires t c κs = let start = c .before .before .before .before .before .before .before .before .before .before in (omega (arith, (start .pre .1 .1)), omega (arith, (start .pre .1 .1)), (omega (arith, line-second (start .args .kind .now) _ (right (start .args .v)) (start .pre .1 .2) (start .pre .1 .3) (start .pre .1 .0) (c .before .before .before .before .before .before .before .before .if1 .taken) _ refl, (start .pre .1 .3) .few-pads)), (start .pre .1 .3) .mode, line-room (start .args .kind .now) _ (right (start .args .v)) (start .pre .1 .2) (start .pre .1 .3) (start .pre .1 .0) (c .before .before .before .before .before .before .before .before .if1 .taken) _ refl, (start .pre .1 .3) .ends-long)
+decide-line-right-begin-line-requires t c κs =
+    let start = c .before .before .before .before .before .before .before .before .before .before in
+    let if1-taken = c .before .before .before .before .before .before .before .before .if1 .taken in
+    (omega (arith, (start .pre .1 .1)), omega (arith, (start .pre .1 .1)), (omega (arith, line-second (start .args .kind .now) _ (right (start .args .v)) (start .pre .1 .2) (start .pre .1 .3) (start .pre .1 .0) (if1-taken) _ refl, (start .pre .1 .3) .few-pads)), (start .pre .1 .3) .mode, line-room (start .args .kind .now) _ (right (start .args .v)) (start .pre .1 .2) (start .pre .1 .3) (start .pre .1 .0) (if1-taken) _ refl, (start .pre .1 .3) .ends-long)
 
 decide-line-right-returns : (t : ℕ) → decide-line-right-lts.Need-returns (decide-line-right-claims t) (decide-line-right-at t) decide-line-right.Post
 decide-line-right-returns t c = let start = c .before .before .before .before .before .before .before .before .before .before .before .before in line-stops (start .args .kind .now) _ (right (start .args .v)) (start .pre .1 .2) (start .pre .1 .3) (start .pre .1 .0) (c .before .before .before .before .before .before .before .before .before .before .if1 .taken) _ refl _ (c .before .begin-line .ensures) (c .if2 .taken)
 
 decide-line-right-detour-requires : (t : ℕ) → decide-line-right-lts.Need-detour-requires (decide-line-right-claims t) (decide-line-right-at t) decide-line-right.Post
-decide-line-right-detour-requires t c κs = let start = c .before .before .before .before .before .before .before .before .before .before .before .before .before .before .before in let st = line-is-stored (start .args .kind .now) _ (right (start .args .v)) (start .pre .1 .2) (start .pre .1 .3) (start .pre .1 .0) (c .before .before .before .before .before .before .before .before .before .before .before .before .before .if1 .taken) _ refl _ (c .before .before .before .before .begin-line .ensures) (c .before .before .before .if2 .left) in ((omega (arith, start .pre .0, st .less)), ((omega (arith, (start .pre .1 .1), (start .pre .1 .2) .largest-width, c .before .before .before .before .before .before .before .before .before .before .before .before .width .ensures)), (omega (arith, (start .pre .1 .1), (start .pre .1 .2) .largest-width, c .before .before .before .before .before .before .before .before .before .before .before .before .width .ensures)), (omega (arith, (start .pre .1 .1), (start .pre .1 .2) .largest-width, c .before .before .before .before .before .before .before .before .before .before .before .before .width .ensures)), (λ o. (same-on (right-up-left (start .args .kind .now) (start .pre .1 .2) ((start .pre .1 .3) .few-pads) (start .args .v) _ (c .before .before .before .before .before .before .before .before .before .before .before .before .width .ensures) (start .pre .1 .0)) (right-up-right (start .args .kind .now) (start .pre .1 .2) ((start .pre .1 .3) .few-pads) (start .args .v) _ (c .before .before .before .before .before .before .before .before .before .before .before .before .width .ensures) (start .pre .1 .0)) o, same-on (right-up-left (start .args .kind .now) (start .pre .1 .2) ((start .pre .1 .3) .few-pads) (start .args .v) _ (c .before .before .before .before .before .before .before .before .before .before .before .before .width .ensures) (start .pre .1 .0)) (right-up (start .args .kind .now) (start .pre .1 .2) ((start .pre .1 .3) .few-pads) (start .args .v) _ (c .before .before .before .before .before .before .before .before .before .before .before .before .width .ensures) (start .pre .1 .0)) o)), (start .pre .1 .2), st .ready))
+decide-line-right-detour-requires t c κs =
+    let start = c .before .before .before .before .before .before .before .before .before .before .before .before .before .before .before in
+    let width-says = c .before .before .before .before .before .before .before .before .before .before .before .before .width .ensures in
+    let st = line-is-stored (start .args .kind .now) _ (right (start .args .v)) (start .pre .1 .2) (start .pre .1 .3) (start .pre .1 .0) (c .before .before .before .before .before .before .before .before .before .before .before .before .before .if1 .taken) _ refl _ (c .before .before .before .before .begin-line .ensures) (c .before .before .before .if2 .left) in ((omega (arith, start .pre .0, st .less)), ((omega (arith, (start .pre .1 .1), (start .pre .1 .2) .largest-width, width-says)), (omega (arith, (start .pre .1 .1), (start .pre .1 .2) .largest-width, width-says)), (omega (arith, (start .pre .1 .1), (start .pre .1 .2) .largest-width, width-says)), (λ o. (same-on (right-up-left (start .args .kind .now) (start .pre .1 .2) ((start .pre .1 .3) .few-pads) (start .args .v) _ (width-says) (start .pre .1 .0)) (right-up-right (start .args .kind .now) (start .pre .1 .2) ((start .pre .1 .3) .few-pads) (start .args .v) _ (width-says) (start .pre .1 .0)) o, same-on (right-up-left (start .args .kind .now) (start .pre .1 .2) ((start .pre .1 .3) .few-pads) (start .args .v) _ (width-says) (start .pre .1 .0)) (right-up (start .args .kind .now) (start .pre .1 .2) ((start .pre .1 .3) .few-pads) (start .args .v) _ (width-says) (start .pre .1 .0)) o)), (start .pre .1 .2), st .ready))
 
 decide-line-right-detour-requires-2 : (t : ℕ) → decide-line-right-lts.Need-detour-requires-2 (decide-line-right-claims t) (decide-line-right-at t) decide-line-right.Post
-decide-line-right-detour-requires-2 t c κs = let start = c .before .before .before .before .before .before .before .before .before .before .before .before .before .before .before .before .before .before .before in let st = line-is-stored (start .args .kind .now) _ (right (start .args .v)) (start .pre .1 .2) (start .pre .1 .3) (start .pre .1 .0) (c .before .before .before .before .before .before .before .before .before .before .before .before .before .before .before .before .before .if1 .taken) _ refl _ (c .before .before .before .before .before .before .before .before .begin-line .ensures) (c .before .before .before .before .before .before .before .if2 .left) in ((omega (arith, start .pre .0, st .less, c .before .before .before .detour .ensures .fewer)), ((omega (arith, (start .pre .1 .1), (start .pre .1 .2) .largest-width, c .before .before .before .before .before .before .before .before .before .before .before .before .before .before .before .before .width .ensures)), (omega (arith, (start .pre .1 .1), (start .pre .1 .2) .largest-width, c .before .before .before .before .before .before .before .before .before .before .before .before .before .before .before .before .width .ensures)), (omega (arith, (start .pre .1 .1), (start .pre .1 .2) .largest-width, c .before .before .before .before .before .before .before .before .before .before .before .before .before .before .before .before .width .ensures)), (λ o. (same-on (right-up-right (start .args .kind .now) (start .pre .1 .2) ((start .pre .1 .3) .few-pads) (start .args .v) _ (c .before .before .before .before .before .before .before .before .before .before .before .before .before .before .before .before .width .ensures) (start .pre .1 .0)) (right-up-left (start .args .kind .now) (start .pre .1 .2) ((start .pre .1 .3) .few-pads) (start .args .v) _ (c .before .before .before .before .before .before .before .before .before .before .before .before .before .before .before .before .width .ensures) (start .pre .1 .0)) o, same-on (right-up-right (start .args .kind .now) (start .pre .1 .2) ((start .pre .1 .3) .few-pads) (start .args .v) _ (c .before .before .before .before .before .before .before .before .before .before .before .before .before .before .before .before .width .ensures) (start .pre .1 .0)) (right-up (start .args .kind .now) (start .pre .1 .2) ((start .pre .1 .3) .few-pads) (start .args .v) _ (c .before .before .before .before .before .before .before .before .before .before .before .before .before .before .before .before .width .ensures) (start .pre .1 .0)) o)), (start .pre .1 .2), c .before .before .before .detour .ensures .ready))
+decide-line-right-detour-requires-2 t c κs =
+    let start = c .before .before .before .before .before .before .before .before .before .before .before .before .before .before .before .before .before .before .before in
+    let detour-says = c .before .before .before .detour .ensures in
+    let width-says = c .before .before .before .before .before .before .before .before .before .before .before .before .before .before .before .before .width .ensures in
+    let st = line-is-stored (start .args .kind .now) _ (right (start .args .v)) (start .pre .1 .2) (start .pre .1 .3) (start .pre .1 .0) (c .before .before .before .before .before .before .before .before .before .before .before .before .before .before .before .before .before .if1 .taken) _ refl _ (c .before .before .before .before .before .before .before .before .begin-line .ensures) (c .before .before .before .before .before .before .before .if2 .left) in ((omega (arith, start .pre .0, st .less, detour-says .fewer)), ((omega (arith, (start .pre .1 .1), (start .pre .1 .2) .largest-width, width-says)), (omega (arith, (start .pre .1 .1), (start .pre .1 .2) .largest-width, width-says)), (omega (arith, (start .pre .1 .1), (start .pre .1 .2) .largest-width, width-says)), (λ o. (same-on (right-up-right (start .args .kind .now) (start .pre .1 .2) ((start .pre .1 .3) .few-pads) (start .args .v) _ (width-says) (start .pre .1 .0)) (right-up-left (start .args .kind .now) (start .pre .1 .2) ((start .pre .1 .3) .few-pads) (start .args .v) _ (width-says) (start .pre .1 .0)) o, same-on (right-up-right (start .args .kind .now) (start .pre .1 .2) ((start .pre .1 .3) .few-pads) (start .args .v) _ (width-says) (start .pre .1 .0)) (right-up (start .args .kind .now) (start .pre .1 .2) ((start .pre .1 .3) .few-pads) (start .args .v) _ (width-says) (start .pre .1 .0)) o)), (start .pre .1 .2), detour-says .ready))
 
 decide-line-right-detour-requires-3 : (t : ℕ) → decide-line-right-lts.Need-detour-requires-3 (decide-line-right-claims t) (decide-line-right-at t) decide-line-right.Post
-decide-line-right-detour-requires-3 t c κs = let start = c .before .before .before .before .before .before .before .before .before .before .before .before .before .before .before .before .before .before .before .before .before .before .before in let st = line-is-stored (start .args .kind .now) _ (right (start .args .v)) (start .pre .1 .2) (start .pre .1 .3) (start .pre .1 .0) (c .before .before .before .before .before .before .before .before .before .before .before .before .before .before .before .before .before .before .before .before .before .if1 .taken) _ refl _ (c .before .before .before .before .before .before .before .before .before .before .before .before .begin-line .ensures) (c .before .before .before .before .before .before .before .before .before .before .before .if2 .left) in ((omega (arith, start .pre .0, st .less, c .before .before .before .before .before .before .before .detour .ensures .fewer, c .before .before .before .detour2 .ensures .fewer)), ((omega (arith, (start .pre .1 .1), (start .pre .1 .2) .largest-width, c .before .before .before .before .before .before .before .before .before .before .before .before .before .before .before .before .before .before .before .before .width .ensures)), (omega (arith, (start .pre .1 .1), (start .pre .1 .2) .largest-width, c .before .before .before .before .before .before .before .before .before .before .before .before .before .before .before .before .before .before .before .before .width .ensures)), (omega (arith, (start .pre .1 .1), (start .pre .1 .2) .largest-width, c .before .before .before .before .before .before .before .before .before .before .before .before .before .before .before .before .before .before .before .before .width .ensures)), (λ o. (same-on (right-up (start .args .kind .now) (start .pre .1 .2) ((start .pre .1 .3) .few-pads) (start .args .v) _ (c .before .before .before .before .before .before .before .before .before .before .before .before .before .before .before .before .before .before .before .before .width .ensures) (start .pre .1 .0)) (right-up-left (start .args .kind .now) (start .pre .1 .2) ((start .pre .1 .3) .few-pads) (start .args .v) _ (c .before .before .before .before .before .before .before .before .before .before .before .before .before .before .before .before .before .before .before .before .width .ensures) (start .pre .1 .0)) o, same-on (right-up (start .args .kind .now) (start .pre .1 .2) ((start .pre .1 .3) .few-pads) (start .args .v) _ (c .before .before .before .before .before .before .before .before .before .before .before .before .before .before .before .before .before .before .before .before .width .ensures) (start .pre .1 .0)) (right-up-right (start .args .kind .now) (start .pre .1 .2) ((start .pre .1 .3) .few-pads) (start .args .v) _ (c .before .before .before .before .before .before .before .before .before .before .before .before .before .before .before .before .before .before .before .before .width .ensures) (start .pre .1 .0)) o)), (start .pre .1 .2), c .before .before .before .detour2 .ensures .ready))
+decide-line-right-detour-requires-3 t c κs =
+    let start = c .before .before .before .before .before .before .before .before .before .before .before .before .before .before .before .before .before .before .before .before .before .before .before in
+    let detour2-says = c .before .before .before .detour2 .ensures in
+    let width-says = c .before .before .before .before .before .before .before .before .before .before .before .before .before .before .before .before .before .before .before .before .width .ensures in
+    let st = line-is-stored (start .args .kind .now) _ (right (start .args .v)) (start .pre .1 .2) (start .pre .1 .3) (start .pre .1 .0) (c .before .before .before .before .before .before .before .before .before .before .before .before .before .before .before .before .before .before .before .before .before .if1 .taken) _ refl _ (c .before .before .before .before .before .before .before .before .before .before .before .before .begin-line .ensures) (c .before .before .before .before .before .before .before .before .before .before .before .if2 .left) in ((omega (arith, start .pre .0, st .less, c .before .before .before .before .before .before .before .detour .ensures .fewer, detour2-says .fewer)), ((omega (arith, (start .pre .1 .1), (start .pre .1 .2) .largest-width, width-says)), (omega (arith, (start .pre .1 .1), (start .pre .1 .2) .largest-width, width-says)), (omega (arith, (start .pre .1 .1), (start .pre .1 .2) .largest-width, width-says)), (λ o. (same-on (right-up (start .args .kind .now) (start .pre .1 .2) ((start .pre .1 .3) .few-pads) (start .args .v) _ (width-says) (start .pre .1 .0)) (right-up-left (start .args .kind .now) (start .pre .1 .2) ((start .pre .1 .3) .few-pads) (start .args .v) _ (width-says) (start .pre .1 .0)) o, same-on (right-up (start .args .kind .now) (start .pre .1 .2) ((start .pre .1 .3) .few-pads) (start .args .v) _ (width-says) (start .pre .1 .0)) (right-up-right (start .args .kind .now) (start .pre .1 .2) ((start .pre .1 .3) .few-pads) (start .args .v) _ (width-says) (start .pre .1 .0)) o)), (start .pre .1 .2), detour2-says .ready))
 
 decide-line-right-detour-requires-4 : (t : ℕ) → decide-line-right-lts.Need-detour-requires-4 (decide-line-right-claims t) (decide-line-right-at t) decide-line-right.Post
-decide-line-right-detour-requires-4 t c κs = let start = c .before .before .before .before .before .before .before .before .before .before .before .before .before .before .before .before .before .before .before .before .before .before .before .before .before .before .before in let st = line-is-stored (start .args .kind .now) _ (right (start .args .v)) (start .pre .1 .2) (start .pre .1 .3) (start .pre .1 .0) (c .before .before .before .before .before .before .before .before .before .before .before .before .before .before .before .before .before .before .before .before .before .before .before .before .before .if1 .taken) _ refl _ (c .before .before .before .before .before .before .before .before .before .before .before .before .before .before .before .before .begin-line .ensures) (c .before .before .before .before .before .before .before .before .before .before .before .before .before .before .before .if2 .left) in ((omega (arith, start .pre .0, st .less, c .before .before .before .before .before .before .before .before .before .before .before .detour .ensures .fewer, c .before .before .before .before .before .before .before .detour2 .ensures .fewer, c .before .before .before .detour3 .ensures .fewer)), ((omega (arith, (start .pre .1 .1), (start .pre .1 .2) .largest-width, c .before .before .before .before .before .before .before .before .before .before .before .before .before .before .before .before .before .before .before .before .before .before .before .before .width .ensures)), (omega (arith, (start .pre .1 .1), (start .pre .1 .2) .largest-width, c .before .before .before .before .before .before .before .before .before .before .before .before .before .before .before .before .before .before .before .before .before .before .before .before .width .ensures)), (omega (arith, (start .pre .1 .1), (start .pre .1 .2) .largest-width, c .before .before .before .before .before .before .before .before .before .before .before .before .before .before .before .before .before .before .before .before .before .before .before .before .width .ensures)), (λ o. (same-on (right-left (start .args .kind .now) (start .pre .1 .2) ((start .pre .1 .3) .few-pads) (start .args .v) _ (c .before .before .before .before .before .before .before .before .before .before .before .before .before .before .before .before .before .before .before .before .before .before .before .before .width .ensures) (start .pre .1 .0)) (right-right (start .args .kind .now) (start .pre .1 .2) ((start .pre .1 .3) .few-pads) (start .args .v) _ (c .before .before .before .before .before .before .before .before .before .before .before .before .before .before .before .before .before .before .before .before .before .before .before .before .width .ensures) (start .pre .1 .0)) o, same-on (right-left (start .args .kind .now) (start .pre .1 .2) ((start .pre .1 .3) .few-pads) (start .args .v) _ (c .before .before .before .before .before .before .before .before .before .before .before .before .before .before .before .before .before .before .before .before .before .before .before .before .width .ensures) (start .pre .1 .0)) (right-below (start .args .kind .now) (start .pre .1 .2) ((start .pre .1 .3) .few-pads) (start .args .v) _ (c .before .before .before .before .before .before .before .before .before .before .before .before .before .before .before .before .before .before .before .before .before .before .before .before .width .ensures) (start .pre .1 .0)) o)), (start .pre .1 .2), c .before .before .before .detour3 .ensures .ready))
+decide-line-right-detour-requires-4 t c κs =
+    let start = c .before .before .before .before .before .before .before .before .before .before .before .before .before .before .before .before .before .before .before .before .before .before .before .before .before .before .before in
+    let detour3-says = c .before .before .before .detour3 .ensures in
+    let width-says = c .before .before .before .before .before .before .before .before .before .before .before .before .before .before .before .before .before .before .before .before .before .before .before .before .width .ensures in
+    let st = line-is-stored (start .args .kind .now) _ (right (start .args .v)) (start .pre .1 .2) (start .pre .1 .3) (start .pre .1 .0) (c .before .before .before .before .before .before .before .before .before .before .before .before .before .before .before .before .before .before .before .before .before .before .before .before .before .if1 .taken) _ refl _ (c .before .before .before .before .before .before .before .before .before .before .before .before .before .before .before .before .begin-line .ensures) (c .before .before .before .before .before .before .before .before .before .before .before .before .before .before .before .if2 .left) in ((omega (arith, start .pre .0, st .less, c .before .before .before .before .before .before .before .before .before .before .before .detour .ensures .fewer, c .before .before .before .before .before .before .before .detour2 .ensures .fewer, detour3-says .fewer)), ((omega (arith, (start .pre .1 .1), (start .pre .1 .2) .largest-width, width-says)), (omega (arith, (start .pre .1 .1), (start .pre .1 .2) .largest-width, width-says)), (omega (arith, (start .pre .1 .1), (start .pre .1 .2) .largest-width, width-says)), (λ o. (same-on (right-left (start .args .kind .now) (start .pre .1 .2) ((start .pre .1 .3) .few-pads) (start .args .v) _ (width-says) (start .pre .1 .0)) (right-right (start .args .kind .now) (start .pre .1 .2) ((start .pre .1 .3) .few-pads) (start .args .v) _ (width-says) (start .pre .1 .0)) o, same-on (right-left (start .args .kind .now) (start .pre .1 .2) ((start .pre .1 .3) .few-pads) (start .args .v) _ (width-says) (start .pre .1 .0)) (right-below (start .args .kind .now) (start .pre .1 .2) ((start .pre .1 .3) .few-pads) (start .args .v) _ (width-says) (start .pre .1 .0)) o)), (start .pre .1 .2), detour3-says .ready))
 
 decide-line-right-detour-requires-5 : (t : ℕ) → decide-line-right-lts.Need-detour-requires-5 (decide-line-right-claims t) (decide-line-right-at t) decide-line-right.Post
-decide-line-right-detour-requires-5 t c κs = let start = c .before .before .before .before .before .before .before .before .before .before .before .before .before .before .before .before .before .before .before .before .before .before .before .before .before .before .before .before .before .before .before in let st = line-is-stored (start .args .kind .now) _ (right (start .args .v)) (start .pre .1 .2) (start .pre .1 .3) (start .pre .1 .0) (c .before .before .before .before .before .before .before .before .before .before .before .before .before .before .before .before .before .before .before .before .before .before .before .before .before .before .before .before .before .if1 .taken) _ refl _ (c .before .before .before .before .before .before .before .before .before .before .before .before .before .before .before .before .before .before .before .before .begin-line .ensures) (c .before .before .before .before .before .before .before .before .before .before .before .before .before .before .before .before .before .before .before .if2 .left) in ((omega (arith, start .pre .0, st .less, c .before .before .before .before .before .before .before .before .before .before .before .before .before .before .before .detour .ensures .fewer, c .before .before .before .before .before .before .before .before .before .before .before .detour2 .ensures .fewer, c .before .before .before .before .before .before .before .detour3 .ensures .fewer, c .before .before .before .detour4 .ensures .fewer)), ((omega (arith, (start .pre .1 .1), (start .pre .1 .2) .largest-width, c .before .before .before .before .before .before .before .before .before .before .before .before .before .before .before .before .before .before .before .before .before .before .before .before .before .before .before .before .width .ensures)), (omega (arith, (start .pre .1 .1), (start .pre .1 .2) .largest-width, c .before .before .before .before .before .before .before .before .before .before .before .before .before .before .before .before .before .before .before .before .before .before .before .before .before .before .before .before .width .ensures)), (omega (arith, (start .pre .1 .1), (start .pre .1 .2) .largest-width, c .before .before .before .before .before .before .before .before .before .before .before .before .before .before .before .before .before .before .before .before .before .before .before .before .before .before .before .before .width .ensures)), (λ o. (same-on (right-right (start .args .kind .now) (start .pre .1 .2) ((start .pre .1 .3) .few-pads) (start .args .v) _ (c .before .before .before .before .before .before .before .before .before .before .before .before .before .before .before .before .before .before .before .before .before .before .before .before .before .before .before .before .width .ensures) (start .pre .1 .0)) (right-left (start .args .kind .now) (start .pre .1 .2) ((start .pre .1 .3) .few-pads) (start .args .v) _ (c .before .before .before .before .before .before .before .before .before .before .before .before .before .before .before .before .before .before .before .before .before .before .before .before .before .before .before .before .width .ensures) (start .pre .1 .0)) o, same-on (right-right (start .args .kind .now) (start .pre .1 .2) ((start .pre .1 .3) .few-pads) (start .args .v) _ (c .before .before .before .before .before .before .before .before .before .before .before .before .before .before .before .before .before .before .before .before .before .before .before .before .before .before .before .before .width .ensures) (start .pre .1 .0)) (right-below (start .args .kind .now) (start .pre .1 .2) ((start .pre .1 .3) .few-pads) (start .args .v) _ (c .before .before .before .before .before .before .before .before .before .before .before .before .before .before .before .before .before .before .before .before .before .before .before .before .before .before .before .before .width .ensures) (start .pre .1 .0)) o)), (start .pre .1 .2), c .before .before .before .detour4 .ensures .ready))
+decide-line-right-detour-requires-5 t c κs =
+    let start = c .before .before .before .before .before .before .before .before .before .before .before .before .before .before .before .before .before .before .before .before .before .before .before .before .before .before .before .before .before .before .before in
+    let detour4-says = c .before .before .before .detour4 .ensures in
+    let width-says = c .before .before .before .before .before .before .before .before .before .before .before .before .before .before .before .before .before .before .before .before .before .before .before .before .before .before .before .before .width .ensures in
+    let st = line-is-stored (start .args .kind .now) _ (right (start .args .v)) (start .pre .1 .2) (start .pre .1 .3) (start .pre .1 .0) (c .before .before .before .before .before .before .before .before .before .before .before .before .before .before .before .before .before .before .before .before .before .before .before .before .before .before .before .before .before .if1 .taken) _ refl _ (c .before .before .before .before .before .before .before .before .before .before .before .before .before .before .before .before .before .before .before .before .begin-line .ensures) (c .before .before .before .before .before .before .before .before .before .before .before .before .before .before .before .before .before .before .before .if2 .left) in ((omega (arith, start .pre .0, st .less, c .before .before .before .before .before .before .before .before .before .before .before .before .before .before .before .detour .ensures .fewer, c .before .before .before .before .before .before .before .before .before .before .before .detour2 .ensures .fewer, c .before .before .before .before .before .before .before .detour3 .ensures .fewer, detour4-says .fewer)), ((omega (arith, (start .pre .1 .1), (start .pre .1 .2) .largest-width, width-says)), (omega (arith, (start .pre .1 .1), (start .pre .1 .2) .largest-width, width-says)), (omega (arith, (start .pre .1 .1), (start .pre .1 .2) .largest-width, width-says)), (λ o. (same-on (right-right (start .args .kind .now) (start .pre .1 .2) ((start .pre .1 .3) .few-pads) (start .args .v) _ (width-says) (start .pre .1 .0)) (right-left (start .args .kind .now) (start .pre .1 .2) ((start .pre .1 .3) .few-pads) (start .args .v) _ (width-says) (start .pre .1 .0)) o, same-on (right-right (start .args .kind .now) (start .pre .1 .2) ((start .pre .1 .3) .few-pads) (start .args .v) _ (width-says) (start .pre .1 .0)) (right-below (start .args .kind .now) (start .pre .1 .2) ((start .pre .1 .3) .few-pads) (start .args .v) _ (width-says) (start .pre .1 .0)) o)), (start .pre .1 .2), detour4-says .ready))
 
 decide-line-right-detour-requires-6 : (t : ℕ) → decide-line-right-lts.Need-detour-requires-6 (decide-line-right-claims t) (decide-line-right-at t) decide-line-right.Post
-decide-line-right-detour-requires-6 t c κs = let start = c .before .before .before .before .before .before .before .before .before .before .before .before .before .before .before .before .before .before .before .before .before .before .before .before .before .before .before .before .before .before .before .before .before .before .before in let st = line-is-stored (start .args .kind .now) _ (right (start .args .v)) (start .pre .1 .2) (start .pre .1 .3) (start .pre .1 .0) (c .before .before .before .before .before .before .before .before .before .before .before .before .before .before .before .before .before .before .before .before .before .before .before .before .before .before .before .before .before .before .before .before .before .if1 .taken) _ refl _ (c .before .before .before .before .before .before .before .before .before .before .before .before .before .before .before .before .before .before .before .before .before .before .before .before .begin-line .ensures) (c .before .before .before .before .before .before .before .before .before .before .before .before .before .before .before .before .before .before .before .before .before .before .before .if2 .left) in ((omega (arith, start .pre .0, st .less, c .before .before .before .before .before .before .before .before .before .before .before .before .before .before .before .before .before .before .before .detour .ensures .fewer, c .before .before .before .before .before .before .before .before .before .before .before .before .before .before .before .detour2 .ensures .fewer, c .before .before .before .before .before .before .before .before .before .before .before .detour3 .ensures .fewer, c .before .before .before .before .before .before .before .detour4 .ensures .fewer, c .before .before .before .detour5 .ensures .fewer)), ((omega (arith, (start .pre .1 .1), (start .pre .1 .2) .largest-width, c .before .before .before .before .before .before .before .before .before .before .before .before .before .before .before .before .before .before .before .before .before .before .before .before .before .before .before .before .before .before .before .before .width .ensures)), (omega (arith, (start .pre .1 .1), (start .pre .1 .2) .largest-width, c .before .before .before .before .before .before .before .before .before .before .before .before .before .before .before .before .before .before .before .before .before .before .before .before .before .before .before .before .before .before .before .before .width .ensures)), (omega (arith, (start .pre .1 .1), (start .pre .1 .2) .largest-width, c .before .before .before .before .before .before .before .before .before .before .before .before .before .before .before .before .before .before .before .before .before .before .before .before .before .before .before .before .before .before .before .before .width .ensures)), (λ o. (same-on (right-below (start .args .kind .now) (start .pre .1 .2) ((start .pre .1 .3) .few-pads) (start .args .v) _ (c .before .before .before .before .before .before .before .before .before .before .before .before .before .before .before .before .before .before .before .before .before .before .before .before .before .before .before .before .before .before .before .before .width .ensures) (start .pre .1 .0)) (right-left (start .args .kind .now) (start .pre .1 .2) ((start .pre .1 .3) .few-pads) (start .args .v) _ (c .before .before .before .before .before .before .before .before .before .before .before .before .before .before .before .before .before .before .before .before .before .before .before .before .before .before .before .before .before .before .before .before .width .ensures) (start .pre .1 .0)) o, same-on (right-below (start .args .kind .now) (start .pre .1 .2) ((start .pre .1 .3) .few-pads) (start .args .v) _ (c .before .before .before .before .before .before .before .before .before .before .before .before .before .before .before .before .before .before .before .before .before .before .before .before .before .before .before .before .before .before .before .before .width .ensures) (start .pre .1 .0)) (right-right (start .args .kind .now) (start .pre .1 .2) ((start .pre .1 .3) .few-pads) (start .args .v) _ (c .before .before .before .before .before .before .before .before .before .before .before .before .before .before .before .before .before .before .before .before .before .before .before .before .before .before .before .before .before .before .before .before .width .ensures) (start .pre .1 .0)) o)), (start .pre .1 .2), c .before .before .before .detour5 .ensures .ready))
+decide-line-right-detour-requires-6 t c κs =
+    let start = c .before .before .before .before .before .before .before .before .before .before .before .before .before .before .before .before .before .before .before .before .before .before .before .before .before .before .before .before .before .before .before .before .before .before .before in
+    let detour5-says = c .before .before .before .detour5 .ensures in
+    let width-says = c .before .before .before .before .before .before .before .before .before .before .before .before .before .before .before .before .before .before .before .before .before .before .before .before .before .before .before .before .before .before .before .before .width .ensures in
+    let st = line-is-stored (start .args .kind .now) _ (right (start .args .v)) (start .pre .1 .2) (start .pre .1 .3) (start .pre .1 .0) (c .before .before .before .before .before .before .before .before .before .before .before .before .before .before .before .before .before .before .before .before .before .before .before .before .before .before .before .before .before .before .before .before .before .if1 .taken) _ refl _ (c .before .before .before .before .before .before .before .before .before .before .before .before .before .before .before .before .before .before .before .before .before .before .before .before .begin-line .ensures) (c .before .before .before .before .before .before .before .before .before .before .before .before .before .before .before .before .before .before .before .before .before .before .before .if2 .left) in ((omega (arith, start .pre .0, st .less, c .before .before .before .before .before .before .before .before .before .before .before .before .before .before .before .before .before .before .before .detour .ensures .fewer, c .before .before .before .before .before .before .before .before .before .before .before .before .before .before .before .detour2 .ensures .fewer, c .before .before .before .before .before .before .before .before .before .before .before .detour3 .ensures .fewer, c .before .before .before .before .before .before .before .detour4 .ensures .fewer, detour5-says .fewer)), ((omega (arith, (start .pre .1 .1), (start .pre .1 .2) .largest-width, width-says)), (omega (arith, (start .pre .1 .1), (start .pre .1 .2) .largest-width, width-says)), (omega (arith, (start .pre .1 .1), (start .pre .1 .2) .largest-width, width-says)), (λ o. (same-on (right-below (start .args .kind .now) (start .pre .1 .2) ((start .pre .1 .3) .few-pads) (start .args .v) _ (width-says) (start .pre .1 .0)) (right-left (start .args .kind .now) (start .pre .1 .2) ((start .pre .1 .3) .few-pads) (start .args .v) _ (width-says) (start .pre .1 .0)) o, same-on (right-below (start .args .kind .now) (start .pre .1 .2) ((start .pre .1 .3) .few-pads) (start .args .v) _ (width-says) (start .pre .1 .0)) (right-right (start .args .kind .now) (start .pre .1 .2) ((start .pre .1 .3) .few-pads) (start .args .v) _ (width-says) (start .pre .1 .0)) o)), (start .pre .1 .2), detour5-says .ready))
 
 decide-line-right-corner-right-requires : (t : ℕ) → decide-line-right-lts.Need-corner-right-requires (decide-line-right-claims t) (decide-line-right-at t) decide-line-right.Post
-decide-line-right-corner-right-requires t c κs = let start = c .before .before .before .before .before .before .before .before .before .before .before .before .before .before .before .before .before .before .before .before .before .before .before .before .before .before .before .before .before .before .before .before .before .before .before .before .before .before .before in let st = line-is-stored (start .args .kind .now) _ (right (start .args .v)) (start .pre .1 .2) (start .pre .1 .3) (start .pre .1 .0) (c .before .before .before .before .before .before .before .before .before .before .before .before .before .before .before .before .before .before .before .before .before .before .before .before .before .before .before .before .before .before .before .before .before .before .before .before .before .if1 .taken) _ refl _ (c .before .before .before .before .before .before .before .before .before .before .before .before .before .before .before .before .before .before .before .before .before .before .before .before .before .before .before .before .begin-line .ensures) (c .before .before .before .before .before .before .before .before .before .before .before .before .before .before .before .before .before .before .before .before .before .before .before .before .before .before .before .if2 .left) in ((omega (arith, start .pre .0, st .less, c .before .before .before .before .before .before .before .before .before .before .before .before .before .before .before .before .before .before .before .before .before .before .before .detour .ensures .fewer, c .before .before .before .before .before .before .before .before .before .before .before .before .before .before .before .before .before .before .before .detour2 .ensures .fewer, c .before .before .before .before .before .before .before .before .before .before .before .before .before .before .before .detour3 .ensures .fewer, c .before .before .before .before .before .before .before .before .before .before .before .detour4 .ensures .fewer, c .before .before .before .before .before .before .before .detour5 .ensures .fewer, c .before .before .before .detour6 .ensures .fewer)), ((omega (arith, (start .pre .1 .1), (start .pre .1 .2) .largest-width, c .before .before .before .before .before .before .before .before .before .before .before .before .before .before .before .before .before .before .before .before .before .before .before .before .before .before .before .before .before .before .before .before .before .before .before .before .width .ensures)), (omega (arith, (start .pre .1 .1), (start .pre .1 .2) .largest-width, c .before .before .before .before .before .before .before .before .before .before .before .before .before .before .before .before .before .before .before .before .before .before .before .before .before .before .before .before .before .before .before .before .before .before .before .before .width .ensures)), (λ o. right-corner (start .args .kind .now) (start .pre .1 .2) ((start .pre .1 .3) .few-pads) (start .args .v) _ (c .before .before .before .before .before .before .before .before .before .before .before .before .before .before .before .before .before .before .before .before .before .before .before .before .before .before .before .before .before .before .before .before .before .before .before .before .width .ensures) (start .pre .1 .0) _ refl o), (start .pre .1 .2), c .before .before .before .detour6 .ensures .ready))
+decide-line-right-corner-right-requires t c κs =
+    let start = c .before .before .before .before .before .before .before .before .before .before .before .before .before .before .before .before .before .before .before .before .before .before .before .before .before .before .before .before .before .before .before .before .before .before .before .before .before .before .before in
+    let detour6-says = c .before .before .before .detour6 .ensures in
+    let width-says = c .before .before .before .before .before .before .before .before .before .before .before .before .before .before .before .before .before .before .before .before .before .before .before .before .before .before .before .before .before .before .before .before .before .before .before .before .width .ensures in
+    let st = line-is-stored (start .args .kind .now) _ (right (start .args .v)) (start .pre .1 .2) (start .pre .1 .3) (start .pre .1 .0) (c .before .before .before .before .before .before .before .before .before .before .before .before .before .before .before .before .before .before .before .before .before .before .before .before .before .before .before .before .before .before .before .before .before .before .before .before .before .if1 .taken) _ refl _ (c .before .before .before .before .before .before .before .before .before .before .before .before .before .before .before .before .before .before .before .before .before .before .before .before .before .before .before .before .begin-line .ensures) (c .before .before .before .before .before .before .before .before .before .before .before .before .before .before .before .before .before .before .before .before .before .before .before .before .before .before .before .if2 .left) in ((omega (arith, start .pre .0, st .less, c .before .before .before .before .before .before .before .before .before .before .before .before .before .before .before .before .before .before .before .before .before .before .before .detour .ensures .fewer, c .before .before .before .before .before .before .before .before .before .before .before .before .before .before .before .before .before .before .before .detour2 .ensures .fewer, c .before .before .before .before .before .before .before .before .before .before .before .before .before .before .before .detour3 .ensures .fewer, c .before .before .before .before .before .before .before .before .before .before .before .detour4 .ensures .fewer, c .before .before .before .before .before .before .before .detour5 .ensures .fewer, detour6-says .fewer)), ((omega (arith, (start .pre .1 .1), (start .pre .1 .2) .largest-width, width-says)), (omega (arith, (start .pre .1 .1), (start .pre .1 .2) .largest-width, width-says)), (λ o. right-corner (start .args .kind .now) (start .pre .1 .2) ((start .pre .1 .3) .few-pads) (start .args .v) _ (width-says) (start .pre .1 .0) _ refl o), (start .pre .1 .2), detour6-says .ready))
 
 decide-line-right-corner-left-requires : (t : ℕ) → decide-line-right-lts.Need-corner-left-requires (decide-line-right-claims t) (decide-line-right-at t) decide-line-right.Post
-decide-line-right-corner-left-requires t c κs = let start = c .before .before .before .before .before .before .before .before .before .before .before .before .before .before .before .before .before .before .before .before .before .before .before .before .before .before .before .before .before .before .before .before .before .before .before .before .before .before .before .before .before .before .before in let st = line-is-stored (start .args .kind .now) _ (right (start .args .v)) (start .pre .1 .2) (start .pre .1 .3) (start .pre .1 .0) (c .before .before .before .before .before .before .before .before .before .before .before .before .before .before .before .before .before .before .before .before .before .before .before .before .before .before .before .before .before .before .before .before .before .before .before .before .before .before .before .before .before .if1 .taken) _ refl _ (c .before .before .before .before .before .before .before .before .before .before .before .before .before .before .before .before .before .before .before .before .before .before .before .before .before .before .before .before .before .before .before .before .begin-line .ensures) (c .before .before .before .before .before .before .before .before .before .before .before .before .before .before .before .before .before .before .before .before .before .before .before .before .before .before .before .before .before .before .before .if2 .left) in ((omega (arith, start .pre .0, st .less, c .before .before .before .before .before .before .before .before .before .before .before .before .before .before .before .before .before .before .before .before .before .before .before .before .before .before .before .detour .ensures .fewer, c .before .before .before .before .before .before .before .before .before .before .before .before .before .before .before .before .before .before .before .before .before .before .before .detour2 .ensures .fewer, c .before .before .before .before .before .before .before .before .before .before .before .before .before .before .before .before .before .before .before .detour3 .ensures .fewer, c .before .before .before .before .before .before .before .before .before .before .before .before .before .before .before .detour4 .ensures .fewer, c .before .before .before .before .before .before .before .before .before .before .before .detour5 .ensures .fewer, c .before .before .before .before .before .before .before .detour6 .ensures .fewer, c .before .before .before .corner-right .ensures .fewer)), ((omega (arith, (start .pre .1 .1), (start .pre .1 .2) .largest-width, c .before .before .before .before .before .before .before .before .before .before .before .before .before .before .before .before .before .before .before .before .before .before .before .before .before .before .before .before .before .before .before .before .before .before .before .before .before .before .before .before .width .ensures)), (omega (arith, (start .pre .1 .1), (start .pre .1 .2) .largest-width, c .before .before .before .before .before .before .before .before .before .before .before .before .before .before .before .before .before .before .before .before .before .before .before .before .before .before .before .before .before .before .before .before .before .before .before .before .before .before .before .before .width .ensures)), (λ o. left-corner (start .args .kind .now) (start .pre .1 .2) ((start .pre .1 .3) .few-pads) (start .args .v) _ (c .before .before .before .before .before .before .before .before .before .before .before .before .before .before .before .before .before .before .before .before .before .before .before .before .before .before .before .before .before .before .before .before .before .before .before .before .before .before .before .before .width .ensures) (start .pre .1 .0) _ refl o), (start .pre .1 .2), c .before .before .before .corner-right .ensures .ready))
+decide-line-right-corner-left-requires t c κs =
+    let start = c .before .before .before .before .before .before .before .before .before .before .before .before .before .before .before .before .before .before .before .before .before .before .before .before .before .before .before .before .before .before .before .before .before .before .before .before .before .before .before .before .before .before .before in
+    let corner-right-says = c .before .before .before .corner-right .ensures in
+    let width-says = c .before .before .before .before .before .before .before .before .before .before .before .before .before .before .before .before .before .before .before .before .before .before .before .before .before .before .before .before .before .before .before .before .before .before .before .before .before .before .before .before .width .ensures in
+    let st = line-is-stored (start .args .kind .now) _ (right (start .args .v)) (start .pre .1 .2) (start .pre .1 .3) (start .pre .1 .0) (c .before .before .before .before .before .before .before .before .before .before .before .before .before .before .before .before .before .before .before .before .before .before .before .before .before .before .before .before .before .before .before .before .before .before .before .before .before .before .before .before .before .if1 .taken) _ refl _ (c .before .before .before .before .before .before .before .before .before .before .before .before .before .before .before .before .before .before .before .before .before .before .before .before .before .before .before .before .before .before .before .before .begin-line .ensures) (c .before .before .before .before .before .before .before .before .before .before .before .before .before .before .before .before .before .before .before .before .before .before .before .before .before .before .before .before .before .before .before .if2 .left) in ((omega (arith, start .pre .0, st .less, c .before .before .before .before .before .before .before .before .before .before .before .before .before .before .before .before .before .before .before .before .before .before .before .before .before .before .before .detour .ensures .fewer, c .before .before .before .before .before .before .before .before .before .before .before .before .before .before .before .before .before .before .before .before .before .before .before .detour2 .ensures .fewer, c .before .before .before .before .before .before .before .before .before .before .before .before .before .before .before .before .before .before .before .detour3 .ensures .fewer, c .before .before .before .before .before .before .before .before .before .before .before .before .before .before .before .detour4 .ensures .fewer, c .before .before .before .before .before .before .before .before .before .before .before .detour5 .ensures .fewer, c .before .before .before .before .before .before .before .detour6 .ensures .fewer, corner-right-says .fewer)), ((omega (arith, (start .pre .1 .1), (start .pre .1 .2) .largest-width, width-says)), (omega (arith, (start .pre .1 .1), (start .pre .1 .2) .largest-width, width-says)), (λ o. left-corner (start .args .kind .now) (start .pre .1 .2) ((start .pre .1 .3) .few-pads) (start .args .v) _ (width-says) (start .pre .1 .0) _ refl o), (start .pre .1 .2), corner-right-says .ready))
 
 decide-line-right-bar-requires : (t : ℕ) → decide-line-right-lts.Need-bar-requires (decide-line-right-claims t) (decide-line-right-at t) decide-line-right.Post
-decide-line-right-bar-requires t c κs = let start = c .before .before .before .before .before .before .before .before .before .before .before .before .before .before .before .before .before .before .before .before .before .before .before .before .before .before .before .before .before .before .before .before .before .before .before .before .before .before .before .before .before .before .before .before .before .before .before in let st = line-is-stored (start .args .kind .now) _ (right (start .args .v)) (start .pre .1 .2) (start .pre .1 .3) (start .pre .1 .0) (c .before .before .before .before .before .before .before .before .before .before .before .before .before .before .before .before .before .before .before .before .before .before .before .before .before .before .before .before .before .before .before .before .before .before .before .before .before .before .before .before .before .before .before .before .before .if1 .taken) _ refl _ (c .before .before .before .before .before .before .before .before .before .before .before .before .before .before .before .before .before .before .before .before .before .before .before .before .before .before .before .before .before .before .before .before .before .before .before .before .begin-line .ensures) (c .before .before .before .before .before .before .before .before .before .before .before .before .before .before .before .before .before .before .before .before .before .before .before .before .before .before .before .before .before .before .before .before .before .before .before .if2 .left) in ((omega (arith, start .pre .0, st .less, c .before .before .before .before .before .before .before .before .before .before .before .before .before .before .before .before .before .before .before .before .before .before .before .before .before .before .before .before .before .before .before .detour .ensures .fewer, c .before .before .before .before .before .before .before .before .before .before .before .before .before .before .before .before .before .before .before .before .before .before .before .before .before .before .before .detour2 .ensures .fewer, c .before .before .before .before .before .before .before .before .before .before .before .before .before .before .before .before .before .before .before .before .before .before .before .detour3 .ensures .fewer, c .before .before .before .before .before .before .before .before .before .before .before .before .before .before .before .before .before .before .before .detour4 .ensures .fewer, c .before .before .before .before .before .before .before .before .before .before .before .before .before .before .before .detour5 .ensures .fewer, c .before .before .before .before .before .before .before .before .before .before .before .detour6 .ensures .fewer, c .before .before .before .before .before .before .before .corner-right .ensures .fewer, c .before .before .before .corner-left .ensures .fewer)), ((omega (arith, (start .pre .1 .1), (start .pre .1 .2) .largest-width, c .before .before .before .before .before .before .before .before .before .before .before .before .before .before .before .before .before .before .before .before .before .before .before .before .before .before .before .before .before .before .before .before .before .before .before .before .before .before .before .before .before .before .before .before .width .ensures)), (omega (arith, (start .pre .1 .1), (start .pre .1 .2) .largest-width, c .before .before .before .before .before .before .before .before .before .before .before .before .before .before .before .before .before .before .before .before .before .before .before .before .before .before .before .before .before .before .before .before .before .before .before .before .before .before .before .before .before .before .before .before .width .ensures)), right-bar-on (start .args .kind .now) (start .pre .1 .2) ((start .pre .1 .3) .few-pads) (start .args .v) _ (c .before .before .before .before .before .before .before .before .before .before .before .before .before .before .before .before .before .before .before .before .before .before .before .before .before .before .before .before .before .before .before .before .before .before .before .before .before .before .before .before .before .before .before .before .width .ensures) (start .pre .1 .0), (start .pre .1 .2), c .before .before .before .corner-left .ensures .ready))
+decide-line-right-bar-requires t c κs =
+    let start = c .before .before .before .before .before .before .before .before .before .before .before .before .before .before .before .before .before .before .before .before .before .before .before .before .before .before .before .before .before .before .before .before .before .before .before .before .before .before .before .before .before .before .before .before .before .before .before in
+    let corner-left-says = c .before .before .before .corner-left .ensures in
+    let width-says = c .before .before .before .before .before .before .before .before .before .before .before .before .before .before .before .before .before .before .before .before .before .before .before .before .before .before .before .before .before .before .before .before .before .before .before .before .before .before .before .before .before .before .before .before .width .ensures in
+    let st = line-is-stored (start .args .kind .now) _ (right (start .args .v)) (start .pre .1 .2) (start .pre .1 .3) (start .pre .1 .0) (c .before .before .before .before .before .before .before .before .before .before .before .before .before .before .before .before .before .before .before .before .before .before .before .before .before .before .before .before .before .before .before .before .before .before .before .before .before .before .before .before .before .before .before .before .before .if1 .taken) _ refl _ (c .before .before .before .before .before .before .before .before .before .before .before .before .before .before .before .before .before .before .before .before .before .before .before .before .before .before .before .before .before .before .before .before .before .before .before .before .begin-line .ensures) (c .before .before .before .before .before .before .before .before .before .before .before .before .before .before .before .before .before .before .before .before .before .before .before .before .before .before .before .before .before .before .before .before .before .before .before .if2 .left) in ((omega (arith, start .pre .0, st .less, c .before .before .before .before .before .before .before .before .before .before .before .before .before .before .before .before .before .before .before .before .before .before .before .before .before .before .before .before .before .before .before .detour .ensures .fewer, c .before .before .before .before .before .before .before .before .before .before .before .before .before .before .before .before .before .before .before .before .before .before .before .before .before .before .before .detour2 .ensures .fewer, c .before .before .before .before .before .before .before .before .before .before .before .before .before .before .before .before .before .before .before .before .before .before .before .detour3 .ensures .fewer, c .before .before .before .before .before .before .before .before .before .before .before .before .before .before .before .before .before .before .before .detour4 .ensures .fewer, c .before .before .before .before .before .before .before .before .before .before .before .before .before .before .before .detour5 .ensures .fewer, c .before .before .before .before .before .before .before .before .before .before .before .detour6 .ensures .fewer, c .before .before .before .before .before .before .before .corner-right .ensures .fewer, corner-left-says .fewer)), ((omega (arith, (start .pre .1 .1), (start .pre .1 .2) .largest-width, width-says)), (omega (arith, (start .pre .1 .1), (start .pre .1 .2) .largest-width, width-says)), right-bar-on (start .args .kind .now) (start .pre .1 .2) ((start .pre .1 .3) .few-pads) (start .args .v) _ (width-says) (start .pre .1 .0), (start .pre .1 .2), corner-left-says .ready))
 
 decide-line-right-bar-requires-2 : (t : ℕ) → decide-line-right-lts.Need-bar-requires-2 (decide-line-right-claims t) (decide-line-right-at t) decide-line-right.Post
-decide-line-right-bar-requires-2 t c κs = let start = c .before .before .before .before .before .before .before .before .before .before .before .before .before .before .before .before .before .before .before .before .before .before .before .before .before .before .before .before .before .before .before .before .before .before .before .before .before .before .before .before .before .before .before .before .before .before .before .before .before .before .before in let st = line-is-stored (start .args .kind .now) _ (right (start .args .v)) (start .pre .1 .2) (start .pre .1 .3) (start .pre .1 .0) (c .before .before .before .before .before .before .before .before .before .before .before .before .before .before .before .before .before .before .before .before .before .before .before .before .before .before .before .before .before .before .before .before .before .before .before .before .before .before .before .before .before .before .before .before .before .before .before .before .before .if1 .taken) _ refl _ (c .before .before .before .before .before .before .before .before .before .before .before .before .before .before .before .before .before .before .before .before .before .before .before .before .before .before .before .before .before .before .before .before .before .before .before .before .before .before .before .before .begin-line .ensures) (c .before .before .before .before .before .before .before .before .before .before .before .before .before .before .before .before .before .before .before .before .before .before .before .before .before .before .before .before .before .before .before .before .before .before .before .before .before .before .before .if2 .left) in ((omega (arith, start .pre .0, st .less, c .before .before .before .before .before .before .before .before .before .before .before .before .before .before .before .before .before .before .before .before .before .before .before .before .before .before .before .before .before .before .before .before .before .before .before .detour .ensures .fewer, c .before .before .before .before .before .before .before .before .before .before .before .before .before .before .before .before .before .before .before .before .before .before .before .before .before .before .before .before .before .before .before .detour2 .ensures .fewer, c .before .before .before .before .before .before .before .before .before .before .before .before .before .before .before .before .before .before .before .before .before .before .before .before .before .before .before .detour3 .ensures .fewer, c .before .before .before .before .before .before .before .before .before .before .before .before .before .before .before .before .before .before .before .before .before .before .before .detour4 .ensures .fewer, c .before .before .before .before .before .before .before .before .before .before .before .before .before .before .before .before .before .before .before .detour5 .ensures .fewer, c .before .before .before .before .before .before .before .before .before .before .before .before .before .before .before .detour6 .ensures .fewer, c .before .before .before .before .before .before .before .before .before .before .before .corner-right .ensures .fewer, c .before .before .before .before .before .before .before .corner-left .ensures .fewer, c .before .before .before .bar .ensures .fewer)), ((omega (arith, (start .pre .1 .1), (start .pre .1 .2) .largest-width, c .before .before .before .before .before .before .before .before .before .before .before .before .before .before .before .before .before .before .before .before .before .before .before .before .before .before .before .before .before .before .before .before .before .before .before .before .before .before .before .before .before .before .before .before .before .before .before .before .width .ensures)), (omega (arith, (start .pre .1 .1), (start .pre .1 .2) .largest-width, c .before .before .before .before .before .before .before .before .before .before .before .before .before .before .before .before .before .before .before .before .before .before .before .before .before .before .before .before .before .before .before .before .before .before .before .before .before .before .before .before .before .before .before .before .before .before .before .before .width .ensures)), left-bar-on (start .args .kind .now) (start .pre .1 .2) ((start .pre .1 .3) .few-pads) (start .args .v) _ (c .before .before .before .before .before .before .before .before .before .before .before .before .before .before .before .before .before .before .before .before .before .before .before .before .before .before .before .before .before .before .before .before .before .before .before .before .before .before .before .before .before .before .before .before .before .before .before .before .width .ensures) (start .pre .1 .0), (start .pre .1 .2), c .before .before .before .bar .ensures .ready))
+decide-line-right-bar-requires-2 t c κs =
+    let start = c .before .before .before .before .before .before .before .before .before .before .before .before .before .before .before .before .before .before .before .before .before .before .before .before .before .before .before .before .before .before .before .before .before .before .before .before .before .before .before .before .before .before .before .before .before .before .before .before .before .before .before in
+    let bar-says = c .before .before .before .bar .ensures in
+    let width-says = c .before .before .before .before .before .before .before .before .before .before .before .before .before .before .before .before .before .before .before .before .before .before .before .before .before .before .before .before .before .before .before .before .before .before .before .before .before .before .before .before .before .before .before .before .before .before .before .before .width .ensures in
+    let st = line-is-stored (start .args .kind .now) _ (right (start .args .v)) (start .pre .1 .2) (start .pre .1 .3) (start .pre .1 .0) (c .before .before .before .before .before .before .before .before .before .before .before .before .before .before .before .before .before .before .before .before .before .before .before .before .before .before .before .before .before .before .before .before .before .before .before .before .before .before .before .before .before .before .before .before .before .before .before .before .before .if1 .taken) _ refl _ (c .before .before .before .before .before .before .before .before .before .before .before .before .before .before .before .before .before .before .before .before .before .before .before .before .before .before .before .before .before .before .before .before .before .before .before .before .before .before .before .before .begin-line .ensures) (c .before .before .before .before .before .before .before .before .before .before .before .before .before .before .before .before .before .before .before .before .before .before .before .before .before .before .before .before .before .before .before .before .before .before .before .before .before .before .before .if2 .left) in ((omega (arith, start .pre .0, st .less, c .before .before .before .before .before .before .before .before .before .before .before .before .before .before .before .before .before .before .before .before .before .before .before .before .before .before .before .before .before .before .before .before .before .before .before .detour .ensures .fewer, c .before .before .before .before .before .before .before .before .before .before .before .before .before .before .before .before .before .before .before .before .before .before .before .before .before .before .before .before .before .before .before .detour2 .ensures .fewer, c .before .before .before .before .before .before .before .before .before .before .before .before .before .before .before .before .before .before .before .before .before .before .before .before .before .before .before .detour3 .ensures .fewer, c .before .before .before .before .before .before .before .before .before .before .before .before .before .before .before .before .before .before .before .before .before .before .before .detour4 .ensures .fewer, c .before .before .before .before .before .before .before .before .before .before .before .before .before .before .before .before .before .before .before .detour5 .ensures .fewer, c .before .before .before .before .before .before .before .before .before .before .before .before .before .before .before .detour6 .ensures .fewer, c .before .before .before .before .before .before .before .before .before .before .before .corner-right .ensures .fewer, c .before .before .before .before .before .before .before .corner-left .ensures .fewer, bar-says .fewer)), ((omega (arith, (start .pre .1 .1), (start .pre .1 .2) .largest-width, width-says)), (omega (arith, (start .pre .1 .1), (start .pre .1 .2) .largest-width, width-says)), left-bar-on (start .args .kind .now) (start .pre .1 .2) ((start .pre .1 .3) .few-pads) (start .args .v) _ (width-says) (start .pre .1 .0), (start .pre .1 .2), bar-says .ready))
 
 decide-line-right-check-requires : (t : ℕ) → decide-line-right-lts.Need-check-requires (decide-line-right-claims t) (decide-line-right-at t) decide-line-right.Post
-decide-line-right-check-requires t c κs = let start = c .before .before .before .before .before .before .before .before .before .before .before .before .before .before .before .before .before .before .before .before .before .before .before .before .before .before .before .before .before .before .before .before .before .before .before .before .before .before .before .before .before .before .before .before .before .before .before .before .before .before .before .before .before .before .before in let st = line-is-stored (start .args .kind .now) _ (right (start .args .v)) (start .pre .1 .2) (start .pre .1 .3) (start .pre .1 .0) (c .before .before .before .before .before .before .before .before .before .before .before .before .before .before .before .before .before .before .before .before .before .before .before .before .before .before .before .before .before .before .before .before .before .before .before .before .before .before .before .before .before .before .before .before .before .before .before .before .before .before .before .before .before .if1 .taken) _ refl _ (c .before .before .before .before .before .before .before .before .before .before .before .before .before .before .before .before .before .before .before .before .before .before .before .before .before .before .before .before .before .before .before .before .before .before .before .before .before .before .before .before .before .before .before .before .begin-line .ensures) (c .before .before .before .before .before .before .before .before .before .before .before .before .before .before .before .before .before .before .before .before .before .before .before .before .before .before .before .before .before .before .before .before .before .before .before .before .before .before .before .before .before .before .before .if2 .left) in ((omega (arith, start .pre .0, st .less, c .before .before .before .before .before .before .before .before .before .before .before .before .before .before .before .before .before .before .before .before .before .before .before .before .before .before .before .before .before .before .before .before .before .before .before .before .before .before .before .detour .ensures .fewer, c .before .before .before .before .before .before .before .before .before .before .before .before .before .before .before .before .before .before .before .before .before .before .before .before .before .before .before .before .before .before .before .before .before .before .before .detour2 .ensures .fewer, c .before .before .before .before .before .before .before .before .before .before .before .before .before .before .before .before .before .before .before .before .before .before .before .before .before .before .before .before .before .before .before .detour3 .ensures .fewer, c .before .before .before .before .before .before .before .before .before .before .before .before .before .before .before .before .before .before .before .before .before .before .before .before .before .before .before .detour4 .ensures .fewer, c .before .before .before .before .before .before .before .before .before .before .before .before .before .before .before .before .before .before .before .before .before .before .before .detour5 .ensures .fewer, c .before .before .before .before .before .before .before .before .before .before .before .before .before .before .before .before .before .before .before .detour6 .ensures .fewer, c .before .before .before .before .before .before .before .before .before .before .before .before .before .before .before .corner-right .ensures .fewer, c .before .before .before .before .before .before .before .before .before .before .before .corner-left .ensures .fewer, c .before .before .before .before .before .before .before .bar .ensures .fewer, c .before .before .before .bar2 .ensures .fewer)), ((omega (arith, (line-first (start .args .kind .now) _ (right (start .args .v)) (start .pre .1 .2) (start .pre .1 .3) (start .pre .1 .0) (c .before .before .before .before .before .before .before .before .before .before .before .before .before .before .before .before .before .before .before .before .before .before .before .before .before .before .before .before .before .before .before .before .before .before .before .before .before .before .before .before .before .before .before .before .before .before .before .before .before .before .before .before .before .if1 .taken) _ refl), (start .pre .1 .3) .few-pads)), (λ h. (line-first (start .args .kind .now) _ (right (start .args .v)) (start .pre .1 .2) (start .pre .1 .3) (start .pre .1 .0) (c .before .before .before .before .before .before .before .before .before .before .before .before .before .before .before .before .before .before .before .before .before .before .before .before .before .before .before .before .before .before .before .before .before .before .before .before .before .before .before .before .before .before .before .before .before .before .before .before .before .before .before .before .before .if1 .taken) _ refl)), (start .pre .1 .2), c .before .before .before .bar2 .ensures .ready))
+decide-line-right-check-requires t c κs =
+    let start = c .before .before .before .before .before .before .before .before .before .before .before .before .before .before .before .before .before .before .before .before .before .before .before .before .before .before .before .before .before .before .before .before .before .before .before .before .before .before .before .before .before .before .before .before .before .before .before .before .before .before .before .before .before .before .before in
+    let if1-taken = c .before .before .before .before .before .before .before .before .before .before .before .before .before .before .before .before .before .before .before .before .before .before .before .before .before .before .before .before .before .before .before .before .before .before .before .before .before .before .before .before .before .before .before .before .before .before .before .before .before .before .before .before .before .if1 .taken in
+    let bar2-says = c .before .before .before .bar2 .ensures in
+    let st = line-is-stored (start .args .kind .now) _ (right (start .args .v)) (start .pre .1 .2) (start .pre .1 .3) (start .pre .1 .0) (if1-taken) _ refl _ (c .before .before .before .before .before .before .before .before .before .before .before .before .before .before .before .before .before .before .before .before .before .before .before .before .before .before .before .before .before .before .before .before .before .before .before .before .before .before .before .before .before .before .before .before .begin-line .ensures) (c .before .before .before .before .before .before .before .before .before .before .before .before .before .before .before .before .before .before .before .before .before .before .before .before .before .before .before .before .before .before .before .before .before .before .before .before .before .before .before .before .before .before .before .if2 .left) in ((omega (arith, start .pre .0, st .less, c .before .before .before .before .before .before .before .before .before .before .before .before .before .before .before .before .before .before .before .before .before .before .before .before .before .before .before .before .before .before .before .before .before .before .before .before .before .before .before .detour .ensures .fewer, c .before .before .before .before .before .before .before .before .before .before .before .before .before .before .before .before .before .before .before .before .before .before .before .before .before .before .before .before .before .before .before .before .before .before .before .detour2 .ensures .fewer, c .before .before .before .before .before .before .before .before .before .before .before .before .before .before .before .before .before .before .before .before .before .before .before .before .before .before .before .before .before .before .before .detour3 .ensures .fewer, c .before .before .before .before .before .before .before .before .before .before .before .before .before .before .before .before .before .before .before .before .before .before .before .before .before .before .before .detour4 .ensures .fewer, c .before .before .before .before .before .before .before .before .before .before .before .before .before .before .before .before .before .before .before .before .before .before .before .detour5 .ensures .fewer, c .before .before .before .before .before .before .before .before .before .before .before .before .before .before .before .before .before .before .before .detour6 .ensures .fewer, c .before .before .before .before .before .before .before .before .before .before .before .before .before .before .before .corner-right .ensures .fewer, c .before .before .before .before .before .before .before .before .before .before .before .corner-left .ensures .fewer, c .before .before .before .before .before .before .before .bar .ensures .fewer, bar2-says .fewer)), ((omega (arith, (line-first (start .args .kind .now) _ (right (start .args .v)) (start .pre .1 .2) (start .pre .1 .3) (start .pre .1 .0) (if1-taken) _ refl), (start .pre .1 .3) .few-pads)), (λ h. (line-first (start .args .kind .now) _ (right (start .args .v)) (start .pre .1 .2) (start .pre .1 .3) (start .pre .1 .0) (if1-taken) _ refl)), (start .pre .1 .2), bar2-says .ready))
 
 decide-line-right-check-requires-2 : (t : ℕ) → decide-line-right-lts.Need-check-requires-2 (decide-line-right-claims t) (decide-line-right-at t) decide-line-right.Post
-decide-line-right-check-requires-2 t c κs = let start = c .before .before .before .before .before .before .before .before .before .before .before .before .before .before .before .before .before .before .before .before .before .before .before .before .before .before .before .before .before .before .before .before .before .before .before .before .before .before .before .before .before .before .before .before .before .before .before .before .before .before .before .before .before .before .before .before .before .before .before in let st = line-is-stored (start .args .kind .now) _ (right (start .args .v)) (start .pre .1 .2) (start .pre .1 .3) (start .pre .1 .0) (c .before .before .before .before .before .before .before .before .before .before .before .before .before .before .before .before .before .before .before .before .before .before .before .before .before .before .before .before .before .before .before .before .before .before .before .before .before .before .before .before .before .before .before .before .before .before .before .before .before .before .before .before .before .before .before .before .before .if1 .taken) _ refl _ (c .before .before .before .before .before .before .before .before .before .before .before .before .before .before .before .before .before .before .before .before .before .before .before .before .before .before .before .before .before .before .before .before .before .before .before .before .before .before .before .before .before .before .before .before .before .before .before .before .begin-line .ensures) (c .before .before .before .before .before .before .before .before .before .before .before .before .before .before .before .before .before .before .before .before .before .before .before .before .before .before .before .before .before .before .before .before .before .before .before .before .before .before .before .before .before .before .before .before .before .before .before .if2 .left) in ((omega (arith, start .pre .0, st .less, c .before .before .before .before .before .before .before .before .before .before .before .before .before .before .before .before .before .before .before .before .before .before .before .before .before .before .before .before .before .before .before .before .before .before .before .before .before .before .before .before .before .before .before .detour .ensures .fewer, c .before .before .before .before .before .before .before .before .before .before .before .before .before .before .before .before .before .before .before .before .before .before .before .before .before .before .before .before .before .before .before .before .before .before .before .before .before .before .before .detour2 .ensures .fewer, c .before .before .before .before .before .before .before .before .before .before .before .before .before .before .before .before .before .before .before .before .before .before .before .before .before .before .before .before .before .before .before .before .before .before .before .detour3 .ensures .fewer, c .before .before .before .before .before .before .before .before .before .before .before .before .before .before .before .before .before .before .before .before .before .before .before .before .before .before .before .before .before .before .before .detour4 .ensures .fewer, c .before .before .before .before .before .before .before .before .before .before .before .before .before .before .before .before .before .before .before .before .before .before .before .before .before .before .before .detour5 .ensures .fewer, c .before .before .before .before .before .before .before .before .before .before .before .before .before .before .before .before .before .before .before .before .before .before .before .detour6 .ensures .fewer, c .before .before .before .before .before .before .before .before .before .before .before .before .before .before .before .before .before .before .before .corner-right .ensures .fewer, c .before .before .before .before .before .before .before .before .before .before .before .before .before .before .before .corner-left .ensures .fewer, c .before .before .before .before .before .before .before .before .before .before .before .bar .ensures .fewer, c .before .before .before .before .before .before .before .bar2 .ensures .fewer, c .before .before .before .check .ensures .fewer)), ((omega (arith, (line-second (start .args .kind .now) _ (right (start .args .v)) (start .pre .1 .2) (start .pre .1 .3) (start .pre .1 .0) (c .before .before .before .before .before .before .before .before .before .before .before .before .before .before .before .before .before .before .before .before .before .before .before .before .before .before .before .before .before .before .before .before .before .before .before .before .before .before .before .before .before .before .before .before .before .before .before .before .before .before .before .before .before .before .before .before .before .if1 .taken) _ refl), (start .pre .1 .3) .few-pads)), (λ h. (line-second (start .args .kind .now) _ (right (start .args .v)) (start .pre .1 .2) (start .pre .1 .3) (start .pre .1 .0) (c .before .before .before .before .before .before .before .before .before .before .before .before .before .before .before .before .before .before .before .before .before .before .before .before .before .before .before .before .before .before .before .before .before .before .before .before .before .before .before .before .before .before .before .before .before .before .before .before .before .before .before .before .before .before .before .before .before .if1 .taken) _ refl)), (start .pre .1 .2), c .before .before .before .check .ensures .ready))
+decide-line-right-check-requires-2 t c κs =
+    let start = c .before .before .before .before .before .before .before .before .before .before .before .before .before .before .before .before .before .before .before .before .before .before .before .before .before .before .before .before .before .before .before .before .before .before .before .before .before .before .before .before .before .before .before .before .before .before .before .before .before .before .before .before .before .before .before .before .before .before .before in
+    let if1-taken = c .before .before .before .before .before .before .before .before .before .before .before .before .before .before .before .before .before .before .before .before .before .before .before .before .before .before .before .before .before .before .before .before .before .before .before .before .before .before .before .before .before .before .before .before .before .before .before .before .before .before .before .before .before .before .before .before .before .if1 .taken in
+    let check-says = c .before .before .before .check .ensures in
+    let st = line-is-stored (start .args .kind .now) _ (right (start .args .v)) (start .pre .1 .2) (start .pre .1 .3) (start .pre .1 .0) (if1-taken) _ refl _ (c .before .before .before .before .before .before .before .before .before .before .before .before .before .before .before .before .before .before .before .before .before .before .before .before .before .before .before .before .before .before .before .before .before .before .before .before .before .before .before .before .before .before .before .before .before .before .before .before .begin-line .ensures) (c .before .before .before .before .before .before .before .before .before .before .before .before .before .before .before .before .before .before .before .before .before .before .before .before .before .before .before .before .before .before .before .before .before .before .before .before .before .before .before .before .before .before .before .before .before .before .before .if2 .left) in ((omega (arith, start .pre .0, st .less, c .before .before .before .before .before .before .before .before .before .before .before .before .before .before .before .before .before .before .before .before .before .before .before .before .before .before .before .before .before .before .before .before .before .before .before .before .before .before .before .before .before .before .before .detour .ensures .fewer, c .before .before .before .before .before .before .before .before .before .before .before .before .before .before .before .before .before .before .before .before .before .before .before .before .before .before .before .before .before .before .before .before .before .before .before .before .before .before .before .detour2 .ensures .fewer, c .before .before .before .before .before .before .before .before .before .before .before .before .before .before .before .before .before .before .before .before .before .before .before .before .before .before .before .before .before .before .before .before .before .before .before .detour3 .ensures .fewer, c .before .before .before .before .before .before .before .before .before .before .before .before .before .before .before .before .before .before .before .before .before .before .before .before .before .before .before .before .before .before .before .detour4 .ensures .fewer, c .before .before .before .before .before .before .before .before .before .before .before .before .before .before .before .before .before .before .before .before .before .before .before .before .before .before .before .detour5 .ensures .fewer, c .before .before .before .before .before .before .before .before .before .before .before .before .before .before .before .before .before .before .before .before .before .before .before .detour6 .ensures .fewer, c .before .before .before .before .before .before .before .before .before .before .before .before .before .before .before .before .before .before .before .corner-right .ensures .fewer, c .before .before .before .before .before .before .before .before .before .before .before .before .before .before .before .corner-left .ensures .fewer, c .before .before .before .before .before .before .before .before .before .before .before .bar .ensures .fewer, c .before .before .before .before .before .before .before .bar2 .ensures .fewer, check-says .fewer)), ((omega (arith, (line-second (start .args .kind .now) _ (right (start .args .v)) (start .pre .1 .2) (start .pre .1 .3) (start .pre .1 .0) (if1-taken) _ refl), (start .pre .1 .3) .few-pads)), (λ h. (line-second (start .args .kind .now) _ (right (start .args .v)) (start .pre .1 .2) (start .pre .1 .3) (start .pre .1 .0) (if1-taken) _ refl)), (start .pre .1 .2), check-says .ready))
 
 decide-line-right-check-requires-3 : (t : ℕ) → decide-line-right-lts.Need-check-requires-3 (decide-line-right-claims t) (decide-line-right-at t) decide-line-right.Post
-decide-line-right-check-requires-3 t c κs = let start = c .before .before .before .before .before .before .before .before .before .before .before .before .before .before .before .before .before .before .before .before .before .before .before .before .before .before .before .before .before .before .before .before .before .before .before .before .before .before .before .before .before .before .before .before .before .before .before .before .before .before .before .before .before .before .before .before .before .before .before .before .before .before .before in let st = line-is-stored (start .args .kind .now) _ (right (start .args .v)) (start .pre .1 .2) (start .pre .1 .3) (start .pre .1 .0) (c .before .before .before .before .before .before .before .before .before .before .before .before .before .before .before .before .before .before .before .before .before .before .before .before .before .before .before .before .before .before .before .before .before .before .before .before .before .before .before .before .before .before .before .before .before .before .before .before .before .before .before .before .before .before .before .before .before .before .before .before .before .if1 .taken) _ refl _ (c .before .before .before .before .before .before .before .before .before .before .before .before .before .before .before .before .before .before .before .before .before .before .before .before .before .before .before .before .before .before .before .before .before .before .before .before .before .before .before .before .before .before .before .before .before .before .before .before .before .before .before .before .begin-line .ensures) (c .before .before .before .before .before .before .before .before .before .before .before .before .before .before .before .before .before .before .before .before .before .before .before .before .before .before .before .before .before .before .before .before .before .before .before .before .before .before .before .before .before .before .before .before .before .before .before .before .before .before .before .if2 .left) in ((omega (arith, start .pre .0, st .less, c .before .before .before .before .before .before .before .before .before .before .before .before .before .before .before .before .before .before .before .before .before .before .before .before .before .before .before .before .before .before .before .before .before .before .before .before .before .before .before .before .before .before .before .before .before .before .before .detour .ensures .fewer, c .before .before .before .before .before .before .before .before .before .before .before .before .before .before .before .before .before .before .before .before .before .before .before .before .before .before .before .before .before .before .before .before .before .before .before .before .before .before .before .before .before .before .before .detour2 .ensures .fewer, c .before .before .before .before .before .before .before .before .before .before .before .before .before .before .before .before .before .before .before .before .before .before .before .before .before .before .before .before .before .before .before .before .before .before .before .before .before .before .before .detour3 .ensures .fewer, c .before .before .before .before .before .before .before .before .before .before .before .before .before .before .before .before .before .before .before .before .before .before .before .before .before .before .before .before .before .before .before .before .before .before .before .detour4 .ensures .fewer, c .before .before .before .before .before .before .before .before .before .before .before .before .before .before .before .before .before .before .before .before .before .before .before .before .before .before .before .before .before .before .before .detour5 .ensures .fewer, c .before .before .before .before .before .before .before .before .before .before .before .before .before .before .before .before .before .before .before .before .before .before .before .before .before .before .before .detour6 .ensures .fewer, c .before .before .before .before .before .before .before .before .before .before .before .before .before .before .before .before .before .before .before .before .before .before .before .corner-right .ensures .fewer, c .before .before .before .before .before .before .before .before .before .before .before .before .before .before .before .before .before .before .before .corner-left .ensures .fewer, c .before .before .before .before .before .before .before .before .before .before .before .before .before .before .before .bar .ensures .fewer, c .before .before .before .before .before .before .before .before .before .before .before .bar2 .ensures .fewer, c .before .before .before .before .before .before .before .check .ensures .fewer, c .before .before .before .check2 .ensures .fewer)), ((line-end (start .args .kind .now) _ (right (start .args .v)) (start .pre .1 .2) (start .pre .1 .3) (start .pre .1 .0) (c .before .before .before .before .before .before .before .before .before .before .before .before .before .before .before .before .before .before .before .before .before .before .before .before .before .before .before .before .before .before .before .before .before .before .before .before .before .before .before .before .before .before .before .before .before .before .before .before .before .before .before .before .before .before .before .before .before .before .before .before .before .if1 .taken) _ refl (start .args .v) (line-first (start .args .kind .now) _ (right (start .args .v)) (start .pre .1 .2) (start .pre .1 .3) (start .pre .1 .0) (c .before .before .before .before .before .before .before .before .before .before .before .before .before .before .before .before .before .before .before .before .before .before .before .before .before .before .before .before .before .before .before .before .before .before .before .before .before .before .before .before .before .before .before .before .before .before .before .before .before .before .before .before .before .before .before .before .before .before .before .before .before .if1 .taken) _ refl) _ (c .before .before .before .before .before .before .before .before .before .before .before .before .before .before .before .before .before .before .before .before .before .before .before .before .before .before .before .before .before .before .before .before .before .before .before .before .before .before .before .before .before .before .before .before .before .before .before .before .before .before .before .before .before .before .before .before .before .before .end-pad .ensures)) .0, (line-end (start .args .kind .now) _ (right (start .args .v)) (start .pre .1 .2) (start .pre .1 .3) (start .pre .1 .0) (c .before .before .before .before .before .before .before .before .before .before .before .before .before .before .before .before .before .before .before .before .before .before .before .before .before .before .before .before .before .before .before .before .before .before .before .before .before .before .before .before .before .before .before .before .before .before .before .before .before .before .before .before .before .before .before .before .before .before .before .before .before .if1 .taken) _ refl (start .args .v) (line-first (start .args .kind .now) _ (right (start .args .v)) (start .pre .1 .2) (start .pre .1 .3) (start .pre .1 .0) (c .before .before .before .before .before .before .before .before .before .before .before .before .before .before .before .before .before .before .before .before .before .before .before .before .before .before .before .before .before .before .before .before .before .before .before .before .before .before .before .before .before .before .before .before .before .before .before .before .before .before .before .before .before .before .before .before .before .before .before .before .before .if1 .taken) _ refl) _ (c .before .before .before .before .before .before .before .before .before .before .before .before .before .before .before .before .before .before .before .before .before .before .before .before .before .before .before .before .before .before .before .before .before .before .before .before .before .before .before .before .before .before .before .before .before .before .before .before .before .before .before .before .before .before .before .before .before .before .end-pad .ensures)) .1, (start .pre .1 .2), c .before .before .before .check2 .ensures .ready))
+decide-line-right-check-requires-3 t c κs =
+    let start = c .before .before .before .before .before .before .before .before .before .before .before .before .before .before .before .before .before .before .before .before .before .before .before .before .before .before .before .before .before .before .before .before .before .before .before .before .before .before .before .before .before .before .before .before .before .before .before .before .before .before .before .before .before .before .before .before .before .before .before .before .before .before .before in
+    let if1-taken = c .before .before .before .before .before .before .before .before .before .before .before .before .before .before .before .before .before .before .before .before .before .before .before .before .before .before .before .before .before .before .before .before .before .before .before .before .before .before .before .before .before .before .before .before .before .before .before .before .before .before .before .before .before .before .before .before .before .before .before .before .before .if1 .taken in
+    let check2-says = c .before .before .before .check2 .ensures in
+    let end-pad-says = c .before .before .before .before .before .before .before .before .before .before .before .before .before .before .before .before .before .before .before .before .before .before .before .before .before .before .before .before .before .before .before .before .before .before .before .before .before .before .before .before .before .before .before .before .before .before .before .before .before .before .before .before .before .before .before .before .before .before .end-pad .ensures in
+    let st = line-is-stored (start .args .kind .now) _ (right (start .args .v)) (start .pre .1 .2) (start .pre .1 .3) (start .pre .1 .0) (if1-taken) _ refl _ (c .before .before .before .before .before .before .before .before .before .before .before .before .before .before .before .before .before .before .before .before .before .before .before .before .before .before .before .before .before .before .before .before .before .before .before .before .before .before .before .before .before .before .before .before .before .before .before .before .before .before .before .before .begin-line .ensures) (c .before .before .before .before .before .before .before .before .before .before .before .before .before .before .before .before .before .before .before .before .before .before .before .before .before .before .before .before .before .before .before .before .before .before .before .before .before .before .before .before .before .before .before .before .before .before .before .before .before .before .before .if2 .left) in ((omega (arith, start .pre .0, st .less, c .before .before .before .before .before .before .before .before .before .before .before .before .before .before .before .before .before .before .before .before .before .before .before .before .before .before .before .before .before .before .before .before .before .before .before .before .before .before .before .before .before .before .before .before .before .before .before .detour .ensures .fewer, c .before .before .before .before .before .before .before .before .before .before .before .before .before .before .before .before .before .before .before .before .before .before .before .before .before .before .before .before .before .before .before .before .before .before .before .before .before .before .before .before .before .before .before .detour2 .ensures .fewer, c .before .before .before .before .before .before .before .before .before .before .before .before .before .before .before .before .before .before .before .before .before .before .before .before .before .before .before .before .before .before .before .before .before .before .before .before .before .before .before .detour3 .ensures .fewer, c .before .before .before .before .before .before .before .before .before .before .before .before .before .before .before .before .before .before .before .before .before .before .before .before .before .before .before .before .before .before .before .before .before .before .before .detour4 .ensures .fewer, c .before .before .before .before .before .before .before .before .before .before .before .before .before .before .before .before .before .before .before .before .before .before .before .before .before .before .before .before .before .before .before .detour5 .ensures .fewer, c .before .before .before .before .before .before .before .before .before .before .before .before .before .before .before .before .before .before .before .before .before .before .before .before .before .before .before .detour6 .ensures .fewer, c .before .before .before .before .before .before .before .before .before .before .before .before .before .before .before .before .before .before .before .before .before .before .before .corner-right .ensures .fewer, c .before .before .before .before .before .before .before .before .before .before .before .before .before .before .before .before .before .before .before .corner-left .ensures .fewer, c .before .before .before .before .before .before .before .before .before .before .before .before .before .before .before .bar .ensures .fewer, c .before .before .before .before .before .before .before .before .before .before .before .bar2 .ensures .fewer, c .before .before .before .before .before .before .before .check .ensures .fewer, check2-says .fewer)), ((line-end (start .args .kind .now) _ (right (start .args .v)) (start .pre .1 .2) (start .pre .1 .3) (start .pre .1 .0) (if1-taken) _ refl (start .args .v) (line-first (start .args .kind .now) _ (right (start .args .v)) (start .pre .1 .2) (start .pre .1 .3) (start .pre .1 .0) (if1-taken) _ refl) _ (end-pad-says)) .0, (line-end (start .args .kind .now) _ (right (start .args .v)) (start .pre .1 .2) (start .pre .1 .3) (start .pre .1 .0) (if1-taken) _ refl (start .args .v) (line-first (start .args .kind .now) _ (right (start .args .v)) (start .pre .1 .2) (start .pre .1 .3) (start .pre .1 .0) (if1-taken) _ refl) _ (end-pad-says)) .1, (start .pre .1 .2), check2-says .ready))
 
 decide-line-right-check-requires-4 : (t : ℕ) → decide-line-right-lts.Need-check-requires-4 (decide-line-right-claims t) (decide-line-right-at t) decide-line-right.Post
-decide-line-right-check-requires-4 t c κs = let start = c .before .before .before .before .before .before .before .before .before .before .before .before .before .before .before .before .before .before .before .before .before .before .before .before .before .before .before .before .before .before .before .before .before .before .before .before .before .before .before .before .before .before .before .before .before .before .before .before .before .before .before .before .before .before .before .before .before .before .before .before .before .before .before .before .before .before .before in let st = line-is-stored (start .args .kind .now) _ (right (start .args .v)) (start .pre .1 .2) (start .pre .1 .3) (start .pre .1 .0) (c .before .before .before .before .before .before .before .before .before .before .before .before .before .before .before .before .before .before .before .before .before .before .before .before .before .before .before .before .before .before .before .before .before .before .before .before .before .before .before .before .before .before .before .before .before .before .before .before .before .before .before .before .before .before .before .before .before .before .before .before .before .before .before .before .before .if1 .taken) _ refl _ (c .before .before .before .before .before .before .before .before .before .before .before .before .before .before .before .before .before .before .before .before .before .before .before .before .before .before .before .before .before .before .before .before .before .before .before .before .before .before .before .before .before .before .before .before .before .before .before .before .before .before .before .before .before .before .before .before .begin-line .ensures) (c .before .before .before .before .before .before .before .before .before .before .before .before .before .before .before .before .before .before .before .before .before .before .before .before .before .before .before .before .before .before .before .before .before .before .before .before .before .before .before .before .before .before .before .before .before .before .before .before .before .before .before .before .before .before .before .if2 .left) in ((omega (arith, start .pre .0, st .less, c .before .before .before .before .before .before .before .before .before .before .before .before .before .before .before .before .before .before .before .before .before .before .before .before .before .before .before .before .before .before .before .before .before .before .before .before .before .before .before .before .before .before .before .before .before .before .before .before .before .before .before .detour .ensures .fewer, c .before .before .before .before .before .before .before .before .before .before .before .before .before .before .before .before .before .before .before .before .before .before .before .before .before .before .before .before .before .before .before .before .before .before .before .before .before .before .before .before .before .before .before .before .before .before .before .detour2 .ensures .fewer, c .before .before .before .before .before .before .before .before .before .before .before .before .before .before .before .before .before .before .before .before .before .before .before .before .before .before .before .before .before .before .before .before .before .before .before .before .before .before .before .before .before .before .before .detour3 .ensures .fewer, c .before .before .before .before .before .before .before .before .before .before .before .before .before .before .before .before .before .before .before .before .before .before .before .before .before .before .before .before .before .before .before .before .before .before .before .before .before .before .before .detour4 .ensures .fewer, c .before .before .before .before .before .before .before .before .before .before .before .before .before .before .before .before .before .before .before .before .before .before .before .before .before .before .before .before .before .before .before .before .before .before .before .detour5 .ensures .fewer, c .before .before .before .before .before .before .before .before .before .before .before .before .before .before .before .before .before .before .before .before .before .before .before .before .before .before .before .before .before .before .before .detour6 .ensures .fewer, c .before .before .before .before .before .before .before .before .before .before .before .before .before .before .before .before .before .before .before .before .before .before .before .before .before .before .before .corner-right .ensures .fewer, c .before .before .before .before .before .before .before .before .before .before .before .before .before .before .before .before .before .before .before .before .before .before .before .corner-left .ensures .fewer, c .before .before .before .before .before .before .before .before .before .before .before .before .before .before .before .before .before .before .before .bar .ensures .fewer, c .before .before .before .before .before .before .before .before .before .before .before .before .before .before .before .bar2 .ensures .fewer, c .before .before .before .before .before .before .before .before .before .before .before .check .ensures .fewer, c .before .before .before .before .before .before .before .check2 .ensures .fewer, c .before .before .before .check3 .ensures .fewer)), ((line-end (start .args .kind .now) _ (right (start .args .v)) (start .pre .1 .2) (start .pre .1 .3) (start .pre .1 .0) (c .before .before .before .before .before .before .before .before .before .before .before .before .before .before .before .before .before .before .before .before .before .before .before .before .before .before .before .before .before .before .before .before .before .before .before .before .before .before .before .before .before .before .before .before .before .before .before .before .before .before .before .before .before .before .before .before .before .before .before .before .before .before .before .before .before .if1 .taken) _ refl _ (line-second (start .args .kind .now) _ (right (start .args .v)) (start .pre .1 .2) (start .pre .1 .3) (start .pre .1 .0) (c .before .before .before .before .before .before .before .before .before .before .before .before .before .before .before .before .before .before .before .before .before .before .before .before .before .before .before .before .before .before .before .before .before .before .before .before .before .before .before .before .before .before .before .before .before .before .before .before .before .before .before .before .before .before .before .before .before .before .before .before .before .before .before .before .before .if1 .taken) _ refl) _ (c .before .before .before .before .before .before .before .before .before .before .before .before .before .before .before .before .before .before .before .before .before .before .before .before .before .before .before .before .before .before .before .before .before .before .before .before .before .before .before .before .before .before .before .before .before .before .before .before .before .before .before .before .before .before .before .before .before .before .before .before .end-pad2 .ensures)) .0, (line-end (start .args .kind .now) _ (right (start .args .v)) (start .pre .1 .2) (start .pre .1 .3) (start .pre .1 .0) (c .before .before .before .before .before .before .before .before .before .before .before .before .before .before .before .before .before .before .before .before .before .before .before .before .before .before .before .before .before .before .before .before .before .before .before .before .before .before .before .before .before .before .before .before .before .before .before .before .before .before .before .before .before .before .before .before .before .before .before .before .before .before .before .before .before .if1 .taken) _ refl _ (line-second (start .args .kind .now) _ (right (start .args .v)) (start .pre .1 .2) (start .pre .1 .3) (start .pre .1 .0) (c .before .before .before .before .before .before .before .before .before .before .before .before .before .before .before .before .before .before .before .before .before .before .before .before .before .before .before .before .before .before .before .before .before .before .before .before .before .before .before .before .before .before .before .before .before .before .before .before .before .before .before .before .before .before .before .before .before .before .before .before .before .before .before .before .before .if1 .taken) _ refl) _ (c .before .before .before .before .before .before .before .before .before .before .before .before .before .before .before .before .before .before .before .before .before .before .before .before .before .before .before .before .before .before .before .before .before .before .before .before .before .before .before .before .before .before .before .before .before .before .before .before .before .before .before .before .before .before .before .before .before .before .before .before .end-pad2 .ensures)) .1, (start .pre .1 .2), c .before .before .before .check3 .ensures .ready))
+decide-line-right-check-requires-4 t c κs =
+    let start = c .before .before .before .before .before .before .before .before .before .before .before .before .before .before .before .before .before .before .before .before .before .before .before .before .before .before .before .before .before .before .before .before .before .before .before .before .before .before .before .before .before .before .before .before .before .before .before .before .before .before .before .before .before .before .before .before .before .before .before .before .before .before .before .before .before .before .before in
+    let if1-taken = c .before .before .before .before .before .before .before .before .before .before .before .before .before .before .before .before .before .before .before .before .before .before .before .before .before .before .before .before .before .before .before .before .before .before .before .before .before .before .before .before .before .before .before .before .before .before .before .before .before .before .before .before .before .before .before .before .before .before .before .before .before .before .before .before .before .if1 .taken in
+    let check3-says = c .before .before .before .check3 .ensures in
+    let end-pad2-says = c .before .before .before .before .before .before .before .before .before .before .before .before .before .before .before .before .before .before .before .before .before .before .before .before .before .before .before .before .before .before .before .before .before .before .before .before .before .before .before .before .before .before .before .before .before .before .before .before .before .before .before .before .before .before .before .before .before .before .before .before .end-pad2 .ensures in
+    let st = line-is-stored (start .args .kind .now) _ (right (start .args .v)) (start .pre .1 .2) (start .pre .1 .3) (start .pre .1 .0) (if1-taken) _ refl _ (c .before .before .before .before .before .before .before .before .before .before .before .before .before .before .before .before .before .before .before .before .before .before .before .before .before .before .before .before .before .before .before .before .before .before .before .before .before .before .before .before .before .before .before .before .before .before .before .before .before .before .before .before .before .before .before .before .begin-line .ensures) (c .before .before .before .before .before .before .before .before .before .before .before .before .before .before .before .before .before .before .before .before .before .before .before .before .before .before .before .before .before .before .before .before .before .before .before .before .before .before .before .before .before .before .before .before .before .before .before .before .before .before .before .before .before .before .before .if2 .left) in ((omega (arith, start .pre .0, st .less, c .before .before .before .before .before .before .before .before .before .before .before .before .before .before .before .before .before .before .before .before .before .before .before .before .before .before .before .before .before .before .before .before .before .before .before .before .before .before .before .before .before .before .before .before .before .before .before .before .before .before .before .detour .ensures .fewer, c .before .before .before .before .before .before .before .before .before .before .before .before .before .before .before .before .before .before .before .before .before .before .before .before .before .before .before .before .before .before .before .before .before .before .before .before .before .before .before .before .before .before .before .before .before .before .before .detour2 .ensures .fewer, c .before .before .before .before .before .before .before .before .before .before .before .before .before .before .before .before .before .before .before .before .before .before .before .before .before .before .before .before .before .before .before .before .before .before .before .before .before .before .before .before .before .before .before .detour3 .ensures .fewer, c .before .before .before .before .before .before .before .before .before .before .before .before .before .before .before .before .before .before .before .before .before .before .before .before .before .before .before .before .before .before .before .before .before .before .before .before .before .before .before .detour4 .ensures .fewer, c .before .before .before .before .before .before .before .before .before .before .before .before .before .before .before .before .before .before .before .before .before .before .before .before .before .before .before .before .before .before .before .before .before .before .before .detour5 .ensures .fewer, c .before .before .before .before .before .before .before .before .before .before .before .before .before .before .before .before .before .before .before .before .before .before .before .before .before .before .before .before .before .before .before .detour6 .ensures .fewer, c .before .before .before .before .before .before .before .before .before .before .before .before .before .before .before .before .before .before .before .before .before .before .before .before .before .before .before .corner-right .ensures .fewer, c .before .before .before .before .before .before .before .before .before .before .before .before .before .before .before .before .before .before .before .before .before .before .before .corner-left .ensures .fewer, c .before .before .before .before .before .before .before .before .before .before .before .before .before .before .before .before .before .before .before .bar .ensures .fewer, c .before .before .before .before .before .before .before .before .before .before .before .before .before .before .before .bar2 .ensures .fewer, c .before .before .before .before .before .before .before .before .before .before .before .check .ensures .fewer, c .before .before .before .before .before .before .before .check2 .ensures .fewer, check3-says .fewer)), ((line-end (start .args .kind .now) _ (right (start .args .v)) (start .pre .1 .2) (start .pre .1 .3) (start .pre .1 .0) (if1-taken) _ refl _ (line-second (start .args .kind .now) _ (right (start .args .v)) (start .pre .1 .2) (start .pre .1 .3) (start .pre .1 .0) (if1-taken) _ refl) _ (end-pad2-says)) .0, (line-end (start .args .kind .now) _ (right (start .args .v)) (start .pre .1 .2) (start .pre .1 .3) (start .pre .1 .0) (if1-taken) _ refl _ (line-second (start .args .kind .now) _ (right (start .args .v)) (start .pre .1 .2) (start .pre .1 .3) (start .pre .1 .0) (if1-taken) _ refl) _ (end-pad2-says)) .1, (start .pre .1 .2), check3-says .ready))
 
 decide-line-right-end-requires : (t : ℕ) → decide-line-right-lts.Need-end-requires (decide-line-right-claims t) (decide-line-right-at t) decide-line-right.Post
 decide-line-right-end-requires t c κs = search needs
@@ -699,16 +933,28 @@ decide-none-add-check : (t : ℕ) → decide-none-lts.Need-add-check (decide-non
 decide-none-add-check t c = let start = c .before .before .before .before .before .before .before .before .before .before .before .before in (omega (arith, c .go-on .ensures, going-count (start .args .count) ((start .pre .1 .2) .mode) .1))
 
 decide-none-check-requires : (t : ℕ) → decide-none-lts.Need-check-requires (decide-none-claims t) (decide-none-at t) decide-none.Post
-decide-none-check-requires t c κs = let start = c .before .before .before .before .before .before .before .before .before .before .before .before in let st = none-is-stored (start .args .kind .now) _ (start .args .slot) (start .pre .1 .0) (start .pre .1 .1) (start .pre .1 .2) (c .before .before .before .before .before .before .before .before .before .before .if1 .taken) _ _ _ (c .before .before .before .before .before .before .before .store .ensures .0) (c .before .before .before .before .before .before .before .store .ensures .1) (c .go-on .ensures) in let b = none-first (start .args .kind .now) _ (start .args .slot) (start .pre .1 .0) (start .pre .1 .1) (start .pre .1 .2) (c .before .before .before .before .before .before .before .before .before .before .if1 .taken) _ (c .before .before .before .before .before .before .first-pad .ensures) in ((omega (arith, start .pre .0, st .less)), ((omega (arith, b, (start .pre .1 .2) .few-pads)), (λ h. b), (start .pre .1 .1), st .ready))
+decide-none-check-requires t c κs =
+    let start = c .before .before .before .before .before .before .before .before .before .before .before .before in
+    let if1-taken = c .before .before .before .before .before .before .before .before .before .before .if1 .taken in
+    let store-says = c .before .before .before .before .before .before .before .store .ensures in
+    let st = none-is-stored (start .args .kind .now) _ (start .args .slot) (start .pre .1 .0) (start .pre .1 .1) (start .pre .1 .2) (if1-taken) _ _ _ (store-says .0) (store-says .1) (c .go-on .ensures) in let b = none-first (start .args .kind .now) _ (start .args .slot) (start .pre .1 .0) (start .pre .1 .1) (start .pre .1 .2) (if1-taken) _ (c .before .before .before .before .before .before .first-pad .ensures) in ((omega (arith, start .pre .0, st .less)), ((omega (arith, b, (start .pre .1 .2) .few-pads)), (λ h. b), (start .pre .1 .1), st .ready))
 
 decide-none-check-requires-2 : (t : ℕ) → decide-none-lts.Need-check-requires-2 (decide-none-claims t) (decide-none-at t) decide-none.Post
-decide-none-check-requires-2 t c κs = let start = c .before .before .before .before .before .before .before .before .before .before .before .before .before .before .before .before in let st = none-is-stored (start .args .kind .now) _ (start .args .slot) (start .pre .1 .0) (start .pre .1 .1) (start .pre .1 .2) (c .before .before .before .before .before .before .before .before .before .before .before .before .before .before .if1 .taken) _ _ _ (c .before .before .before .before .before .before .before .before .before .before .before .store .ensures .0) (c .before .before .before .before .before .before .before .before .before .before .before .store .ensures .1) (c .before .before .before .before .go-on .ensures) in let b = none-second (start .args .kind .now) _ (start .args .slot) (start .pre .1 .0) (start .pre .1 .1) (start .pre .1 .2) (c .before .before .before .before .before .before .before .before .before .before .before .before .before .before .if1 .taken) _ _ (c .before .before .before .before .before .before .before .before .before .width .ensures) (c .before .before .before .before .before .before .before .before .second-pad .ensures) in ((omega (arith, start .pre .0, st .less, c .before .before .before .check .ensures .fewer)), ((omega (arith, b, (start .pre .1 .2) .few-pads)), (λ h. b), (start .pre .1 .1), c .before .before .before .check .ensures .ready))
+decide-none-check-requires-2 t c κs =
+    let start = c .before .before .before .before .before .before .before .before .before .before .before .before .before .before .before .before in
+    let if1-taken = c .before .before .before .before .before .before .before .before .before .before .before .before .before .before .if1 .taken in
+    let store-says = c .before .before .before .before .before .before .before .before .before .before .before .store .ensures in
+    let check-says = c .before .before .before .check .ensures in
+    let st = none-is-stored (start .args .kind .now) _ (start .args .slot) (start .pre .1 .0) (start .pre .1 .1) (start .pre .1 .2) (if1-taken) _ _ _ (store-says .0) (store-says .1) (c .before .before .before .before .go-on .ensures) in let b = none-second (start .args .kind .now) _ (start .args .slot) (start .pre .1 .0) (start .pre .1 .1) (start .pre .1 .2) (if1-taken) _ _ (c .before .before .before .before .before .before .before .before .before .width .ensures) (c .before .before .before .before .before .before .before .before .second-pad .ensures) in ((omega (arith, start .pre .0, st .less, check-says .fewer)), ((omega (arith, b, (start .pre .1 .2) .few-pads)), (λ h. b), (start .pre .1 .1), check-says .ready))
 
 decide-none-end-requires : (t : ℕ) → decide-none-lts.Need-end-requires (decide-none-claims t) (decide-none-at t) decide-none.Post
 decide-none-end-requires t c κs = search needs
 
 decide-none-returns : (t : ℕ) → decide-none-lts.Need-returns (decide-none-claims t) (decide-none-at t) decide-none.Post
-decide-none-returns t c = let start = c .before .before .before .before .before .before .before .before .before .before .before .before .before .before .before .before .before .before in none-returns (start .args .kind .now) _ (start .args .slot) (start .pre .1 .0) (start .pre .1 .1) (start .pre .1 .2) (c .before .before .before .before .before .before .before .before .before .before .before .before .before .before .before .before .if1 .taken) _ _ _ (c .before .before .before .before .before .before .before .before .before .before .before .before .before .store .ensures .0) (c .before .before .before .before .before .before .before .before .before .before .before .before .before .store .ensures .1) (c .before .before .before .before .before .before .go-on .ensures) _ _ _ (c .before .before .before .before .before .before .before .before .before .before .before .before .first-pad .ensures) (c .before .before .before .before .before .before .before .before .before .before .before .width .ensures) (c .before .before .before .before .before .before .before .before .before .before .second-pad .ensures) _ _ (c .before .before .before .before .before .check .ensures) (c .before .check2 .ensures) _ (c .end .ensures)
+decide-none-returns t c =
+    let start = c .before .before .before .before .before .before .before .before .before .before .before .before .before .before .before .before .before .before in
+    let store-says = c .before .before .before .before .before .before .before .before .before .before .before .before .before .store .ensures in
+    none-returns (start .args .kind .now) _ (start .args .slot) (start .pre .1 .0) (start .pre .1 .1) (start .pre .1 .2) (c .before .before .before .before .before .before .before .before .before .before .before .before .before .before .before .before .if1 .taken) _ _ _ (store-says .0) (store-says .1) (c .before .before .before .before .before .before .go-on .ensures) _ _ _ (c .before .before .before .before .before .before .before .before .before .before .before .before .first-pad .ensures) (c .before .before .before .before .before .before .before .before .before .before .before .width .ensures) (c .before .before .before .before .before .before .before .before .before .before .second-pad .ensures) _ _ (c .before .before .before .before .before .check .ensures) (c .before .check2 .ensures) _ (c .end .ensures)
 
 decide-none-stop-requires : (t : ℕ) → decide-none-lts.Need-stop-requires (decide-none-claims t) (decide-none-at t) decide-none.Post
 decide-none-stop-requires t c κs = search needs
@@ -735,13 +981,19 @@ detour-decide-none-requires : (t : ℕ) → detour-lts.Need-decide-none-requires
 detour-decide-none-requires t c κs = let start = c .before .before .before .before .before .before in ((omega (arith, start .pre .0)), ((start .pre .1 .1), (start .pre .1 .4), (start .pre .1 .5)))
 
 detour-returns-3 : (t : ℕ) → detour-lts.Need-returns-3 (detour-claims t) (detour-at t) detour.Post
-detour-returns-3 t c = let start = c .before .before .before .before .before .before .before .before in detour-first (grid-in (start .args .kind .now)) _ (start .pre .1 .5) (start .args .a) (start .args .b) (start .args .c) (start .pre .1 .0) (c .before .before .before .before .before .before .before .if1 .left) (c .before .before .before .before .before .if2 .left) _ (c .before .decide-none .ensures .acts (((start .pre .1 .3) (slot-is-on (grid-in (start .args .kind .now)) _ (start .pre .1 .5) (start .args .a) (start .pre .1 .0) (omega (arith, c .before .before .before .before .before .if2 .left)))) .0)) (c .if3 .taken)
+detour-returns-3 t c =
+    let start = c .before .before .before .before .before .before .before .before in
+    let if2-left = c .before .before .before .before .before .if2 .left in
+    detour-first (grid-in (start .args .kind .now)) _ (start .pre .1 .5) (start .args .a) (start .args .b) (start .args .c) (start .pre .1 .0) (c .before .before .before .before .before .before .before .if1 .left) (if2-left) _ (c .before .decide-none .ensures .acts (((start .pre .1 .3) (slot-is-on (grid-in (start .args .kind .now)) _ (start .pre .1 .5) (start .args .a) (start .pre .1 .0) (omega (arith, if2-left)))) .0)) (c .if3 .taken)
 
 detour-decide-none-requires-2 : (t : ℕ) → detour-lts.Need-decide-none-requires-2 (detour-claims t) (detour-at t) detour.Post
 detour-decide-none-requires-2 t c κs = let start = c .before .before .before .before .before .before .before .before .before .before .before in let d = (c .before .before .before .before .decide-none .ensures .acts (((start .pre .1 .3) (slot-is-on (grid-in (start .args .kind .now)) _ (start .pre .1 .5) (start .args .a) (start .pre .1 .0) (omega (arith, c .before .before .before .before .before .before .before .before .if2 .left)))) .0)) in ((omega (arith, start .pre .0, d .fewer)), ((start .pre .1 .2), (start .pre .1 .4), d .ready))
 
 detour-returns-4 : (t : ℕ) → detour-lts.Need-returns-4 (detour-claims t) (detour-at t) detour.Post
-detour-returns-4 t c = let start = c .before .before .before .before .before .before .before .before .before .before .before .before in detour-both (grid-in (start .args .kind .now)) _ (start .pre .1 .5) (start .args .a) (start .args .b) (start .args .c) (start .pre .1 .0) (c .before .before .before .before .before .before .before .before .before .before .before .if1 .left) (c .before .before .before .before .before .before .before .before .before .if2 .left) _ _ (c .before .before .before .before .before .decide-none .ensures .acts (((start .pre .1 .3) (slot-is-on (grid-in (start .args .kind .now)) _ (start .pre .1 .5) (start .args .a) (start .pre .1 .0) (omega (arith, c .before .before .before .before .before .before .before .before .before .if2 .left)))) .0)) (c .before .before .before .before .if3 .left) (c .decide-none2 .ensures .acts (((start .pre .1 .3) (slot-is-on (grid-in (start .args .kind .now)) _ (start .pre .1 .5) (start .args .a) (start .pre .1 .0) (omega (arith, c .before .before .before .before .before .before .before .before .before .if2 .left)))) .1))
+detour-returns-4 t c =
+    let start = c .before .before .before .before .before .before .before .before .before .before .before .before in
+    let if2-left = c .before .before .before .before .before .before .before .before .before .if2 .left in
+    detour-both (grid-in (start .args .kind .now)) _ (start .pre .1 .5) (start .args .a) (start .args .b) (start .args .c) (start .pre .1 .0) (c .before .before .before .before .before .before .before .before .before .before .before .if1 .left) (if2-left) _ _ (c .before .before .before .before .before .decide-none .ensures .acts (((start .pre .1 .3) (slot-is-on (grid-in (start .args .kind .now)) _ (start .pre .1 .5) (start .args .a) (start .pre .1 .0) (omega (arith, if2-left)))) .0)) (c .before .before .before .before .if3 .left) (c .decide-none2 .ensures .acts (((start .pre .1 .3) (slot-is-on (grid-in (start .args .kind .now)) _ (start .pre .1 .5) (start .args .a) (start .pre .1 .0) (omega (arith, if2-left)))) .1))
 
 pub +bar+check+corner-left+corner-right+decide-line-down+decide-line-right+decide-none+detour-spec :
     {M : Type 1} → statement M
