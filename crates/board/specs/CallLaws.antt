@@ -1,22 +1,19 @@
 -- Why each call's answer says what the model's does: the declined calls, the checkpoint, the undo, the decision. It rests on Held.antt.
-use Prim.Native.Nat.{ℕ, zero, suc, _+_, _*_, _-_, _%_, _≤_, _<_}
-use mathlib.Core.Path.{_≡_, refl, sym, ap, _∙_}
-use mathlib.Core.Bool.{Bool, true, false}
+use Prim.Native.Nat.{ℕ, suc, _+_, _-_, _%_, _≤_, _<_}
+use mathlib.Core.Path.{_≡_, refl, ap, _∙_}
 use mathlib.Core.List.{List, [], _∷_}
 use native.Mathlib.Omega.{arith}
 use native.Mathlib.Numerals.{add-one}
-use lib.Dec.{ltb}
 use lib.ListN.{length, set, getD, length-set}
 use lib.IntN.{ℤ}
 use borrow.Author.Tests.{lt-ltb, le-ltb}
 use Rattle.rules.specs.Grid.{Grid}
 use Rattle.model.specs.Board.{State}
 use Rattle.model.specs.Calls as model
-use Rattle.boardview.specs.View.{Arrays, logged, grid-in, Kinds, Ready, view, unwound, Since}
+use Rattle.boardview.specs.View.{Arrays, logged, grid-in, Kinds, Ready, view}
 use Rattle.board.specs.Past.{before, back-to, Past, begun, marked, past-fresh, past-marked, same-many, as-many, standing-marks, one-more-mark}
 use Rattle.board.specs.Held.{arrays-of, Held, Says}
 use Rattle.board.specs.declared.Board.{Board}
-use Rattle.board.specs.declared.Answer.{Answer}
 
 -- a declined call: number, 0, and the board as it was
 pub declined : {b : Board} {B : model.Board} (number : ℕ) → Held b B

@@ -1,27 +1,26 @@
 -- The fresh board, the reading and the decision: why the answers say what the model's do. A decision of the code knows of a grid only its sizes
 -- and which pads are blank, and so does the model's (boardview's SameBlanks.antt); the number of undecided edges keeps it from needing more
 -- than the model's bound (boardview's Undecided.antt).
-use Prim.Native.Nat.{ℕ, zero, suc, _+_, _*_, _-_, _%_, _≤_, _<_}
+use Prim.Native.Nat.{ℕ, _+_, _*_, _-_}
 use mathlib.Core.Path.{_≡_, refl, sym, ap, _∙_}
-use mathlib.Core.Bool.{Bool, true, false}
+use mathlib.Core.Bool.{true, false}
 use mathlib.Core.List.{List, [], _∷_}
 use native.Mathlib.Omega.{arith}
-use lib.Dec.{eqb}
-use lib.ListN.{length, getD}
+use lib.ListN.{length}
 use lib.IntN.{ℤ}
 use borrow.Author.Tests.{eq-eqb, ne-eqb}
-use Rattle.rules.specs.Grid.{Edge, Place, edge, no-edge, Cell, blank-cell, Grid, grid-of, pads, Accepted}
+use Rattle.rules.specs.Grid.{Edge, edge, no-edge, blank-cell, Grid, grid-of, Accepted}
 use Rattle.rules.specs.Drawing.{num}
-use Rattle.model.specs.Board.{EdgeState, State, line, none, line-or-none, isBlank, decide, enough, fresh}
+use Rattle.model.specs.Board.{EdgeState, line-or-none, decide, enough}
 use Rattle.model.specs.Bounds.{is-size}
 use Rattle.model.specs.Refusals.{is-cell, first-bad-cell, grid-refusal}
 use Rattle.model.specs.RefusalLaws.{not-refused}
 use Rattle.model.specs.Calls as model
-use Rattle.boardview.specs.View.{Arrays, view, flag-in, slot, slot-on, edge-of, grid-in, Kinds, Ready, Decided, Since}
+use Rattle.boardview.specs.View.{Arrays, view, flag-in, grid-in, Decided}
 use Rattle.boardfresh.specs.FreshView.{FreshBoard}
 use Rattle.boardview.specs.SameBlanks.{shown-decides}
 use Rattle.boardview.specs.Undecided.{enough-here}
-use Rattle.board.specs.Past.{Past, past-since, past-fresh, standing-marks}
+use Rattle.board.specs.Past.{past-since, past-fresh, standing-marks}
 use Rattle.board.specs.Held.{arrays-of, Held, Says}
 use Rattle.board.specs.CallLaws.{declined}
 use Rattle.board.specs.declared.Board.{Board}

@@ -1,8 +1,7 @@
 -- What a board of the code holds of the model's board, and what an answer says. A board that the calls handed out holds one (IsBoard); that,
 -- and no more, is given of it. It rests on Past.antt, boardview's View.antt and the model's Calls.antt.
-use Prim.Native.Nat.{ℕ, _*_, _≤_, _<_}
+use Prim.Native.Nat.{ℕ, _*_, _≤_}
 use mathlib.Core.Path.{_≡_}
-use mathlib.Core.List.{List}
 use lib.ListN.{length, take}
 use Rattle.rules.specs.Grid.{places}
 use Rattle.model.specs.Calls as model

@@ -1,24 +1,19 @@
 -- The edge at a place of the field, as a slot of the board's bytes: which slot, that it is on the board, and which byte stands there. It rests
 -- on the rules' Places.antt and boardview's View.antt.
-use Prim.Native.Nat.{ℕ, zero, suc, _+_, _*_, _-_, _%_, _/_, _≤_, _<_}
+use Prim.Native.Nat.{ℕ, _+_, _*_, _-_, _%_, _/_, _≤_, _<_}
 use mathlib.Core.Path.{_≡_, refl, sym, ap, _∙_}
 use mathlib.Core.Bool.{Bool, true, false, _&&_}
-use mathlib.Core.List.{List, [], _∷_, _++_}
+use mathlib.Core.List.{List, []}
 use native.Mathlib.Omega.{arith}
-use native.Mathlib.Nat.{mul-le-mul, div-lt-iff-lt-mul, mod-lt}
-use native.Mathlib.Numerals.{add-one}
-use lib.Dec.{ltb, eqb}
-use lib.ListN.{getD, length, take, set}
-use lib.Seq.{take-suc-set}
+use native.Mathlib.Nat.{mul-le-mul}
+use lib.Dec.{ltb}
+use lib.ListN.{getD}
 use borrow.Author.Tests.{lt-ltb, le-ltb, ltb-true}
-use Rattle.rules.specs.Grid.{Edge, right, down, Place, edge, no-edge, place-at, place-by-parity, pad-index, field-side, places, Grid, pads, OnBoard}
+use Rattle.rules.specs.Grid.{Edge, right, down, Place, edge, no-edge, place-at, place-by-parity, field-side, Grid, pads, OnBoard}
 use Rattle.rules.specs.Places.{edge-of-place}
-use Rattle.rules.specs.Record.{field, tabulate, byte-at-place}
-use Rattle.rules.specs.RecordLaws.{tabulate-same}
 use Rattle.model.specs.Board.{on-board}
-use Rattle.model.specs.Calls.{edge-at, state-byte}
-use Rattle.boardview.specs.View.{slot, slot-on, state-of, grid-in, Kinds}
-use Rattle.boardview.specs.Bytes.{default-free, edge-on, both-true}
+use Rattle.model.specs.Calls.{edge-at}
+use Rattle.boardview.specs.View.{slot, grid-in, Kinds}
 
 -- the slot of the edge at a place, 0 where there is none; slots of edges begin at 32
 unfoldable pub slot-of-place : Place → ℕ
@@ -33,9 +28,6 @@ shown-byte edges (edge e) = getD edges (slot e) 0
 -- the record, byte by byte
 abbrev pub shown-at : Grid → List ℕ → ℕ → ℕ
 shown-at g edges i = shown-byte edges (edge-at g (i / field-side (g .width)) (i % field-side (g .width)))
-
-unfoldable pub shown-record : Grid → List ℕ → List ℕ
-shown-record g edges = tabulate (shown-at g edges) 0 (places (g .height) (g .width))
 
 -- THE SLOT AT A PLACE, by the tests that the code makes
 module _ (g : Grid) (y x : ℕ) where

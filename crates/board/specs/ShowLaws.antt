@@ -1,7 +1,6 @@
 -- What a board shows: a list laid out element by element, the record of the edges, the ends. It rests on PlaceLaws.antt and Held.antt.
 use Prim.Native.Nat.{ℕ, zero, suc, _+_, _*_, _-_, _%_, _/_, _≤_, _<_}
 use mathlib.Core.Path.{_≡_, refl, sym, ap, _∙_, subst}
-use mathlib.Core.Bool.{Bool, true, false}
 use mathlib.Core.List.{List, [], _∷_, _++_}
 use native.Mathlib.Omega.{arith}
 use native.Mathlib.Nat.{mul-le-mul, div-lt-iff-lt-mul, mod-lt}
@@ -12,9 +11,9 @@ use lib.IntN.{ℤ, pos, negsuc}
 use Rattle.rules.specs.Grid.{Edge, Place, edge, no-edge, place-at, field-side, places, Grid, pads}
 use Rattle.rules.specs.Record.{field, tabulate, byte-at-place}
 use Rattle.rules.specs.RecordLaws.{tabulate-same}
-use Rattle.model.specs.Board.{End, end-number}
+use Rattle.model.specs.Board.{end-number}
 use Rattle.model.specs.Calls as model
-use Rattle.boardview.specs.View.{slot, state-of, end-of, view, grid-in, Kinds, Ready, flag-in}
+use Rattle.boardview.specs.View.{slot, end-of, view, grid-in, flag-in}
 use Rattle.boardview.specs.Bytes.{default-free}
 use Rattle.boardview.specs.Places.{byte-back, one-more}
 use Rattle.board.specs.PlaceLaws.{shown-byte, shown-at, at-place, on-place}

@@ -1,23 +1,22 @@
 -- The slot that the code finds for a place, and the calls on it: declined where there is none, else the call on the edge of that slot. It
 -- rests on PlaceLaws.antt and DecisionLaws.antt.
-use Prim.Native.Nat.{ℕ, zero, suc, _+_, _*_, _-_, _%_, _/_, _≤_, _<_}
+use Prim.Native.Nat.{ℕ, _+_, _-_, _%_, _/_, _≤_, _<_}
 use mathlib.Core.Path.{_≡_, refl, sym, ap, _∙_}
-use mathlib.Core.Bool.{Bool, true, false, _&&_}
-use mathlib.Core.List.{List}
+use mathlib.Core.Bool.{Bool, true, false}
 use native.Mathlib.Omega.{arith}
 use native.Mathlib.Nat.{mul-le-mul}
 use lib.Dec.{eqb, ltb}
-use lib.ListN.{length, getD}
+use lib.ListN.{getD}
 use borrow.Author.Tests.{eq-eqb, ne-eqb, ltb-true, eqb-true, eqb-false}
-use Rattle.rules.specs.Grid.{Edge, right, down, Grid, pads}
-use Rattle.model.specs.Board.{on-board, none, line-or-none}
+use Rattle.rules.specs.Grid.{right, down, Grid, pads}
+use Rattle.model.specs.Board.{on-board, line-or-none}
 use Rattle.model.specs.Calls as model
-use Rattle.boardview.specs.View.{slot, slot-on, edge-of, grid-in}
+use Rattle.boardview.specs.View.{slot-on, edge-of, grid-in}
 use Rattle.boardview.specs.Bytes.{on-slot, edge-on, both-true}
 use Rattle.boardview.specs.OneEdge.{edge-of-slot}
 use Rattle.board.specs.PlaceLaws.{slot-of-place, EdgeThere, found-there, no-edge-there}
 use Rattle.board.specs.ShowLaws.{edge-byte}
-use Rattle.board.specs.Held.{arrays-of, Held, Says}
+use Rattle.board.specs.Held.{Held, Says}
 use Rattle.board.specs.DecisionLaws.{no-place-decided, no-place-read, no-state, line-decided, none-decided, edge-read}
 use Rattle.board.specs.declared.Board.{Board}
 use Rattle.board.specs.declared.Answer.{Answer}
@@ -47,9 +46,6 @@ module _ (g : Grid) (n : ℕ) (few : pads g ≤ 256) (on : slot-on g n ≡ true)
       go : (b : Bool) → eqb (n % 2) 0 ≡ b → n / 2 - 16 < 256
       go true even = let v : n / 2 - 16 < pads g = ltb-true (n / 2 - 16) (pads g) (both-true (ltb ((n / 2 - 16) % g .width + 1) (g .width)) (ltb (n / 2 - 16) (pads g)) (right-on (eqb-true (n % 2) 0 even)) .1) in omega arith
       go false odd = let v : n / 2 - 16 + g .width < pads g = ltb-true (n / 2 - 16 + g .width) (pads g) (down-on (eqb-false (n % 2) 0 odd)) in omega arith
-
-  pub slot-small : n < 1024
-  slot-small = let v = pad-small in omega arith
 
 -- THE CALLS AT A PLACE
 module _ (b : Board) (B : model.Board) (held : Held b B) (y x n : ℕ) (is : n ≡ slot-of-place (model.edge-at (grid-in (b .kind)) y x)) where

@@ -2,16 +2,14 @@
 // these calls. What each call does is said in the crate `model`, specs/Calls.antt there; specs/Held.antt says what a board of this crate
 // holds of a board there.
 ghost use mathlib.Core.Path.{_≡_};
-ghost use mathlib.Core.Bool.{Bool, true, false};
-ghost use mathlib.Core.List.{List};
-ghost use Prim.Native.Nat.{ℕ, _+_, _*_, _-_, _%_, _≤_, _<_};
-ghost use lib.ListN.{length, take};
-ghost use lib.IntN.{ℤ};
-ghost use Rattle.rules.specs.Grid.{Accepted, grid-of, pads, places};
+ghost use mathlib.Core.Bool.{true, false};
+ghost use Prim.Native.Nat.{_+_, _*_, _-_, _%_, _<_};
+ghost use lib.ListN.{length};
+ghost use Rattle.rules.specs.Grid.{Accepted, grid-of, places};
 ghost use Rattle.rules.specs.Drawing.{num};
 ghost use Rattle.model.specs.Board.{line-or-none};
 ghost use Rattle.model.specs.Calls as model;
-ghost use Rattle.boardview.specs.View.{Arrays, flag-in, grid-in, slot-on, edge-of, Kinds, Ready, Decided};
+ghost use Rattle.boardview.specs.View.{flag-in, grid-in, slot-on, edge-of, Kinds, Ready, Decided};
 ghost use Rattle.board.specs.Held.{Held, IsBoard, Says, Shows, declined-with};
 ghost use Rattle.board.specs.PlaceLaws.{slot-of-place, shown-byte, shown-at};
 ghost use Rattle.board.specs.ShowLaws.{Laid, end-at-index};

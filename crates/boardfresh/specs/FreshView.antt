@@ -9,7 +9,7 @@ use lib.Dec.{ltb}
 use lib.ListN.{getD, length, List·getD-eq-default}
 use lib.IntN.{ℤ, pos, negsuc}
 use borrow.Author.Tests.{ltb-true, ltb-false}
-use Rattle.rules.specs.Grid.{Edge, right, Cell, blank, clue, Grid, pads, grid-of, cell-of, blank-cell, Accepted}
+use Rattle.rules.specs.Grid.{Edge, Cell, blank, clue, Grid, pads, grid-of, cell-of, blank-cell, Accepted}
 use Rattle.rules.specs.Drawing.{Side}
 use Rattle.model.specs.Board.{undecided, none, at-pad, isBlank, diagonal, on-board, barred, fresh-end, fresh}
 use Rattle.boardview.specs.View.{pick, Arrays, slot, slot-on, state-of, end-of, end-at, view, has-bit, clue-bit, corner-bit, bar-bit, cell-in, grid-in, Kinds, Ready}

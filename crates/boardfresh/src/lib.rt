@@ -1,9 +1,9 @@
 // The arrays of a fresh board, from the sizes and a lent list of cells: a byte for each edge, an end number for each pad, and the kinds
 // of the pads. What they hold is said in specs/FreshArrays.antt; that they show the model's fresh board is proved in specs/FreshView.antt.
 ghost use mathlib.Core.Path.{_≡_};
-ghost use mathlib.Core.Bool.{Bool, true, false};
-ghost use Prim.Native.Nat.{ℕ, _+_, _*_, _≤_, _<_};
-ghost use lib.ListN.{length, set, getD};
+ghost use mathlib.Core.Bool.{true, false};
+ghost use Prim.Native.Nat.{_+_, _*_, _≤_, _<_};
+ghost use lib.ListN.{length, set};
 ghost use Rattle.rules.specs.Grid.{Size, Accepted, grid-of};
 ghost use Rattle.boardview.specs.View.{bytes-equal, undecided-side, action-code, action-entry};
 ghost use Rattle.boardfresh.specs.FreshArrays.{right-byte, down-byte, edge-byte, EdgesFrom, end-number-at, EndsFrom, CellsInRange, kind-byte, is-clue, corner-test, barred-in, barred-below, bar-test, kind-from, TableFrom, FreshKinds};

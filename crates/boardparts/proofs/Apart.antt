@@ -1,15 +1,12 @@
 -- The pad check's first test, as the code's branches come to it.
-use mathlib.Core.Path.{_≡_, refl, sym, ap, _∙_}
-use mathlib.Core.Bool.{Bool, true, false, _||_}
-use mathlib.Core.List.{List, [], _∷_}
-use Prim.Native.Nat.{ℕ, zero, suc, _+_, _-_, _*_, _%_, _/_, _≤_, _<_}
+use mathlib.Core.Path.{_≡_, refl}
+use mathlib.Core.Bool.{true, false}
+use mathlib.Core.List.{List}
+use Prim.Native.Nat.{ℕ, _+_, _-_, _*_, _≤_}
 use native.Mathlib.Omega.{arith}
-use lib.Dec.{eqb, ltb}
 use lib.IntN.{ℤ}
-use lib.ListN.{getD}
-use Rattle.rules.specs.Drawing.{num}
-use borrow.Author.Tests.{lt-ltb, le-ltb, eq-eqb, ne-eqb}
-use Rattle.boardview.specs.View.{pick, end-at, code-number, keeps-apart, some-apart, clue-apart}
+use borrow.Author.Tests.{eq-eqb, ne-eqb}
+use Rattle.boardview.specs.View.{end-at, code-number, keeps-apart, some-apart, clue-apart}
 
 -- SOME EDGE IS TO BE NONE
 module _ (edges : List ℕ) (ends : List ℤ) (w v code : ℕ) (e : code ≡ code-number (end-at ends v)) (b : w ≤ 16) where

@@ -1,14 +1,14 @@
 // The leaves of a decision: what only reads the board's lent arrays and chooses, and what stores one entry. Each equals a definition of
 // boardview's View.antt. Nothing here calls a decision.
 ghost use mathlib.Core.Path.{_≡_};
-ghost use mathlib.Core.Bool.{Bool, true, false, _&&_};
+ghost use mathlib.Core.Bool.{true, false};
 ghost use Prim.Native.Nat.{ℕ, _+_, _*_, _-_, _/_, _%_, _≤_, _<_};
 ghost use lib.ListN.{getD, set, length};
 ghost use lib.Dec.{eqb, ltb};
-ghost use lib.IntN.{ℤ, pos, negsuc};
+ghost use lib.IntN.{pos};
 ghost use Rattle.rules.specs.Drawing.{num};
-ghost use Rattle.model.specs.Board.{at-pad, isThrough};
-ghost use Rattle.boardview.specs.View.{pick, stopped, ended, going, end-at, has-bit, grid-in, second-pad, joined, unjoinable, pad-number, code-number, rival, keeps-apart, some-apart, clue-apart, slot-around, past-around, action-around, Kinds};
+ghost use Rattle.model.specs.Board.{isThrough};
+ghost use Rattle.boardview.specs.View.{pick, stopped, ended, going, end-at, has-bit, grid-in, second-pad, joined, unjoinable, pad-number, code-number, rival, keeps-apart, clue-apart, slot-around, past-around, action-around, Kinds};
 ghost use Rattle.boardview.specs.Actions.{action-index};
 ghost use Rattle.boardview.specs.Unwind.{log-stored, log-joined, LineBegun};
 use grid::Edge;

@@ -1,11 +1,11 @@
 // Undoing entries of the board's log: the edges they decided are undecided again, and the ends that they joined are as before.
 // The result equals boardview's unwinding of the log (View.antt, unwound); with SINCE this is the state before the entries were made.
 ghost use mathlib.Core.Path.{_≡_};
-ghost use Prim.Native.Nat.{ℕ, _+_, _*_, _-_, _/_, _%_, _≤_, _<_};
-ghost use lib.ListN.{getD, set, length};
-ghost use lib.IntN.{ℤ, pos, negsuc};
+ghost use Prim.Native.Nat.{ℕ, _+_, _*_, _-_, _≤_, _<_};
+ghost use lib.ListN.{getD, length};
+ghost use lib.IntN.{pos};
 ghost use Rattle.rules.specs.Grid.{pads};
-ghost use Rattle.boardview.specs.View.{end-of, grid-in, Kinds, Entry, pad-number, slot-logged, second-pad, unjoined, undone-one, unwound};
+ghost use Rattle.boardview.specs.View.{end-of, grid-in, Kinds, Entry, pad-number, slot-logged, unjoined, undone-one, unwound};
 use grid::Edge;
 
 // The byte of an undecided edge, as the edge type names it.

@@ -2,18 +2,17 @@
 -- and what the view shows after a byte is stored. It rests on View.antt.
 use Prim.Native.Nat.{ℕ, zero, suc, _+_, _*_, _-_, _%_, _/_, _≤_, _<_}
 use mathlib.Core.Path.{_≡_, refl, sym, ap, _∙_}
-use mathlib.Core.Logic.{_≢_}
 use mathlib.Core.Bool.{Bool, true, false, _&&_}
 use mathlib.Core.List.{List, [], _∷_}
 use native.Mathlib.Nat.{not-suc-le-zero, le-of-suc-le-suc}
 use native.Mathlib.Omega.{arith}
-use lib.Dec.{eqb, ltb, leb}
-use lib.ListN.{getD, set, length, length-set}
+use lib.Dec.{eqb, leb}
+use lib.ListN.{getD, set, length}
 use lib.Seq.{getD-set-same, getD-set-other}
-use lib.IntN.{ℤ, pos, negsuc}
-use borrow.Author.Tests.{lt-ltb, le-ltb, eq-eqb, ne-eqb, eqb-true, eqb-false, le-leb, leb-true}
-use Rattle.rules.specs.Grid.{Edge, right, down, Grid, pads}
-use Rattle.model.specs.Board.{EdgeState, undecided, line, none, isLine, isUndecided, sameEdge, State, set-edge, on-board}
+use lib.IntN.{ℤ}
+use borrow.Author.Tests.{eq-eqb, ne-eqb, eqb-true, eqb-false, le-leb, leb-true}
+use Rattle.rules.specs.Grid.{Edge, right, down, Grid}
+use Rattle.model.specs.Board.{undecided, line, none, isLine, isUndecided, sameEdge, set-edge, on-board}
 use Rattle.boardview.specs.View.{Arrays, slot, edge-of, slot-on, state-of, view, pick, undecided-in, flag-in, end-at}
 
 -- another default, within the list

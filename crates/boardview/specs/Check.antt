@@ -1,23 +1,21 @@
 -- The pad check: its last part by actions, the edges to pads of other clues that become none, and the whole check as one item of a
 -- decision. It rests on Settle.antt and Steps.antt.
-use Prim.Native.Nat.{ℕ, zero, suc, _+_, _*_, _-_, _%_, _/_, _≤_, _<_}
+use Prim.Native.Nat.{ℕ, zero, suc, _+_, _*_, _-_, _≤_, _<_}
 use mathlib.Core.Path.{_≡_, refl, sym, ap, _∙_, subst}
-use mathlib.Core.Bool.{Bool, true, false, _&&_, _||_, not}
+use mathlib.Core.Bool.{Bool, true, false, _&&_, not}
 use mathlib.Core.List.{List, [], _∷_, _++_}
 use native.Mathlib.Omega.{arith}
 use native.Mathlib.Nat.{not-suc-le-zero}
-use lib.Dec.{eqb, ltb, leb}
-use lib.ListN.{getD, set, length}
-use lib.IntN.{ℤ, pos, negsuc}
-use borrow.Author.Tests.{eqb-true, eqb-false, eq-eqb, ne-eqb, lt-leb, le-leb, lt-ltb, le-ltb, ltb-true, ltb-false, leb-true, leb-false}
+use lib.Dec.{eqb, ltb}
+use lib.ListN.{getD}
+use borrow.Author.Tests.{eqb-true, eqb-false, eq-eqb, ne-eqb, lt-leb, le-leb, lt-ltb, le-ltb, ltb-true, ltb-false}
 use Rattle.rules.specs.Grid.{Edge, right, down, Grid, pads}
-use Rattle.rules.specs.Drawing.{num}
-use Rattle.model.specs.Board.{EdgeState, undecided, line, none, isLine, isUndecided, End, through, at-pad, at-clue, other-clue, State, set-flag, Item, check-pad, keep-apart, settle, when, Decide, Check, with-edge, keep-aparts, has-right, has-left, has-down, has-up, on-board, around, settled, do-item, do-items, check-items, decide, check}
-use Rattle.boardview.specs.View.{Arrays, logged, flag-in, ended-in, stopped, ended, pick, slot, edge-of, slot-on, state-of, view, end-at, grid-in, undecided-in, Ready, Since, Decided, Done, then, in-a-row, shown, check-at, NoneAt, Settled, action-around, code-number, rival, keeps-apart, some-apart, keep-at}
+use Rattle.model.specs.Board.{line, none, isUndecided, End, through, at-pad, at-clue, other-clue, State, Item, check-pad, keep-apart, settle, when, Decide, Check, with-edge, keep-aparts, has-right, has-left, has-down, has-up, around, do-item, do-items, check-items, decide, check}
+use Rattle.boardview.specs.View.{Arrays, flag-in, ended-in, stopped, ended, pick, edge-of, slot-on, view, end-at, grid-in, undecided-in, Ready, Since, Decided, Done, then, in-a-row, shown, check-at, NoneAt, Settled, action-around, code-number, rival, keeps-apart, keep-at}
 use Rattle.boardview.specs.Bytes.{elim-true, elim-false, right-slot, down-slot, on-slot}
 use Rattle.boardview.specs.Unwind.{since-still, since-then}
 use Rattle.boardview.specs.Stores.{flag-of-ended, ended-of-ended, logged-of-ended, recounted}
-use Rattle.boardview.specs.Steps.{row-append, row-ended, row-is, with-count, done-then, done-as, done-nothing, done-still, done-ended, done-decided, view-stopped, view-recounted, undecided-at, slot-is-on}
+use Rattle.boardview.specs.Steps.{row-append, row-ended, row-is, with-count, done-nothing, done-still, done-ended, done-decided, view-stopped, view-recounted, undecided-at, slot-is-on}
 use Rattle.boardview.specs.Settle.{Action, nothing, raise, draw, leave, action-is, slot-left, slot-right, slot-up, slot-down, edge-left, edge-up}
 
 never : true ≡ false → ⊥

@@ -2,26 +2,26 @@
 -- code computed them, arrays as it left them. It rests on Items.antt, Check.antt and Geometry.antt.
 use Prim.Native.Nat.{ℕ, zero, suc, _+_, _*_, _-_, _%_, _/_, _≤_, _<_}
 use mathlib.Core.Path.{_≡_, refl, sym, ap, _∙_, subst}
-use mathlib.Core.Bool.{Bool, true, false, _&&_, _||_, not}
-use mathlib.Core.List.{List, [], _∷_, _++_, append-assoc}
+use mathlib.Core.Bool.{Bool, true, false, _&&_, _||_}
+use mathlib.Core.List.{List, [], _++_, append-assoc}
 use native.Mathlib.Omega.{arith}
 use native.Mathlib.Nat.{mod-le}
 use native.Mathlib.Decide.{decLt}
-use lib.Dec.{eqb, ltb, leb}
+use lib.Dec.{eqb, ltb}
 use lib.ListN.{getD, set, length}
-use lib.IntN.{ℤ, pos, negsuc}
-use borrow.Author.Tests.{eqb-true, eqb-false, eq-eqb, ne-eqb, lt-leb, le-leb, lt-ltb, le-ltb, ltb-true, ltb-false}
+use lib.IntN.{ℤ, pos}
+use borrow.Author.Tests.{eqb-true, eqb-false, eq-eqb, ne-eqb, lt-ltb, ltb-true}
 use Rattle.rules.specs.Grid.{Edge, right, down, first, second, Grid, pads}
 use Rattle.rules.specs.Drawing.{Side, on-left, on-right}
-use Rattle.model.specs.Board.{EdgeState, undecided, line, none, End, through, at-pad, at-clue, State, Item, has-right, has-left, has-down, has-up, has-side, on-board, barred, shape-items, keep-aparts, around, decide, check}
-use Rattle.boardview.specs.View.{Arrays, logged, stopped, ended, going, pick, slot, edge-of, slot-on, state-of, view, end-at, second-pad, has-bit, grid-in, bar-bit, corner-bit, joined, undecided-in, Kinds, Ready, Since, Decided, Done, NoneAt, Settled, unjoinable, pad-number, detour-at, corner-at, bar-at, check-at, code-number, keeps-apart, some-apart, clue-apart, keep-at, slot-around, past-around, action-around}
-use Rattle.boardview.specs.Bytes.{both-true, right-slot, down-slot, slot-of-edge, edge-on, on-slot, default-free}
+use Rattle.model.specs.Board.{line, End, through, at-pad, at-clue, Item, has-right, has-left, has-down, has-up, has-side, on-board, barred, shape-items, keep-aparts, around}
+use Rattle.boardview.specs.View.{Arrays, logged, stopped, ended, going, pick, slot, edge-of, slot-on, state-of, end-at, second-pad, has-bit, grid-in, corner-bit, joined, undecided-in, Kinds, Ready, Decided, Done, NoneAt, Settled, unjoinable, pad-number, detour-at, corner-at, bar-at, check-at, code-number, keeps-apart, some-apart, clue-apart, keep-at, slot-around, past-around, action-around}
+use Rattle.boardview.specs.Bytes.{both-true, slot-of-edge, edge-on, on-slot, default-free}
 use Rattle.boardview.specs.Unwind.{log-stored, log-joined, LineBegun}
 use Rattle.boardview.specs.Geometry.{column-before, right-on, down-on, beyond-right, upper-left, upper-right, upper, lower-left, lower-right, lower, right-items, left-side, lower-left-side, far-left, right-side, lower-right-side, far-right, down-items}
-use Rattle.boardview.specs.Stores.{Stored, going-count, next-count, slot-inside, few-logged, first-inside, second-inside}
+use Rattle.boardview.specs.Stores.{Stored, going-count, few-logged, first-inside, second-inside}
 use Rattle.boardview.specs.Steps.{with-count, done-then, done-as, done-nothing, slot-is-on}
 use Rattle.boardview.specs.Check.{settle-nothing, settle-raise, leave-slot, settle-none, draw-slot, settle-line, keep-rests, keep-step, keeps-is, first-items}
-use Rattle.boardview.specs.Items.{none-arrays, none-stored, decided-none, decided-same, decided-other, stopped-arrays, line-stopped, line-arrays, line-stored, decided-line}
+use Rattle.boardview.specs.Items.{none-arrays, none-stored, decided-none, decided-same, decided-other, line-stopped, line-arrays, line-stored, decided-line}
 
 never : true ≡ false → ⊥
 never e = let z : _≡_ {A = ℕ} 0 1 = cc in omega arith
@@ -549,14 +549,6 @@ module _ (kind : List ℕ) (s : Arrays) (k : Kinds kind) (y : Ready (grid-in kin
             go false true c z = omega arith
             go false false true z = omega (arith, on-slot gk (33 + 2 * v - 2 * w) (slot-is-on gk s₁ apart-ready (33 + 2 * v - 2 * w) (omega (arith, small-pad)) (omega arith)) .0)
             go false false false z = omega arith
-
-pub picked-slot : (c : ℕ) (b : Bool) (n n′ : ℕ) → n < 1024 → n′ ≡ pick (ltb c 2048) (pick b n 0) 0 → n′ < 1024
-picked-slot c b n n′ h e = rw e (go (ltb c 2048) b)
-  where
-    go : (a b : Bool) → pick a (pick b n 0) 0 < 1024
-    go true true = h
-    go true false = omega arith
-    go false b = omega arith
 
 -- THE LAST PART by the code's branches
 module _ (kind : List ℕ) (s : Arrays) (k : Kinds kind) (y : Ready (grid-in kind) s) (v : ℕ) (inside : v < pads (grid-in kind)) (w : ℕ) (ew : w ≡ grid-in kind .width) (t : ℕ) (et : t ≡ action-around kind (s .edges) w v) where

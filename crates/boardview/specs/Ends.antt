@@ -1,18 +1,18 @@
 -- Laws of the ends: what the list of end numbers shows after two chains are joined, that the end of an end stays the pad itself, and that
 -- undoing a join gives back the list. The laws are proved once for functions from pads to ends and then carried to the list.
-use Prim.Native.Nat.{ℕ, zero, suc, _+_, _≤_, _<_}
+use Prim.Native.Nat.{ℕ, zero, suc, _<_}
 use mathlib.Core.Path.{_≡_, refl, sym, ap, _∙_}
-use mathlib.Core.Logic.{_≢_, _⊎_, inl, inr}
+use mathlib.Core.Logic.{_⊎_, inl, inr}
 use mathlib.Core.Bool.{Bool, true, false}
-use mathlib.Core.List.{List, [], _∷_}
+use mathlib.Core.List.{List}
 use native.Mathlib.Omega.{arith}
 use lib.Dec.{eqb}
 use lib.ListN.{getD, set, length, length-set}
 use lib.Seq.{getD-set-same, getD-set-other, ext-getD}
 use lib.IntN.{ℤ, pos, negsuc}
 use borrow.Author.Tests.{eq-eqb, ne-eqb, eqb-true, eqb-false}
-use Rattle.model.specs.Board.{End, through, at-pad, at-clue, end-number, isThrough, pick-end, put-end, put-end-at, joined-ends}
-use Rattle.boardview.specs.View.{pick, end-of, end-at, put-number, joined, unjoined}
+use Rattle.model.specs.Board.{End, through, at-pad, at-clue, end-number, isThrough, put-end, put-end-at, joined-ends}
+use Rattle.boardview.specs.View.{end-of, end-at, put-number, joined, unjoined}
 use Rattle.boardview.specs.Bytes.{default-free}
 
 -- AN END AND ITS NUMBER

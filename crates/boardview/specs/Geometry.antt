@@ -1,17 +1,17 @@
 -- Where the slots around an edge lie: which of them are on the board, and that the items that the code does by slots are the model's
 -- items of steps d and e, in the same order. It rests on View.antt and Bytes.antt; geometry is by flat indexes v, v + 1, v + width.
-use Prim.Native.Nat.{ℕ, zero, suc, _+_, _*_, _-_, _%_, _/_, _≤_, _<_}
+use Prim.Native.Nat.{ℕ, _+_, _*_, _-_, _%_, _/_, _≤_, _<_}
 use mathlib.Core.Path.{_≡_, refl, sym, ap, _∙_}
 use mathlib.Core.Bool.{Bool, true, false, _&&_}
 use mathlib.Core.List.{List, [], _∷_, _++_, append-assoc}
 use native.Mathlib.Omega.{arith}
-use native.Mathlib.Nat.{add-mod-right, mod-add-mod, mod-eq-of-lt, mod-le, mod-lt, mod-self, div-add-mod', div-lt-iff-lt-mul, mul-le-mul-right, mul-mod-left}
-use lib.Dec.{eqb, ltb, leb}
-use borrow.Author.Tests.{lt-ltb, le-ltb, ltb-true, ltb-false, le-leb, lt-leb, leb-true, leb-false}
+use native.Mathlib.Nat.{add-mod-right, mod-add-mod, mod-eq-of-lt, mod-le, mod-lt, mod-self, mul-mod-left}
+use lib.Dec.{eqb, ltb}
+use borrow.Author.Tests.{lt-ltb, le-ltb, ltb-true, ltb-false, lt-leb, leb-true, leb-false}
 use Rattle.rules.specs.Grid.{Edge, right, down, Grid, pads}
-use Rattle.rules.specs.Drawing.{Side, on-left, on-right}
-use Rattle.model.specs.Board.{Item, detour, corner, bar, detours, when, has-right, has-left, has-down, has-up, on-board, has-side, barred, corner-right, corner-left, shape-items}
-use Rattle.boardview.specs.View.{pick, slot, edge-of, second-pad, slot-on, detour-at, corner-at, bar-at, beside}
+use Rattle.rules.specs.Drawing.{on-left, on-right}
+use Rattle.model.specs.Board.{Item, bar, detours, when, has-right, has-left, has-down, has-up, on-board, has-side, barred, corner-right, corner-left, shape-items}
+use Rattle.boardview.specs.View.{pick, slot, edge-of, second-pad, slot-on, detour-at, corner-at, bar-at}
 use Rattle.boardview.specs.Bytes.{both-true, right-slot, down-slot, edge-on, on-slot}
 
 -- COLUMNS

@@ -1,23 +1,23 @@
 -- What each way through corner and bar does, and what a decision does: the edge decided before, a line that cannot be, none, and a line
 -- whose ends are joined. It rests on Steps.antt and Stores.antt; the corners are one law over the side.
-use Prim.Native.Nat.{ℕ, zero, suc, _+_, _*_, _-_, _%_, _/_, _≤_, _<_}
+use Prim.Native.Nat.{ℕ, zero, suc, _+_, _*_, _-_, _%_, _≤_, _<_}
 use mathlib.Core.Path.{_≡_, refl, sym, ap, _∙_}
 use mathlib.Core.Bool.{Bool, true, false, _&&_, _||_, not}
 use mathlib.Core.List.{List, [], _∷_, _++_}
 use native.Mathlib.Omega.{arith}
 use native.Mathlib.Nat.{not-suc-le-zero}
-use lib.Dec.{eqb, ltb, leb}
+use lib.Dec.{eqb}
 use lib.ListN.{getD, set, length}
-use lib.IntN.{ℤ, pos, negsuc}
-use borrow.Author.Tests.{eqb-true, eqb-false, eq-eqb, ne-eqb, lt-leb, le-leb, lt-ltb, le-ltb, ltb-true, ltb-false}
-use Rattle.rules.specs.Grid.{Edge, right, down, first, second, Grid, pads}
-use Rattle.rules.specs.Drawing.{Side, on-left, on-right}
-use Rattle.model.specs.Board.{EdgeState, undecided, line, none, isLine, isUndecided, isBlank, sameState, End, through, at-pad, at-clue, isThrough, State, set-edge, set-flag, Item, detour, corner, bar, check-pad, check-end, when, Decide, Check, on-board, has-down, has-side, shape-items, do-item, do-items, cannot-join, join-ends, after-store, decide, check}
-use Rattle.boardview.specs.View.{Arrays, logged, flag-in, ended-in, stopped, ended, going, pick, slot, edge-of, slot-on, state-of, view, end-at, has-bit, clue-bit, cell-in, grid-in, joined, undecided-in, Ready, Since, Decided, Done, then, in-a-row, shown, corner-at, bar-at, check-at, beside, unjoinable, pad-number}
-use Rattle.boardview.specs.Bytes.{default-free, elim-true, elim-false, line-byte-test, undecided-byte-test, edge-on, on-slot, view-stored}
+use lib.IntN.{pos}
+use borrow.Author.Tests.{eq-eqb, ne-eqb, lt-leb, le-leb, lt-ltb}
+use Rattle.rules.specs.Grid.{Edge, down, first, second, Grid}
+use Rattle.rules.specs.Drawing.{Side}
+use Rattle.model.specs.Board.{EdgeState, line, none, isLine, isUndecided, isBlank, sameState, End, through, at-pad, at-clue, isThrough, State, set-edge, set-flag, Item, corner, bar, check-pad, check-end, when, on-board, has-down, has-side, shape-items, do-items, cannot-join, join-ends, after-store, decide, check}
+use Rattle.boardview.specs.View.{Arrays, logged, flag-in, stopped, ended, going, slot, edge-of, slot-on, state-of, view, end-at, has-bit, clue-bit, cell-in, grid-in, joined, undecided-in, Ready, Decided, Done, then, in-a-row, shown, corner-at, bar-at, check-at, beside, unjoinable, pad-number}
+use Rattle.boardview.specs.Bytes.{default-free, elim-true, elim-false, undecided-byte-test, on-slot, view-stored}
 use Rattle.boardview.specs.Unwind.{since-still, since-then, log-stored, log-joined}
 use Rattle.boardview.specs.Stores.{flag-of-ended, ended-of-ended, logged-of-ended, going-count, next-count, recounted, Stored, slot-inside, few-logged, first-inside, second-inside, edge-is-stored, line-is-joined, joined-view}
-use Rattle.boardview.specs.Steps.{row-is, with-count, done-nothing, done-still, done-stopped, done-decided, decided-shown, view-stopped, view-recounted, line-at, slot-is-on, corner-no, corner-two, corner-stops, bar-no, bar-acts}
+use Rattle.boardview.specs.Steps.{row-is, with-count, done-nothing, done-still, done-stopped, done-decided, view-stopped, view-recounted, line-at, slot-is-on, corner-no, corner-two, corner-stops, bar-no, bar-acts}
 
 never : true ≡ false → ⊥
 never e = let z : _≡_ {A = ℕ} 0 1 = cc in omega arith

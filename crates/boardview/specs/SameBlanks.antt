@@ -1,11 +1,11 @@
 -- A decision asks of a grid only its sizes and which pads are blank: two grids that agree in these decide alike. So the grid that the
 -- kinds tell of (View.antt, grid-in) stands for the grid of the file. It rests on the model alone.
-use Prim.Native.Nat.{ℕ, zero, suc, _+_, _*_, _-_, _≤_, _<_}
+use Prim.Native.Nat.{ℕ, zero, suc, _+_, _-_}
 use mathlib.Core.Path.{_≡_, refl, sym, ap, _∙_}
 use mathlib.Core.Bool.{Bool, true, false, _&&_, _||_, not}
 use mathlib.Core.List.{List, [], _∷_, _++_}
 use lib.Dec.{eqb, ltb, leb}
-use Rattle.rules.specs.Grid.{Edge, right, down, first, second, Cell, blank, clue, Grid, pads}
+use Rattle.rules.specs.Grid.{Edge, right, down, first, second, Cell, blank, clue, Grid}
 use Rattle.rules.specs.Drawing.{num, Side, on-left, on-right}
 use Rattle.boardview.specs.View.{grid-in}
 use Rattle.model.specs.Board.{EdgeState, undecided, line, none, isLine, isUndecided, isBlank, sameState, End, through, at-pad, at-clue, State, set-flag, set-edge, Item, detour, corner, bar, check-pad, keep-apart, settle, check-end, line-or-none, lines, undecideds, decide-first, Decide, Check, has-down, has-side, diagonal, on-board, barred, shape-items, around, degree, settled, do-item, do-items, check-items, cannot-join, join-ends, after-store, decide, check}

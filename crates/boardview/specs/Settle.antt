@@ -1,24 +1,21 @@
 -- The last part of the pad check: counting by bytes is counting by the model's list of edges at a pad, and each of the five actions is
 -- what the model does. It rests on Geometry.antt and Steps.antt.
-use Prim.Native.Nat.{ℕ, zero, suc, _+_, _*_, _-_, _%_, _/_, _≤_, _<_}
+use Prim.Native.Nat.{ℕ, _+_, _*_, _-_, _%_, _≤_, _<_}
 use mathlib.Core.Path.{_≡_, refl, sym, ap, _∙_}
 use mathlib.Core.Bool.{Bool, true, false, _&&_, _||_, not}
-use mathlib.Core.List.{List, [], _∷_, _++_}
+use mathlib.Core.List.{List, []}
 use native.Mathlib.Omega.{arith}
 use native.Mathlib.Nat.{mod-le}
 use lib.Dec.{eqb, ltb, leb}
-use lib.ListN.{getD, set, length}
-use lib.IntN.{ℤ, pos, negsuc}
+use lib.ListN.{getD, length}
 use borrow.Author.Tests.{eqb-true, eqb-false, eq-eqb, ne-eqb, lt-leb, le-leb, lt-ltb, le-ltb, ltb-true, ltb-false, leb-true, leb-false}
 use Rattle.rules.specs.Grid.{Edge, right, down, Grid, pads}
 use Rattle.rules.specs.Drawing.{num}
-use Rattle.model.specs.Board.{EdgeState, undecided, line, none, isLine, isUndecided, isBlank, State, set-flag, Decide, Check, with-edge, has-right, has-left, has-down, has-up, on-board, lines, undecideds, decide-first, line-or-none, around, degree, settled, decide, check}
-use Rattle.boardview.specs.View.{Arrays, logged, flag-in, ended-in, stopped, ended, pick, slot, edge-of, slot-on, state-of, view, has-bit, clue-bit, grid-in, undecided-in, Ready, Since, Decided, Settled, edges-around, undecided-around, degree-around, first-around, action-around}
+use Rattle.model.specs.Board.{EdgeState, line, none, isUndecided, State, set-flag, Decide, with-edge, has-right, has-left, has-down, has-up, on-board, lines, undecideds, decide-first, line-or-none, around, degree, settled}
+use Rattle.boardview.specs.View.{Arrays, pick, slot, edge-of, slot-on, view, has-bit, clue-bit, grid-in, Ready, edges-around, undecided-around, degree-around, first-around, action-around}
 use Rattle.boardview.specs.Bytes.{elim-true, elim-false, edge-on, right-slot, down-slot, on-slot}
-use Rattle.boardview.specs.Unwind.{since-still, since-then}
 use Rattle.boardview.specs.Geometry.{column-before, last-before, low-off, slot-is}
-use Rattle.boardview.specs.Stores.{flag-of-ended, ended-of-ended, logged-of-ended, recounted}
-use Rattle.boardview.specs.Steps.{with-count, view-stopped, view-recounted, line-at, undecided-at, slot-is-on}
+use Rattle.boardview.specs.Steps.{line-at, undecided-at}
 use Rattle.boardview.specs.Items.{clue-test}
 
 -- THE FOUR SLOTS AT A PAD

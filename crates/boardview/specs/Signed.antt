@@ -3,19 +3,19 @@
 use mathlib.Core.Path.{_≡_, refl, sym, ap, _∙_}
 use mathlib.Core.Bool.{Bool, true, false, not, _||_}
 use mathlib.Core.List.{List}
-use Prim.Native.Nat.{ℕ, zero, suc, _+_, _-_, _^_, _≤_, _<_}
+use Prim.Native.Nat.{ℕ, zero, suc, _-_, _^_, _≤_, _<_}
 use native.Mathlib.Omega.{arith}
 use lib.ListN.{getD, set, length, length-set}
 use lib.Seq.{set-out}
 use lib.IntN.{ℤ, pos, negsuc, natAbs, _-ℤ_}
 use lib.Signed.{ltZ, nonNeg}
-use lib.Dec.{T, eqb, ltb}
+use lib.Dec.{T, eqb}
 use mir.Syntax.{w32, w64}
 use mir.Val.{SFits, Fits, toZ, ofZ}
 use mir.ValLaws.{toZ-ofZ, toZ-pos}
-use borrow.Author.Tests.{ltb-true, lt-ltb, le-ltb, ne-eqb, eq-eqb, eqb-true, eqb-false}
+use borrow.Author.Tests.{ltb-true, le-ltb, ne-eqb, eq-eqb, eqb-true, eqb-false}
 use Rattle.model.specs.Board.{End, through, at-pad, at-clue, isThrough, unequal-negative, isPad}
-use Rattle.boardview.specs.View.{pick, end-of, end-at, pad-number, code-number, rival, unjoinable, put-number, joined, unjoined}
+use Rattle.boardview.specs.View.{end-of, end-at, pad-number, code-number, rival, unjoinable, put-number, joined, unjoined}
 use Rattle.boardview.specs.Bytes.{default-free}
 
 pub back : (z : ℤ) → SFits w32 z → toZ w32 (ofZ w32 z) ≡ z

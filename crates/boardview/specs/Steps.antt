@@ -1,22 +1,19 @@
 -- Items in a row: parts of a decision one after the other, and what each way through detour, corner and bar does. It rests on
 -- View.antt and Stores.antt. A part that was done tells the view, the number of undecided edges, the arrays' invariant and the log.
-use Prim.Native.Nat.{ℕ, zero, suc, _+_, _*_, _-_, _%_, _/_, _≤_, _<_}
+use Prim.Native.Nat.{ℕ, _+_, _*_, _-_, _≤_, _<_}
 use mathlib.Core.Path.{_≡_, refl, sym, ap, _∙_}
 use mathlib.Core.Bool.{Bool, true, false, _&&_}
 use mathlib.Core.List.{List, [], _∷_, _++_}
 use native.Mathlib.Omega.{arith}
-use native.Mathlib.Nat.{not-suc-le-zero}
-use lib.Dec.{eqb, ltb, leb}
-use lib.ListN.{getD, set, length}
-use lib.IntN.{ℤ, pos, negsuc}
-use borrow.Author.Tests.{eqb-true, eqb-false, eq-eqb, ne-eqb, lt-leb, le-leb, lt-ltb, le-ltb, ltb-true, ltb-false}
-use Rattle.rules.specs.Grid.{Edge, right, down, first, second, Grid, pads}
-use Rattle.rules.specs.Drawing.{Side, on-left, on-right}
-use Rattle.model.specs.Board.{EdgeState, undecided, line, none, isLine, isUndecided, isBlank, State, set-flag, Item, detour, corner, bar, check-pad, when, Decide, Check, on-board, has-down, has-side, do-item, do-items, decide, check}
-use Rattle.boardview.specs.View.{Arrays, logged, flag-in, ended-in, stopped, ended, going, pick, slot, edge-of, slot-on, state-of, view, end-at, undecided-in, Ready, Since, Decided, Done, then, in-a-row, shown, detour-at, corner-at, bar-at, check-at, beside}
+use lib.Dec.{eqb}
+use lib.ListN.{getD, length}
+use borrow.Author.Tests.{eq-eqb, ne-eqb, lt-leb, le-leb}
+use Rattle.rules.specs.Grid.{Edge, Grid}
+use Rattle.model.specs.Board.{EdgeState, line, none, isLine, isUndecided, isBlank, State, set-flag, Item, detour, corner, bar, when, Decide, Check, do-item, do-items, decide, check}
+use Rattle.boardview.specs.View.{Arrays, flag-in, ended-in, stopped, edge-of, slot-on, state-of, view, undecided-in, Ready, Decided, Done, then, in-a-row, shown, detour-at}
 use Rattle.boardview.specs.Bytes.{default-free, elim-true, elim-false, line-byte-test, undecided-byte-test, slot-of-edge, on-slot}
 use Rattle.boardview.specs.Unwind.{since-still, since-then}
-use Rattle.boardview.specs.Stores.{flag-of-ended, ended-of-ended, logged-of-ended, going-count, recounted}
+use Rattle.boardview.specs.Stores.{recounted}
 
 -- ROWS OF ITEMS
 module _ (g : Grid) (dec : Decide) (chk : Check) where

@@ -1,21 +1,21 @@
 -- Storing an edge's state and joining two chains: what was true of the arrays of a board stays true, one edge fewer is undecided, and the
 -- log tells how to go back. It rests on Bytes.antt, Ends.antt, Unwind.antt and Geometry.antt.
-use Prim.Native.Nat.{ℕ, zero, suc, _+_, _*_, _-_, _%_, _/_, _≤_, _<_}
+use Prim.Native.Nat.{ℕ, _+_, _*_, _-_, _%_, _/_, _≤_, _<_}
 use mathlib.Core.Path.{_≡_, refl, sym, ap, _∙_, subst}
 use mathlib.Core.Bool.{Bool, true, false}
-use mathlib.Core.List.{List, [], _∷_}
+use mathlib.Core.List.{List}
 use native.Mathlib.Omega.{arith}
 use lib.Dec.{eqb, ltb, leb}
 use lib.ListN.{getD, set, length, length-set}
 use lib.Seq.{getD-set-same, getD-set-other}
 use lib.IntN.{ℤ, pos, negsuc, natAbs}
-use borrow.Author.Tests.{eqb-true, eqb-false, eq-eqb, ne-eqb, lt-leb, le-leb, lt-ltb, le-ltb, ltb-true, ltb-false}
+use borrow.Author.Tests.{eqb-true, eqb-false, eq-eqb, ne-eqb, lt-leb, le-leb, ltb-true, ltb-false}
 use Rattle.rules.specs.Grid.{Edge, right, down, first, second, Grid, pads}
-use Rattle.model.specs.Board.{State, End, at-pad, isThrough, set-edge, set-flag, on-board, joined-ends, join-ends}
+use Rattle.model.specs.Board.{at-pad, isThrough, set-edge, on-board, joined-ends, join-ends}
 use Rattle.boardview.specs.View.{Arrays, logged, flag-in, ended-in, stopped, ended, going, pick, slot, slot-on, state-of, view, end-of, end-at, second-pad, joined, undecided-in, Entry, Ready, Since}
-use Rattle.boardview.specs.Bytes.{default-free, edge-on, one-fewer, some-undecided, view-stored, edge-stored}
-use Rattle.boardview.specs.Ends.{Paired, stay-paired, stay-near, joined-long, joined-at, unjoined-is}
-use Rattle.boardview.specs.Unwind.{log-stored, log-joined, slot-stored, mark-stored, slot-joined, first-joined, second-joined, stored-kept, stored-back, joined-kept, joined-back, since-one, since-still}
+use Rattle.boardview.specs.Bytes.{edge-on, one-fewer, some-undecided, edge-stored}
+use Rattle.boardview.specs.Ends.{stay-paired, stay-near, joined-long, joined-at, unjoined-is}
+use Rattle.boardview.specs.Unwind.{log-stored, log-joined, slot-stored, mark-stored, slot-joined, first-joined, second-joined, stored-kept, stored-back, joined-kept, joined-back, since-one}
 use Rattle.boardview.specs.Geometry.{right-on, down-on, beyond-right}
 
 -- THE COUNT

@@ -1,16 +1,15 @@
 -- The model's bound on the nesting is enough for the arrays: at most two undecided edges for each pad, because a slot off the board holds
 -- none. It rests on View.antt and Bytes.antt.
 use Prim.Native.Nat.{ℕ, zero, suc, _+_, _*_, _-_, _≤_, _<_}
-use mathlib.Core.Path.{_≡_, refl, sym, ap, _∙_}
-use mathlib.Core.Bool.{Bool, true, false, _&&_}
+use mathlib.Core.Path.{_≡_, refl}
+use mathlib.Core.Bool.{Bool, true, false}
 use mathlib.Core.List.{List, [], _∷_}
 use native.Mathlib.Omega.{arith}
-use native.Mathlib.Nat.{le-of-suc-le-suc}
-use lib.Dec.{eqb, ltb, leb}
+use lib.Dec.{eqb, ltb}
 use lib.ListN.{getD, length}
-use borrow.Author.Tests.{lt-leb, le-ltb, eqb-true, eqb-false}
+use borrow.Author.Tests.{eqb-true}
 use Rattle.rules.specs.Grid.{Edge, right, down, Grid, pads}
-use Rattle.model.specs.Board.{on-board, has-right, has-down, enough}
+use Rattle.model.specs.Board.{on-board, has-right, enough}
 use Rattle.boardview.specs.View.{Arrays, pick, slot, slot-on, edge-of, undecided-in, Ready}
 use Rattle.boardview.specs.Bytes.{both-true, on-slot, slot-of-edge}
 

@@ -1,14 +1,14 @@
 -- Laws of the log: undoing more entries is undoing some and then the others, undoing a stored edge or a joined line gives back edges and
 -- ends, and SINCE goes from step to step. It rests on View.antt, Bytes.antt and Ends.antt.
-use Prim.Native.Nat.{ℕ, zero, suc, _+_, _*_, _-_, _%_, _/_, _≤_, _<_}
+use Prim.Native.Nat.{ℕ, zero, suc, _+_, _*_, _-_, _%_, _/_, _<_}
 use mathlib.Core.Path.{_≡_, refl, sym, ap, _∙_}
 use mathlib.Core.Bool.{Bool, true, false}
-use mathlib.Core.List.{List, [], _∷_}
+use mathlib.Core.List.{List}
 use native.Mathlib.Omega.{arith}
 use lib.ListN.{getD, set, length, length-set}
 use lib.Seq.{getD-set-same, getD-set-other, set-set, set-getD}
-use lib.IntN.{ℤ, pos, negsuc, natAbs}
-use Rattle.model.specs.Board.{End, through, at-pad, at-clue, isThrough}
+use lib.IntN.{ℤ, pos, negsuc}
+use Rattle.model.specs.Board.{isThrough}
 use Rattle.boardview.specs.View.{Arrays, logged, pick, end-of, end-at, put-number, joined, unjoined, second-pad, slot-logged, undone-one, unwound, Since, unjoinable, stopped, going}
 use Rattle.boardview.specs.Ends.{length-put}
 

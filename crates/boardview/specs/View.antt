@@ -11,7 +11,7 @@ use lib.IntN.{ℤ, pos, negsuc, natAbs}
 use lib.Bits.{bitAnd}
 use Rattle.rules.specs.Grid.{Edge, right, down, Cell, blank, clue, Grid, pads}
 use Rattle.rules.specs.Drawing.{num, Side, on-left, on-right}
-use Rattle.model.specs.Board.{EdgeState, undecided, line, none, End, through, at-pad, at-clue, isThrough, unequal-negative, isPad, State, Item, detour, corner, bar, check-pad, keep-apart, when, has-right, has-left, has-down, on-board, has-side, barred, do-item, settled, decide, check, Decide, Check}
+use Rattle.model.specs.Board.{EdgeState, undecided, line, none, End, through, at-pad, at-clue, isThrough, unequal-negative, isPad, State, Item, detour, corner, bar, check-pad, keep-apart, when, has-down, on-board, has-side, barred, do-item, settled, decide, check, Decide, Check}
 
 -- one of two values, by a test
 abbrev pub pick : {A : Type 0} → Bool → A → A → A

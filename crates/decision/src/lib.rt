@@ -4,12 +4,12 @@
 // `count` is the log's length, plus 1024 if the flag is set, plus 2048 if it is set and the decision has ended; an ended decision goes
 // through every part unchanged.
 ghost use mathlib.Core.Path.{_≡_};
-ghost use mathlib.Core.Bool.{true, false};
-ghost use Prim.Native.Nat.{ℕ, _+_, _*_, _-_, _≤_, _<_};
+ghost use mathlib.Core.Bool.{true};
+ghost use Prim.Native.Nat.{_+_, _*_, _-_, _≤_, _<_};
 ghost use Rattle.rules.specs.Grid.{right, down, pads};
 ghost use Rattle.rules.specs.Drawing.{on-left, on-right};
 ghost use Rattle.model.specs.Board.{line, line-or-none, on-board};
-ghost use Rattle.boardview.specs.View.{Arrays, grid-in, has-bit, slot-on, Kinds, Ready, Decided, Done, NoneAt, detour-at, corner-at, bar-at, check-at};
+ghost use Rattle.boardview.specs.View.{grid-in, has-bit, slot-on, Kinds, Ready, Decided, Done, NoneAt, detour-at, corner-at, bar-at, check-at};
 use boardparts::BAR_LEFT;
 use boardparts::BAR_RIGHT;
 use boardparts::CLUE;

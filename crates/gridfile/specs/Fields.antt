@@ -1,13 +1,13 @@
 -- What one field of a grid file gives, from its first byte on: its value and the place of the byte that ends it, or the
 -- number of its refusal. These are the refusals of document 01 that a field can have by itself: 1, 2, 3, and 6 where the
 -- file ends in it. Assumes nothing.
+use Rattle.model.specs.Choice.{if_then_else_}
 use Prim.Native.Nat.{ℕ, _+_, _*_, _-_}
 use mathlib.Core.Bool.{not, _&&_}
 use mathlib.Core.List.{List, [], _∷_}
 use lib.ListN.{drop}
 use lib.Dec.{eqb, ltb}
 use lib.IntN.{ℤ, pos}
-use Rattle.model.specs.Choice.{if_then_else_}
 use Rattle.rules.specs.Grid.{largest-code}
 use Rattle.model.specs.Bounds.{most-digits}
 use Rattle.model.specs.GridFile.{is-digit, is-comma, is-line-end, blank}

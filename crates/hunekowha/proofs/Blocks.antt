@@ -1,8 +1,7 @@
 -- The blocks that replay writes: one list put behind another is the two put at once; a block has as many numbers as the board's size asks,
 -- the board's size stays, and the blocks of all calls are as many as the calls. Assumes nothing.
-use Prim.Native.Nat.{ℕ, zero, suc, _+_, _*_, _-_, _/_, _≤_, _<_}
+use Prim.Native.Nat.{ℕ, _+_, _*_, _-_, _≤_}
 use mathlib.Core.Path.{_≡_, refl, sym, ap, _∙_}
-use mathlib.Core.Bool.{Bool, true, false}
 use mathlib.Core.List.{List, [], _∷_, _++_, map, append-assoc}
 use native.Mathlib.Omega.{arith}
 use lib.ListN.{length, take, drop, length-append, length-map}
@@ -14,10 +13,10 @@ use Rattle.rules.specs.Drawing.{num}
 use Rattle.rules.specs.RecordLaws.{length-field, length-tabulate}
 use Rattle.model.specs.Calls as model
 use Rattle.model.specs.Calls.{Board, Answer}
-use Rattle.board.specs.Held.{Held, Says, Shows}
+use Rattle.board.specs.Held.{Held, Shows}
 use Rattle.board.specs.declared.Board as code
 use Rattle.board.specs.declared.Shown as shown
-use Rattle.hunekowha.specs.Replay.{Given, fresh-answer, called, block, block-size, blocks}
+use Rattle.hunekowha.specs.Replay.{block, block-size}
 
 -- PUT: a whole list at a place of another
 abbrev pub put-at : {A : Type 0} → List A → ℕ → List A → List A

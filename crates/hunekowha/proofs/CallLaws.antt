@@ -1,15 +1,13 @@
 -- One call of a list: which of the model's calls it is, that a state above a byte is declined like undecided, that the grid stays, and that
 -- the answer is small. Assumes nothing.
-use Prim.Native.Nat.{ℕ, zero, suc, _+_, _*_, _≤_, _<_}
-use mathlib.Core.Path.{_≡_, refl, sym, ap, _∙_, subst}
+use Prim.Native.Nat.{ℕ, _≤_, _<_}
+use mathlib.Core.Path.{_≡_, refl, ap, _∙_, subst}
 use mathlib.Core.Bool.{Bool, true, false}
-use mathlib.Core.List.{List, [], _∷_}
 use native.Mathlib.Omega.{arith}
-use lib.Dec.{eqb, ltb}
-use lib.IntN.{ℤ}
+use lib.Dec.{ltb}
 use borrow.Author.Tests.{eq-eqb, ne-eqb, lt-ltb, le-ltb, ltb-false}
-use Rattle.rules.specs.Grid.{Edge, Place, edge, no-edge, Grid}
-use Rattle.model.specs.Calls.{Board, Answer, decide-edge, decide-at, edge-at, read-edge, add-checkpoint, undo, new}
+use Rattle.rules.specs.Grid.{Place, edge, no-edge}
+use Rattle.model.specs.Calls.{Board, Answer, decide-edge, decide-at, edge-at, read-edge, add-checkpoint, undo}
 use Rattle.board.specs.Held.{Held, Says}
 use Rattle.board.specs.declared.Answer as code
 use Rattle.board.specs.declared.Board as codeboard

@@ -1,6 +1,6 @@
 -- The room that replay needs: where it is too small nothing is written, else all blocks are. It rests on Replaying.antt. Assumes nothing.
-use Prim.Native.Nat.{ℕ, zero, suc, _+_, _*_, _/_, _≤_, _<_}
-use mathlib.Core.Path.{_≡_, refl, sym, ap, _∙_}
+use Prim.Native.Nat.{ℕ, _*_, _/_, _≤_, _<_}
+use mathlib.Core.Path.{_≡_, refl}
 use mathlib.Core.List.{List}
 use native.Mathlib.Omega.{arith}
 use native.Mathlib.Nat.{div-lt-iff-lt-mul, le-div-iff-mul-le}
@@ -8,8 +8,7 @@ use lib.ListN.{length}
 use lib.Seq.{paste}
 use lib.IntN.{ℤ}
 use borrow.Author.Tests.{le-leb, lt-leb}
-use Rattle.hunekowha.specs.Lent.{written}
-use Rattle.hunekowha.specs.Replay.{Given, fresh-answer, block-size, all-blocks, SignedGiven, replay-gives}
+use Rattle.hunekowha.specs.Replay.{Given, fresh-answer, block-size, all-blocks, replay-gives}
 use Rattle.hunekowha.proofs.Short.{front}
 use Rattle.hunekowha.proofs.Replaying.{all-long}
 

@@ -1,7 +1,7 @@
 -- The loop over the calls: the grid of the board stays, an answer is small, a call gives one block more, and at the end all blocks are written.
 -- It rests on Blocks.antt and on the model. Assumes nothing.
 use Prim.Native.Nat.{ℕ, zero, suc, _+_, _*_, _-_, _/_, _≤_, _<_}
-use mathlib.Core.Path.{_≡_, refl, sym, ap, _∙_, subst}
+use mathlib.Core.Path.{_≡_, refl, sym, ap, _∙_}
 use mathlib.Core.Bool.{Bool, true, false, _&&_}
 use mathlib.Core.List.{List, [], _∷_, _++_, append-assoc, append-nil}
 use native.Mathlib.Omega.{arith}
@@ -9,16 +9,16 @@ use native.Mathlib.Nat.{mul-le-mul, mul-le-mul-right, suc-mul}
 use native.Mathlib.Numerals.{add-one}
 use lib.Dec.{eqb, ltb}
 use lib.ListN.{length, drop, getD, length-append, length-drop}
-use lib.Seq.{paste, paste-zero, drop-cons, length-paste}
+use lib.Seq.{paste-zero, drop-cons}
 use lib.IntN.{ℤ}
-use borrow.Author.Tests.{eqb-true, eqb-false, ltb-true, lt-ltb, le-ltb}
-use Rattle.rules.specs.Grid.{places, pads, Edge, Place, edge, no-edge, Grid, grid-of, Accepted}
+use borrow.Author.Tests.{eqb-true, ltb-true}
+use Rattle.rules.specs.Grid.{places, pads, Place, edge, no-edge, Grid}
 use Rattle.rules.specs.Drawing.{num}
 use Rattle.model.specs.Bounds.{is-size}
 use Rattle.model.specs.Board.{EdgeState, undecided, line, none, State, decide, enough}
 use Rattle.model.specs.Refusals.{first-bad-cell, grid-refusal}
 use Rattle.model.specs.RefusalLaws.{and-both, size-of-test}
-use Rattle.model.specs.Calls.{Board, Answer, state-byte, with-state, decided, decide-edge, decide-at, edge-at, read-edge, read-at, add-checkpoint, undo, undo-to, fresh-board, blank-board, new}
+use Rattle.model.specs.Calls.{Board, Answer, state-byte, decide-edge, decide-at, edge-at, read-edge, read-at, add-checkpoint, undo, undo-to, fresh-board, new}
 use Rattle.board.specs.Held.{Held, Says}
 use Rattle.board.specs.declared.Board as code
 use Rattle.board.specs.declared.Answer as code-answer

@@ -1,19 +1,19 @@
 -- When a lent slice is too short, and what is written where all are long enough. Assumes nothing.
-use mathlib.Core.Path.{_≡_, refl, sym, ap, _∙_}
+use mathlib.Core.Path.{_≡_, refl, ap, _∙_}
 use mathlib.Core.Bool.{Bool, true, false, _&&_}
-use mathlib.Core.List.{List, [], _∷_, _++_}
+use mathlib.Core.List.{List, [], _∷_}
 use Prim.Native.Nat.{ℕ, _+_, _*_, _≤_, _<_}
 use native.Mathlib.Nat.{zero-add, mul-zero}
 use native.Mathlib.Omega.{arith}
-use lib.Dec.{leb, ltb}
-use lib.ListN.{length, take, drop, length-drop}
+use lib.Dec.{ltb}
+use lib.ListN.{length, drop, length-drop}
 use lib.Seq.{paste, take-length, length-take-le}
 use lib.IntN.{ℤ}
 use borrow.Author.Tests.{le-leb, lt-leb, leb-true}
 use Rattle.model.specs.Bounds.{is-size}
 use Rattle.model.specs.GridFile.{Reading, read}
 use Rattle.model.specs.Records.{record-length, has-record, record-at}
-use Rattle.hunekowha.specs.Lent.{written, ReadGives, read-numbers, read-gives, NumbersGiven, record-place, record-gives, SolveGives, solve-numbers, solve-gives}
+use Rattle.hunekowha.specs.Lent.{written, read-numbers, read-gives, record-place, record-gives, solve-numbers, solve-gives}
 use Rattle.model.specs.Search.{Solved, solve}
 
 false-is-not-true : false ≡ true → ⊥

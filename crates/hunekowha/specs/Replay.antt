@@ -1,15 +1,14 @@
 -- What hunekowha_replay writes: a block of numbers after each call of a list, by the model's board calls (Calls.antt there). A call is four
 -- numbers, kind, row, column and state; what is too short for a call at the end of the list is left aside. Assumes nothing.
+use Rattle.model.specs.Choice.{if_then_else_}
 use Prim.Native.Nat.{ℕ, _+_, _*_, _/_, _≤_}
-use mathlib.Core.Path.{_≡_, refl}
-use mathlib.Core.Bool.{Bool, true, false}
+use mathlib.Core.Path.{_≡_}
 use mathlib.Core.List.{List, [], _∷_, _++_, map}
 use lib.Dec.{eqb, ltb, leb}
 use lib.ListN.{length}
-use lib.IntN.{ℤ, pos, negsuc}
+use lib.IntN.{ℤ, pos}
 use Rattle.rules.specs.Grid.{places, pads}
 use Rattle.rules.specs.Drawing.{num}
-use Rattle.model.specs.Choice.{if_then_else_}
 use Rattle.model.specs.Calls.{Board, Answer, new, decide-edge, read-edge, add-checkpoint, undo, shown}
 use Rattle.board.specs.Held.{Held, Says}
 use Rattle.board.specs.declared.Answer as code

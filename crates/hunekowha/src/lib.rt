@@ -5,14 +5,13 @@ ghost use mathlib.Core.Path.{_≡_};
 ghost use Rattle.model.specs.Calls as model;
 ghost use Rattle.board.specs.Held.{Held, IsBoard, Says};
 ghost use Rattle.hunekowha.specs.Replay.{state-asked, called, block, block-size, all-blocks, Writable, Replayable};
-ghost use Prim.Native.Nat.{_≤_};
 ghost use lib.ListN.{length};
 ghost use lib.Seq.{paste};
 use board::Answer;
 use board::Board;
 use grid::Edge;
-ghost use Rattle.hunekowha.specs.Lent.{ReadGives, read-gives, NumbersGiven, record-gives, SolveGives, solve-gives};
-ghost use Rattle.hunekowha.specs.Replay.{Given, SignedGiven, replay-gives};
+ghost use Rattle.hunekowha.specs.Lent.{read-gives, record-gives, solve-gives};
+ghost use Rattle.hunekowha.specs.Replay.{replay-gives};
 
 // Reads a grid file into five numbers and 256 cells.
 #[no_mangle]

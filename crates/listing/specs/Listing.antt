@@ -1,14 +1,14 @@
 -- What `routes` prints, in the parts in which it is made: the head for a file and a buffer of any length, and the line of layout k of the
 -- buffer that the search left. `file-text` is the model's text for a buffer of any length. It rests on the model's Printed.antt and
 -- Routes.antt; Whole.antt shows that the parts together are the model's text.
+use Rattle.model.specs.Choice.{if_then_else_}
 use Prim.Native.Nat.{ℕ, zero, suc, _+_, _*_}
 use mathlib.Core.Path.{_≡_}
-use mathlib.Core.List.{List, [], _∷_, _++_}
+use mathlib.Core.List.{List, [], _++_}
 use lib.ListN.{length, take, drop}
 use lib.IntN.{ℤ}
 use Rattle.rules.specs.Grid.{grid-of, places}
-use Rattle.model.specs.Choice.{if_then_else_}
-use Rattle.model.specs.Search.{Run, scan, search, fewest, concat}
+use Rattle.model.specs.Search.{scan, search, fewest, concat}
 use Rattle.model.specs.Records.{has-record, record-at}
 use Rattle.model.specs.GridFile.{Reading, read}
 use Rattle.model.specs.Printed.{Found, summary-line, refusal-line, layout-line, reading-text}

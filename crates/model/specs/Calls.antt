@@ -1,10 +1,10 @@
 -- The board calls: fresh board, decide, read, checkpoint, undo, with their refusals. Document 01, 'The board' and 'When a call declines'.
 -- They rest on Board.antt and Refusals.antt. A board needs no history here: it keeps the states at its standing checkpoints. A declined
 -- call hands the board back as it was; that is seen at each `board = b`.
-use Prim.Native.Nat.{ℕ, zero, suc, _+_, _*_, _≤_, _<_}
+use Prim.Native.Nat.{ℕ}
 use mathlib.Core.Bool.{Bool, true, false, _&&_}
 use mathlib.Core.List.{List, [], _∷_}
-use lib.Dec.{eqb, ltb, leb}
+use lib.Dec.{eqb, ltb}
 use lib.ListN.{length}
 use lib.IntN.{ℤ}
 use Rattle.rules.specs.Grid.{Edge, Place, edge, no-edge, place-at, field-side, Grid, grid-of, blank-cell, pads}

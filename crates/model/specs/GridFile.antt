@@ -1,13 +1,13 @@
 -- Reading a grid file: from its bytes to a refusal with its line and field, or to H, W and 256 cells.
 -- The file is read byte by byte. `refusal` has document 01's numbers in the order in which they are tested at one byte,
 -- `after` says what an accepted byte does, and `read` stops at the first byte where a number applies. Assumes nothing.
+use Rattle.model.specs.Choice.{if_then_else_}
 use Prim.Native.Nat.{ℕ, zero, suc, _+_, _*_, _-_}
 use mathlib.Core.Bool.{Bool, true, false, not, _&&_, _||_}
 use mathlib.Core.List.{List, [], _∷_}
 use lib.ListN.{set, replicate}
 use lib.IntN.{ℤ, pos, negsuc}
 use lib.Dec.{eqb, ltb, leb}
-use Rattle.model.specs.Choice.{if_then_else_}
 use Rattle.rules.specs.Grid.{largest-code}
 use Rattle.model.specs.Bounds.{is-size, most-digits}
 

@@ -1,19 +1,18 @@
 -- The known grids K1 to K12 of document 01, proved together as one fact of the definitions, by computation: `known-grids`, at the end.
 -- Nothing else is assumed; the definitions are those of the search, the ends and the grid file.
-use Prim.Native.Nat.{ℕ, zero, suc, _+_, _*_}
+use Prim.Native.Nat.{ℕ, _*_}
 use mathlib.Core.Path.{_≡_, refl}
-use mathlib.Core.Bool.{Bool, true, false}
 use mathlib.Core.List.{List, [], _∷_}
-use lib.ListN.{getD, length, replicate}
+use lib.ListN.{replicate}
 use lib.IntN.{ℤ, pos, negsuc}
-use Rattle.rules.specs.Grid.{Cell, cell-of, blank-cell, Grid, grid-of, places, place-at, place-by-parity}
+use Rattle.rules.specs.Grid.{cell-of, blank-cell, grid-of, places, place-at, place-by-parity}
 use Rattle.rules.specs.Record.{codes, drawing-of, field, record-lines, tabulate}
-use Rattle.model.specs.Board.{fresh, end-number, State, decide, check, after-store, cannot-join, join-ends, check-items, settled, decide-first, degree, undecideds, lines, keep-aparts, around, do-item, do-items, shape-items, barred, joined-ends, put-end, put-end-at, set-flag, set-edge, enough}
+use Rattle.model.specs.Board.{fresh, end-number, decide, check, after-store, cannot-join, join-ends, check-items, settled, decide-first, degree, undecideds, lines, keep-aparts, around, do-item, do-items, shape-items, barred, joined-ends, put-end, put-end-at, set-flag, set-edge, enough}
 use Rattle.model.specs.KnownFiles.{K10 as Largest-code-read, K11 as Letter-refused, K12 as One-row-refused, known-files}
 use Rattle.model.specs.Bounds.{is-size}
 use Rattle.model.specs.Refusals.{grid-refusal, is-cell, first-bad-cell}
 use Rattle.model.specs.Records.{has-record, record-length, record-at}
-use Rattle.model.specs.Search.{Run, Solved, solve, concat, scan, search, fewest, backtrack, try, degree-so-far, next-pad, board-record}
+use Rattle.model.specs.Search.{Solved, solve, concat, scan, search, fewest, backtrack, try, degree-so-far, next-pad, board-record}
 
 -- what document 01 tells of a grid: layouts, visited, fewest, and the codes of each layout
 pub record Known : Type 0 where

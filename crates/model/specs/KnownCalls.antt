@@ -1,9 +1,9 @@
 -- Known answers of the grid's refusals and of the record calls, by computation, each by `refl`.
-use Prim.Native.Nat.{ℕ, _*_}
+use Prim.Native.Nat.{ℕ}
 use mathlib.Core.Path.{_≡_, refl}
 use mathlib.Core.List.{List, [], _∷_, _++_}
 use lib.ListN.{replicate}
-use lib.IntN.{ℤ, pos, negsuc}
+use lib.IntN.{pos, negsuc}
 use Rattle.model.specs.Bounds.{is-size}
 use Rattle.model.specs.GridFile.{blank}
 use Rattle.model.specs.Refusals.{is-cell, first-bad-cell, grid-refusal}

@@ -8,7 +8,7 @@ use lib.ListN.{length, replicate, getD}
 use lib.IntN.{ℤ, pos}
 use Rattle.model.specs.Bounds.{is-size, most-digits}
 use Rattle.model.specs.Text.{bytes}
-use Rattle.model.specs.GridFile.{Reading, is-digit, is-comma, is-line-end, is-allowed, blank, no-cells, start, in-header, fields-due, is-complete, field-cell, bad-size, refusal, with-digit, begun, after, accepted, declined, read-from, read}
+use Rattle.model.specs.GridFile.{is-digit, is-comma, is-line-end, is-allowed, blank, no-cells, start, in-header, fields-due, is-complete, field-cell, bad-size, refusal, with-digit, begun, after, accepted, declined, read-from, read}
 use Rattle.rules.specs.Record.{record-lines}
 use Rattle.model.specs.Printed.{digit-byte, digits-before, decimal, line-at, right-line, down-line, code-of-pad, code-digits-from, code-digits, comma, line-end, summary-line, layout-line, refusal-line, Found, layout-lines, found-text, reading-text, printed}
 

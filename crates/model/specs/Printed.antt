@@ -1,13 +1,12 @@
 -- What the program `routes` prints, as bytes: decimal numbers in shortest digits, the summary line, a layout's line, the
 -- line of a refused file, and the whole of it for a reading and what a search found. Assumes nothing.
+use Rattle.model.specs.Choice.{if_then_else_}
 use Prim.Native.Nat.{ℕ, zero, suc, _+_, _*_, _-_, _/_, _%_}
-use mathlib.Core.Bool.{Bool, true, false, not, _&&_}
+use mathlib.Core.Bool.{true, false}
 use mathlib.Core.List.{List, [], _∷_, _++_}
-use lib.ListN.{length, take, getD}
+use lib.ListN.{take, getD}
 use lib.IntN.{ℤ}
 use lib.Dec.{eqb, ltb}
-use Rattle.model.specs.Choice.{if_then_else_}
-use Rattle.model.specs.Bounds.{is-size}
 use Rattle.model.specs.Text.{bytes}
 use Rattle.rules.specs.Grid.{field-side}
 use Rattle.rules.specs.Record.{record-lines, undecided-byte, line-byte}

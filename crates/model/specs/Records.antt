@@ -1,10 +1,10 @@
 -- The records of an answer buffer: how long one is, record k, and the shorter of two. It rests on the rules' Record.antt.
-use Prim.Native.Nat.{ℕ, zero, suc, _+_, _*_, _-_}
-use mathlib.Core.Bool.{Bool, true, false, not, _&&_, _||_}
-use mathlib.Core.List.{List, [], _∷_}
+use Rattle.model.specs.Choice.{if_then_else_}
+use Prim.Native.Nat.{ℕ, _+_, _*_, _-_}
+use mathlib.Core.Bool.{Bool, not, _&&_}
+use mathlib.Core.List.{List, []}
 use lib.ListN.{length, take, drop}
 use lib.Dec.{eqb, ltb, leb}
-use Rattle.model.specs.Choice.{if_then_else_}
 use Rattle.rules.specs.Grid.{places}
 use Rattle.rules.specs.Record.{record-lines}
 use Rattle.model.specs.Bounds.{is-size}

@@ -1,11 +1,11 @@
 -- When a grid is declined, for a board or a search: the numbers 7, 8 and 9, in document 01's order. Assumes nothing.
-use Prim.Native.Nat.{ℕ, zero, suc, _*_}
-use mathlib.Core.Bool.{Bool, true, false, not, _&&_}
+use Rattle.model.specs.Choice.{if_then_else_}
+use Prim.Native.Nat.{ℕ, suc, _*_}
+use mathlib.Core.Bool.{Bool, not, _&&_}
 use mathlib.Core.List.{List, [], _∷_}
 use lib.ListN.{length}
 use lib.IntN.{ℤ, pos, negsuc}
 use lib.Dec.{eqb, ltb}
-use Rattle.model.specs.Choice.{if_then_else_}
 use Rattle.rules.specs.Grid.{largest-code}
 use Rattle.model.specs.Bounds.{is-size}
 

@@ -5,7 +5,7 @@ use mathlib.Core.List.{List}
 use lib.ListN.{length}
 use lib.IntN.{ℤ}
 use Rattle.rules.specs.Grid.{grid-of, places}
-use Rattle.model.specs.Search.{Run, scan, search, fewest}
+use Rattle.model.specs.Search.{scan, search, fewest}
 use Rattle.model.specs.Printed.{Found, printed}
 
 abbrev pub routes-limit : ℕ

@@ -1,15 +1,15 @@
 -- The search as a list of events with no limit, and a run with a limit and room as a scan of that list. Document 01, 'The search'.
 -- It rests on Board.antt. What stopping early means is then a matter of scanning a list, and the search itself is one function.
-use Prim.Native.Nat.{ℕ, zero, suc, _+_, _*_, _-_, _≤_, _<_}
+use Prim.Native.Nat.{ℕ, zero, suc, _+_, _-_}
 use mathlib.Core.Bool.{Bool, true, false, _&&_, _||_, not}
 use mathlib.Core.List.{List, [], _∷_, _++_}
 use lib.Dec.{eqb, ltb, leb}
 use lib.ListN.{length, drop}
 use lib.IntN.{ℤ}
-use Rattle.rules.specs.Grid.{Edge, right, down, Grid, grid-of, pads, places}
+use Rattle.rules.specs.Grid.{right, down, Grid, grid-of, pads, places}
 use Rattle.rules.specs.Drawing.{num}
 use Rattle.rules.specs.Record.{field, record-lines}
-use Rattle.model.specs.Board.{EdgeState, State, isLine, isUndecided, isBlank, line-or-none, has-left, has-right, has-up, has-down, decide, enough, fresh}
+use Rattle.model.specs.Board.{State, isLine, isUndecided, isBlank, line-or-none, has-left, has-right, has-up, has-down, decide, enough, fresh}
 use Rattle.model.specs.Calls.{state-byte}
 use Rattle.model.specs.Refusals.{grid-refusal}
 

@@ -2,7 +2,7 @@
 -- reference, built unchanged (see oracle/README.md; the calls stand in oracle/dozen.txt): after each call its answer, the edges as a
 -- record, the ends and the flag. Each sequence is told apart from some wrong version of a decision, which its comment names; decisions
 -- on flagged boards, undo of a flag, and undo below the first checkpoint are among them.
-use Prim.Native.Nat.{ℕ, zero, suc, _+_}
+use Prim.Native.Nat.{ℕ}
 use mathlib.Core.Path.{_≡_, refl}
 use mathlib.Core.Bool.{Bool, true, false}
 use mathlib.Core.List.{List, [], _∷_}
@@ -10,7 +10,7 @@ use lib.IntN.{ℤ, pos, negsuc}
 use Rattle.rules.specs.Grid.{cell-of, blank-cell, grid-of, place-at, place-by-parity}
 use Rattle.rules.specs.Record.{field, tabulate}
 use Rattle.model.specs.Board.{fresh, end-number, decide, check, after-store, cannot-join, join-ends, check-items, settled, decide-first, degree, undecideds, lines, keep-aparts, around, do-item, do-items, shape-items, barred, joined-ends, put-end, put-end-at, set-flag, set-edge, enough}
-use Rattle.model.specs.Calls.{Board, Answer, Shown, shown, fresh-board, edge-at, decide-edge, read-edge, add-checkpoint, undo}
+use Rattle.model.specs.Calls.{Board, Answer, shown, fresh-board, edge-at, decide-edge, read-edge, add-checkpoint, undo}
 
 pub data Call : Type 0 where
   decide-call : (row column state : ℕ) → Call

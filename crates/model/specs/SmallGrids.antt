@@ -1,17 +1,17 @@
 -- The search against the rules on a dozen small grids, by computation: all drawings are enumerated in ascending order of their codes, those
 -- that keep the rules of a listed layout are picked out by a test, and the search must list exactly these. The test is written from
 -- document 01's section on layouts and knows nothing of boards and ends: it counts lines and labels chains.
-use Prim.Native.Nat.{ℕ, zero, suc, _+_, _*_, _-_, _%_, _/_, _≤_, _<_}
+use Prim.Native.Nat.{ℕ, zero, suc, _+_, _-_, _%_, _/_}
 use mathlib.Core.Path.{_≡_, refl}
 use mathlib.Core.Bool.{Bool, true, false, _&&_, _||_, not}
 use mathlib.Core.List.{List, [], _∷_, _++_, map}
 use lib.Dec.{eqb, ltb, leb}
-use lib.ListN.{getD, length}
+use lib.ListN.{getD}
 use lib.IntN.{ℤ, pos}
-use Rattle.rules.specs.Grid.{Cell, blank, clue, cell-of, blank-cell, Grid, grid-of, pads, places, place-at, place-by-parity}
+use Rattle.rules.specs.Grid.{Cell, blank, clue, cell-of, blank-cell, Grid, grid-of, pads, place-at, place-by-parity}
 use Rattle.rules.specs.Drawing.{Drawing, num, square-lines}
 use Rattle.rules.specs.Record.{codes, drawing-of, field, tabulate}
-use Rattle.model.specs.Board.{has-left, has-right, has-up, has-down, fresh, State, decide, check, after-store, cannot-join, join-ends, check-items, settled, decide-first, degree, undecideds, lines, keep-aparts, around, do-item, do-items, shape-items, barred, joined-ends, put-end, put-end-at, set-flag, set-edge, enough, isBlank}
+use Rattle.model.specs.Board.{has-left, has-right, has-up, has-down, fresh, decide, check, after-store, cannot-join, join-ends, check-items, settled, decide-first, degree, undecideds, lines, keep-aparts, around, do-item, do-items, shape-items, barred, joined-ends, put-end, put-end-at, set-flag, set-edge, enough, isBlank}
 use Rattle.model.specs.Search.{Event, visit, layout, search, backtrack, try, degree-so-far, next-pad, board-record}
 
 -- a test of every pad below n

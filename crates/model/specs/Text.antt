@@ -1,6 +1,6 @@
 -- A quoted text as the list of its bytes, so that files and printed lines can be written as they look. Assumes nothing.
 use Prim.Native.Nat.{ℕ}
-use Prim.Native.Char.{Char, code}
+use Prim.Native.Char.{code}
 use Prim.Native.String.{String, [] as no-text, _∷_ as _then_}
 use mathlib.Core.List.{List, [], _∷_}
 

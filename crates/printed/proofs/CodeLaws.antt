@@ -1,4 +1,5 @@
 -- Laws of a layout's codes: the lines at a pad, and the codes one after the other. Assumes nothing.
+use Rattle.model.specs.Choice.{if_then_else_}
 use mathlib.Core.Path.{_≡_, refl, ap, _∙_}
 use mathlib.Core.Bool.{Bool, true, false}
 use mathlib.Core.List.{List, [], _∷_, _++_}
@@ -9,7 +10,6 @@ use native.Mathlib.Omega.{arith}
 use lib.ListN.{length, getD, set, List·getD-eq-default}
 use lib.Dec.{eqb, ltb}
 use borrow.Author.Tests.{lt-ltb, le-ltb, eq-eqb, ne-eqb}
-use Rattle.model.specs.Choice.{if_then_else_}
 use Rattle.model.specs.Bounds.{is-size}
 use Rattle.model.specs.RefusalLaws.{size-of-test}
 use Rattle.model.specs.Printed.{digit-byte, line-at, right-line, down-line, code-of-pad, code-digits-from, code-digits}

@@ -1,11 +1,11 @@
 -- What it means that a text was put into a buffer, and that an array holds a text and nothing else. Assumes nothing.
+use Rattle.model.specs.Choice.{if_then_else_}
 use Prim.Native.Nat.{ℕ, _+_, _-_, _≤_}
 use mathlib.Core.Path.{_≡_}
 use mathlib.Core.Bool.{_&&_}
 use mathlib.Core.List.{List, [], _++_}
 use lib.ListN.{length, replicate}
 use lib.Seq.{sets}
-use Rattle.model.specs.Choice.{if_then_else_}
 use Rattle.model.specs.Bounds.{is-size}
 use Rattle.model.specs.Printed.{layout-line}
 

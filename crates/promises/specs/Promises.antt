@@ -1,16 +1,16 @@
 -- WHAT A SEARCH PROMISES, demands 2 and 3 in one record that can be read beside the owner's words. It speaks of a run of the search of an
 -- accepted grid, with any limit and any room; nothing here speaks of how the search is made. The proofs cite exactness (crate exact) and
 -- that nobody draws better than the listed layouts (crate shortest).
-use Prim.Native.Nat.{ℕ, zero, suc, _+_, _≤_, _<_}
-use mathlib.Core.Path.{_≡_, refl, sym, _∙_, ap}
+use Prim.Native.Nat.{ℕ, _+_}
+use mathlib.Core.Path.{_≡_, sym, _∙_, ap}
 use mathlib.Core.Logic.{_≢_, _⊎_, ⊎-elim, ⊎-map}
-use mathlib.Core.List.{List, [], _∷_, _++_, List·Memᴰ, List·Memᴰ·head}
+use mathlib.Core.List.{List, [], _++_, List·Memᴰ}
 use lib.IntN.{ℤ}
 use Rattle.rules.specs.Grid.{Grid, grid-of, places, Accepted}
 use Rattle.rules.specs.Drawing.{Ordinary, number-of-lines}
 use Rattle.rules.specs.Record.{record-lines}
-use Rattle.model.specs.Search.{Event, Run, scan, search, fewest, no-fewest}
-use Rattle.shortest.specs.Shortest.{HoldsTheListed, NotBettered, whole-list-not-bettered}
+use Rattle.model.specs.Search.{Run, scan, search, fewest, no-fewest}
+use Rattle.shortest.specs.Shortest.{NotBettered, whole-list-not-bettered}
 use Rattle.shortest.specs.Fewest.{Fewest}
 use Rattle.exact.specs.Events.{layouts-of}
 use Rattle.propagation.specs.ProperGrid.{accepted-proper}

@@ -1,5 +1,6 @@
 -- No accepted file is longer than 2,838 bytes, and the first 4,096 bytes of any input decide what is read. A number of bytes that can
 -- still be accepted falls with every accepted byte.
+use Rattle.model.specs.Choice.{if_then_else_}
 use mathlib.Core.Path.{_≡_, refl, ap}
 use mathlib.Core.Bool.{Bool, true, false, _&&_}
 use mathlib.Core.List.{List, [], _∷_}
@@ -11,7 +12,6 @@ use lib.Seq.{take-nil}
 use lib.Dec.{eqb, ltb}
 use borrow.Author.Tests.{eqb-true, eqb-false, ne-eqb}
 use Rattle.rules.specs.Grid.{Size}
-use Rattle.model.specs.Choice.{if_then_else_}
 use Rattle.model.specs.GridFile.{Standing, start, in-header, fields-due, is-complete, bad-size, refusal, with-digit, begun, after, declined, read-from, read}
 use Rattle.reading.specs.ReadingLaws.{Passed, byte-passed, Kind, a-digit, a-comma, a-line-end, kind-of, Sound, start-sound, after-sound, begun-row, begun-header, due-row, due-header, sizes-found}
 

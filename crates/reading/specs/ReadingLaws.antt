@@ -1,5 +1,6 @@
 -- What is known of every reading of a grid file: 256 cells; sizes and cells in range where it is accepted. These are the laws by
 -- which a program hands what it read to a search. They follow a standing that is sound from byte to byte.
+use Rattle.model.specs.Choice.{if_then_else_}
 use mathlib.Core.Path.{_≡_, refl, sym, _∙_}
 use mathlib.Core.Bool.{Bool, true, false, not, _&&_}
 use mathlib.Core.List.{List, [], _∷_}
@@ -13,7 +14,6 @@ use lib.IntN.{ℤ, pos}
 use lib.Dec.{eqb, ltb}
 use borrow.Author.Tests.{ltb-false, eqb-true, eqb-false, ne-eqb}
 use Rattle.rules.specs.Grid.{Size, largest-code, blank-cell, CellInRange, Accepted}
-use Rattle.model.specs.Choice.{if_then_else_}
 use Rattle.model.specs.Bounds.{is-size, most-digits}
 use Rattle.model.specs.RefusalLaws.{size-of-test}
 use Rattle.model.specs.GridFile.{Standing, Reading, is-digit, is-comma, is-line-end, is-allowed, blank, no-cells, start, in-header, fields-due, is-complete, field-cell, bad-size, refusal, with-digit, begun, after, accepted, declined, read-from, read}

@@ -1,7 +1,7 @@
 -- Drawings of a grid and the rules for them: ordinary, listed, joining the same pads, the number of lines. Document 01, section Layouts.
 -- Definitions only; they rest on Grid.antt. Two of them are not document 01's sentence word by word and say why they mean the same:
 -- the lines at a pad, and a closed loop.
-use Prim.Native.Nat.{ℕ, zero, suc, _+_, _≤_, _<_}
+use Prim.Native.Nat.{ℕ, zero, suc, _+_, _≤_}
 use mathlib.Core.Path.{_≡_}
 use mathlib.Core.Logic.{_≢_, _⊎_, _↔_}
 use mathlib.Core.Bool.{Bool, true, false}

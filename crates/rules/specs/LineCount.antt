@@ -1,16 +1,15 @@
 -- The lines of a record are the lines of its drawing, and a board of at most 16 by 16 pads has at most 480 of them, so that 481 can stand
 -- for 'no layout'. Both are counted row by row. The file rests on RecordLaws.antt and Sums.antt.
 use Prim.Native.Nat.{ℕ, zero, suc, _+_, _*_, _-_, _%_, _/_, _≤_, _<_}
-use mathlib.Core.Path.{_≡_, refl, sym, _∙_, ap}
+use mathlib.Core.Path.{_≡_, refl, _∙_, ap}
 use mathlib.Core.Bool.{Bool, true, false}
-use mathlib.Core.List.{List}
 use native.Mathlib.Omega.{arith}
-use native.Mathlib.Nat.{mod-eq-of-lt, div-eq-of-lt, mul-add-div-right, mul-add-mod-self-right, mul-le-mul-right, mul-le-mul-left, suc-mul}
+use native.Mathlib.Nat.{mod-eq-of-lt, div-eq-of-lt, mul-add-div-right, mul-add-mod-self-right, mul-le-mul-right, suc-mul}
 use lib.Dec.{eqb}
-use Rattle.rules.specs.Grid.{Edge, right, down, pad-index, Place, edge, no-edge, place-by-parity, place-at, places, field-side, Grid, pads, OnBoard, Size}
+use Rattle.rules.specs.Grid.{right, down, place-by-parity, place-at, places, field-side, Grid, pads, OnBoard}
 use Rattle.rules.specs.Drawing.{Drawing, drawn, num, Placed, count, number-of-lines}
 use Rattle.rules.specs.Record.{line-byte, byte-of, tabulate, byte-at-place, field, record-of, record-lines}
-use Rattle.rules.specs.Places.{place-right, place-down, row-of-pad, column-of-pad}
+use Rattle.rules.specs.Places.{place-right, place-down, column-of-pad}
 use Rattle.rules.specs.RecordLaws.{off-line, is-line-byte}
 use Rattle.rules.specs.Sums.{sum, sum-same, sum-last, sum-shift, sum-add, sum-bound, sum-rows, sum-pairs}
 

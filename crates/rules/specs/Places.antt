@@ -2,13 +2,11 @@
 -- exactly one edge of the board, and it joins two neighbouring pads. These are document 01's sentences about places, proved of the
 -- definitions in Grid.antt.
 use Prim.Native.Nat.{ℕ, zero, suc, _+_, _*_, _-_, _%_, _/_, _≤_, _<_}
-use mathlib.Core.Path.{_≡_, refl, sym, _∙_, ap}
-use mathlib.Core.Logic.{_≢_, _⊎_, inl, inr}
-use mathlib.Core.Bool.{Bool, true, false}
+use mathlib.Core.Path.{_≡_, refl, _∙_, ap}
+use mathlib.Core.Logic.{_≢_}
 use native.Mathlib.Omega.{arith}
 use native.Mathlib.Nat.{mod-lt, mod-eq-of-lt, div-eq-of-lt, div-add-mod', div-lt-iff-lt-mul, add-div-right, mul-add-div-right, mul-add-mod-self-right, mul-le-mul-right, suc-mul}
-use lib.Dec.{eqb}
-use Rattle.rules.specs.Grid.{Edge, right, down, first, second, pad-index, field-side, places, Place, edge, no-edge, place-by-parity, place-at, row-of, column-of, Grid, pads, HasRight, HasDown, OnBoard}
+use Rattle.rules.specs.Grid.{Edge, right, down, first, second, pad-index, field-side, edge, place-by-parity, place-at, row-of, column-of, Grid, pads, OnBoard}
 
 -- no two different numbers are equal
 pub zero≢one : {A : Type 0} → _≡_ {A = ℕ} 0 1 → A

@@ -1,6 +1,6 @@
 -- Records, pad codes and the order of layouts. Document 01, sections on the grid and on layouts. Definitions only; they rest on
 -- Grid.antt and Drawing.antt.
-use Prim.Native.Nat.{ℕ, zero, suc, _+_, _*_, _%_, _/_, _≤_, _<_}
+use Prim.Native.Nat.{ℕ, zero, suc, _+_, _*_, _%_, _/_, _<_}
 use mathlib.Core.Path.{_≡_}
 use mathlib.Core.Bool.{Bool, true, false, _&&_}
 use mathlib.Core.List.{List, [], _∷_, List·Memᴰ}

@@ -3,18 +3,17 @@
 -- rests on Places.antt.
 use Prim.Native.Nat.{ℕ, zero, suc, _+_, _*_, _-_, _%_, _/_, _≤_, _<_}
 use mathlib.Core.Path.{_≡_, refl, sym, _∙_, ap}
-use mathlib.Core.Bool.{Bool, true, false, _&&_}
-use mathlib.Core.List.{List, [], _∷_}
+use mathlib.Core.Bool.{Bool, true, false}
 use native.Mathlib.Omega.{arith}
 use native.Mathlib.Decide.{decLt}
 use native.Mathlib.Nat.{mod-lt, mod-eq-of-lt, div-eq-of-lt, div-lt-iff-lt-mul, le-div-iff-mul-le, add-div-right, mul-add-div-right, mul-add-mod-self-right, mul-le-mul-right, suc-mul}
 use borrow.Author.Tests.{lt-ltb, le-ltb}
-use lib.Dec.{eqb, ltb}
+use lib.Dec.{eqb}
 use lib.ListN.{getD, length, List·getD-eq-default}
 use Rattle.rules.specs.Grid.{Edge, right, down, Place, edge, no-edge, place-at, places, field-side, row-of, column-of, Grid, pads, OnBoard}
 use Rattle.rules.specs.Drawing.{Drawing, drawn, num, Placed}
 use Rattle.rules.specs.Record.{undecided-byte, line-byte, byte-of, tabulate, byte-at-place, field, record-of, place-number, drawing-of, pad-code, codes}
-use Rattle.rules.specs.Places.{zero≢one, place-of-edge, row-in-field, column-in-field, PlaceOf, edge-of-place}
+use Rattle.rules.specs.Places.{zero≢one, place-of-edge, row-in-field, column-in-field, edge-of-place}
 
 -- LISTS MADE BY A FUNCTION
 pub length-tabulate : {A : Type 0} (f : ℕ → A) (start n : ℕ) → length (tabulate f start n) ≡ n

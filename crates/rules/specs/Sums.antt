@@ -1,7 +1,7 @@
 -- Sums of a function over a stretch of numbers: split, joined by rows, taken in pairs, bounded. They rest on nothing of the project and
 -- serve to count the lines of a record.
 use Prim.Native.Nat.{ℕ, zero, suc, _+_, _*_, _≤_, _<_}
-use mathlib.Core.Path.{_≡_, refl, sym, _∙_, ap}
+use mathlib.Core.Path.{_≡_, refl, _∙_, ap}
 use native.Mathlib.Omega.{arith}
 use native.Mathlib.Nat.{suc-mul}
 

@@ -1,7 +1,7 @@
 // The leaves of the search: what only reads the board's lent arrays and chooses, and what writes one record. Each equals a definition of
 // searchview's Shown.antt. Nothing here decides an edge.
 ghost use mathlib.Core.Path.{_≡_};
-ghost use Prim.Native.Nat.{ℕ, _+_, _*_, _-_, _≤_, _<_};
+ghost use Prim.Native.Nat.{_+_, _*_, _-_, _≤_, _<_};
 ghost use lib.Dec.{eqb};
 ghost use lib.ListN.{length, getD};
 ghost use Rattle.rules.specs.Grid.{places};

@@ -3,8 +3,8 @@
 use Prim.Native.Nat.{ℕ, _≤_}
 use mathlib.Core.Path.{_≡_, refl, ap, _∙_}
 use mathlib.Core.Bool.{Bool, true, false}
-use Rattle.rules.specs.Grid.{Edge, right, down, Grid}
-use Rattle.model.specs.Board.{EdgeState, State, isUndecided, line-or-none, decide, enough}
+use Rattle.rules.specs.Grid.{right, down, Grid}
+use Rattle.model.specs.Board.{State, isUndecided, line-or-none, decide, enough}
 use Rattle.propagation.specs.Kept.{calls-keep}
 use Rattle.propagation.specs.Squares.{geometry}
 

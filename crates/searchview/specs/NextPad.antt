@@ -1,18 +1,18 @@
 -- The code's scan for the next pad is the model's, and the pad it finds comes later and has a right edge, or is the first of the last row.
 -- It rests on Shown.antt; slots to the right of the last column hold none, so the scan needs no test of the column.
-use Prim.Native.Nat.{ℕ, zero, suc, _+_, _*_, _-_, _%_, _≤_, _<_}
+use Prim.Native.Nat.{ℕ, zero, suc, _+_, _*_, _-_, _≤_, _<_}
 use mathlib.Core.Path.{_≡_, refl, sym, ap, _∙_}
 use mathlib.Core.Bool.{Bool, true, false, _&&_}
 use mathlib.Core.List.{List}
 use native.Mathlib.Omega.{arith}
 use native.Mathlib.Nat.{suc-mul}
-use lib.Dec.{eqb, ltb, leb}
-use lib.ListN.{getD, length}
-use borrow.Author.Tests.{lt-ltb, le-ltb, ltb-true, ltb-false, eq-eqb, eqb-true}
-use Rattle.rules.specs.Grid.{Edge, right, down, Grid, pads}
+use lib.Dec.{eqb, ltb}
+use lib.ListN.{getD}
+use borrow.Author.Tests.{lt-ltb, le-ltb, ltb-true, ltb-false, eqb-true}
+use Rattle.rules.specs.Grid.{right, Grid, pads}
 use Rattle.model.specs.Board.{State, isUndecided, has-right, has-down}
 use Rattle.model.specs.Search.{next-pad}
-use Rattle.boardview.specs.View.{slot, slot-on, state-of, view}
+use Rattle.boardview.specs.View.{slot-on, view}
 use Rattle.boardview.specs.Bytes.{default-free, undecided-byte-test, edge-on, both-true}
 use Rattle.searchview.specs.Shown.{edges-only, EdgesReady, last-row, NextPad}
 

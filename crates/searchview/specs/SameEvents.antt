@@ -1,12 +1,12 @@
 -- The search asks of a grid only its sizes and which pads are blank: two grids that agree in these, and so in their decisions, have the same
 -- events. So the code may hold a bit for each pad and no code. It rests on the model alone; that the decisions agree is shown with the
 -- board's view.
-use Prim.Native.Nat.{ℕ, zero, suc, _+_, _*_, _-_, _%_}
+use Prim.Native.Nat.{ℕ, zero, suc, _+_, _-_}
 use mathlib.Core.Path.{_≡_, refl, ap, _∙_}
 use mathlib.Core.Bool.{Bool, true, false, _&&_, _||_, not}
-use mathlib.Core.List.{List, [], _∷_, _++_}
+use mathlib.Core.List.{List, _∷_, _++_}
 use native.Mathlib.Omega.{arith}
-use lib.Dec.{eqb, ltb, leb}
+use lib.Dec.{eqb}
 use Rattle.rules.specs.Grid.{Edge, right, down, Cell, Grid, pads}
 use Rattle.rules.specs.Drawing.{num}
 use Rattle.model.specs.Board.{EdgeState, State, isUndecided, isLine, isBlank, line-or-none, has-right, has-left, has-down, has-up, decide, enough}

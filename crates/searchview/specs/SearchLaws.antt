@@ -3,23 +3,23 @@
 -- decision promises.
 use Prim.Native.Nat.{ℕ, zero, suc, _+_, _*_, _-_, _%_, _/_, _≤_, _<_}
 use mathlib.Core.Path.{_≡_, refl, sym, ap, _∙_}
-use mathlib.Core.Bool.{Bool, true, false, _&&_, _||_}
+use mathlib.Core.Bool.{Bool, true, false, _||_}
 use mathlib.Core.List.{List, [], _∷_, _++_, append-nil}
 use native.Mathlib.Omega.{arith}
-use lib.Dec.{eqb, ltb, leb}
-use lib.ListN.{getD, length}
-use lib.IntN.{ℤ, pos}
-use borrow.Author.Tests.{lt-ltb, le-ltb, ltb-true, eq-eqb, ne-eqb, le-leb, lt-leb, leb-false}
-use Rattle.rules.specs.Grid.{Edge, right, down, Grid, pads, places}
+use lib.Dec.{eqb}
+use lib.ListN.{length}
+use lib.IntN.{ℤ}
+use borrow.Author.Tests.{lt-ltb, le-ltb, eq-eqb, ne-eqb, le-leb, lt-leb}
+use Rattle.rules.specs.Grid.{right, down, Grid, pads, places}
 use Rattle.rules.specs.Drawing.{num}
 use Rattle.rules.specs.Record.{field}
 use Rattle.model.specs.Board.{State, isUndecided, on-board, line-or-none, decide, enough}
-use Rattle.model.specs.Search.{Event, visit, layout, board-record, degree-so-far, next-pad, try, backtrack}
+use Rattle.model.specs.Search.{Event, layout, board-record, degree-so-far, next-pad, try, backtrack}
 use Rattle.boardview.specs.View.{Arrays, logged, view, unwound, Entry, Since, Ready, Decided}
-use Rattle.boardview.specs.Unwind.{since-then, kept-unwound}
+use Rattle.boardview.specs.Unwind.{kept-unwound}
 use Rattle.searchview.specs.Progress.{Progress, advance, entered, stopped, goes-on, advance-append}
-use Rattle.searchview.specs.Shown.{EdgesReady, edges-only, is-tried, place-shown, record-shown, last-row, NextPad, Restored, progress, Added}
-use Rattle.searchview.specs.Searched.{Begun, Above, Entered, Searched, Attempted, Backtracked, Going, events-left}
+use Rattle.searchview.specs.Shown.{EdgesReady, edges-only, is-tried, place-shown, record-shown, last-row, NextPad, Restored, progress}
+use Rattle.searchview.specs.Searched.{Above, Entered, Attempted, Backtracked, Going, events-left}
 use Rattle.boardview.specs.Undecided.{enough-here}
 use Rattle.searchview.specs.EdgeSet.{right-decided}
 use Rattle.searchview.specs.NextPad.{below-some, below-none, last-below-pads, right-there, next-same}

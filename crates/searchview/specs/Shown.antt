@@ -1,21 +1,21 @@
 -- What the lent arrays show of the search: the state of the edges alone, whether an m is tried, the record of a layout byte by byte, and
 -- which pad comes next. The contracts of the search's small functions cite these; Laws about them stand in ShownLaws.antt. Nothing is
 -- proved here.
-use Prim.Native.Nat.{ℕ, zero, suc, _+_, _*_, _-_, _%_, _/_, _≤_, _<_}
+use Prim.Native.Nat.{ℕ, _+_, _*_, _-_, _%_, _/_, _≤_, _<_}
 use mathlib.Core.Path.{_≡_}
-use mathlib.Core.Bool.{Bool, true, false, _||_}
+use mathlib.Core.Bool.{Bool, false, _||_}
 use mathlib.Core.List.{List, [], _∷_}
 use lib.Dec.{eqb}
 use lib.ListN.{getD, length}
-use lib.IntN.{ℤ, pos}
-use Rattle.rules.specs.Grid.{Edge, right, down, Grid, pads, places, field-side, place-at}
+use lib.IntN.{pos}
+use Rattle.rules.specs.Grid.{Grid, places, field-side, place-at}
 use Rattle.rules.specs.Drawing.{num}
 use Rattle.rules.specs.Record.{byte-at-place, tabulate}
 use Rattle.model.specs.Board.{State}
 use Rattle.model.specs.Calls.{state-byte}
-use Rattle.model.specs.Search.{degree-so-far, Event, layout}
+use Rattle.model.specs.Search.{degree-so-far, layout}
 use Rattle.searchview.specs.Progress.{Progress, advance}
-use Rattle.boardview.specs.View.{Arrays, slot, slot-on, state-of, view, logged}
+use Rattle.boardview.specs.View.{Arrays, slot-on, view, logged}
 
 -- the state that the edges show, with nothing said of ends and flag
 unfoldable pub edges-only : List ℕ → State

@@ -5,25 +5,24 @@ use mathlib.Core.Path.{_≡_, refl, sym, ap, _∙_}
 use mathlib.Core.Bool.{Bool, true, false, _&&_, _||_, not}
 use mathlib.Core.List.{List, [], _∷_, _++_}
 use native.Mathlib.Omega.{arith}
-use native.Mathlib.Nat.{mul-le-mul, mul-le-mul-right, div-lt-iff-lt-mul, mod-lt, add-assoc}
-use lib.Dec.{eqb, ltb, leb}
-use lib.ListN.{getD, set, length, take, drop, length-append, length-set}
-use lib.Seq.{set-split, take-suc, drop-cons}
-use lib.IntN.{ℤ, pos}
-use borrow.Author.Tests.{lt-ltb, le-ltb, eq-eqb, ne-eqb, eqb-true, eqb-false, ltb-true, ltb-false, leb-true, leb-false, le-leb, lt-leb}
-use Rattle.rules.specs.Grid.{Edge, right, down, Place, edge, no-edge, Grid, pads, places, field-side, place-at, place-by-parity, pad-index}
+use native.Mathlib.Nat.{mul-le-mul, div-lt-iff-lt-mul, mod-lt, add-assoc}
+use lib.Dec.{eqb, ltb}
+use lib.ListN.{getD, set, length, length-set}
+use lib.Seq.{set-split}
+use borrow.Author.Tests.{lt-ltb, le-ltb, ltb-true, ltb-false, leb-true, leb-false, le-leb, lt-leb}
+use Rattle.rules.specs.Grid.{Edge, right, down, edge, Grid, pads, places, field-side, place-at, place-by-parity}
 use Rattle.rules.specs.Drawing.{num}
-use Rattle.rules.specs.Record.{byte-at-place, tabulate, record-lines, line-byte}
+use Rattle.rules.specs.Record.{tabulate, record-lines, line-byte}
 use Rattle.rules.specs.RecordLaws.{length-tabulate}
-use Rattle.model.specs.Board.{EdgeState, undecided, line, none, State, isLine, isUndecided, isBlank, has-left, has-right, has-up, has-down, on-board}
+use Rattle.model.specs.Board.{isLine, isBlank, has-left, has-up}
 use Rattle.model.specs.Calls.{state-byte}
-use Rattle.model.specs.Search.{degree-so-far, Event, layout, least}
-use Rattle.boardview.specs.View.{Arrays, pick, slot, slot-on, edge-of, state-of, view, grid-in, has-bit, clue-bit, cell-in, Kinds}
-use Rattle.boardview.specs.Bytes.{default-free, line-byte-test, edge-on}
+use Rattle.model.specs.Search.{degree-so-far, least}
+use Rattle.boardview.specs.View.{slot, slot-on, view, grid-in, has-bit, clue-bit, cell-in, Kinds}
+use Rattle.boardview.specs.Bytes.{default-free, line-byte-test}
 use Rattle.boardview.specs.Geometry.{last-before, low-off, slot-is}
 use Rattle.boardview.specs.Places.{byte-back, one-more}
-use Rattle.searchview.specs.Progress.{Progress, advance, put-bytes, put-length, put-put, put-none, stopped, listed}
-use Rattle.searchview.specs.Shown.{EdgesReady, edges-only, is-tried, place-shown, record-shown, progress, Added}
+use Rattle.searchview.specs.Progress.{advance, put-bytes, put-length, put-put, put-none}
+use Rattle.searchview.specs.Shown.{EdgesReady, edges-only, is-tried, place-shown, record-shown, Added}
 
 -- A NUMBER OF A TEST
 pub num-at-most : (b : Bool) → num b ≤ 1

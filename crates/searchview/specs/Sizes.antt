@@ -1,11 +1,11 @@
 -- Every record of the search is as long as the field has places.
-use Prim.Native.Nat.{ℕ, zero, suc, _+_, _*_, _-_}
+use Prim.Native.Nat.{ℕ, zero, suc, _+_, _-_}
 use mathlib.Core.Path.{_≡_, refl}
-use mathlib.Core.Bool.{Bool, true, false, _&&_, _||_}
+use mathlib.Core.Bool.{Bool, true, false, _||_}
 use mathlib.Core.List.{List, [], _∷_, _++_}
 use lib.Dec.{eqb}
 use lib.ListN.{length}
-use Rattle.rules.specs.Grid.{Edge, right, down, Grid, pads, places}
+use Rattle.rules.specs.Grid.{right, down, Grid, pads, places}
 use Rattle.rules.specs.Drawing.{num}
 use Rattle.rules.specs.RecordLaws.{length-field}
 use Rattle.model.specs.Board.{State, has-down, decide, enough, line-or-none, fresh}

@@ -5,7 +5,7 @@ use mathlib.Core.Path.{_≡_, refl, sym, _∙_, ap}
 use mathlib.Core.Logic.{_≢_, _⊎_, inl, inr, _↔_, ⊎-map, ⊎-elim}
 use Rattle.rules.specs.Grid.{Cell, blank, clue}
 use Rattle.rules.specs.Places.{zero≢one}
-use Rattle.rules.specs.Drawing.{Relation, Joined, here, more, NoLine, OneLine, TwoLines, Wired}
+use Rattle.rules.specs.Drawing.{Relation, Joined, NoLine, OneLine, TwoLines, Wired}
 
 -- the lines L and M join the same clue pads pair by pair (for the lines of two drawings of one grid this is the rules' SamePairs)
 abbrev pub ClueAt : (ℕ → Cell) → ℕ → Type 0

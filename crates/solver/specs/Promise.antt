@@ -1,13 +1,13 @@
 -- WHAT THE CONTRACT OF `solve` PROMISES beside the equation with the model: demands 2 and 3, for a run on an accepted grid. It says what
 -- `Promised` (crate promises) says, in a type that a contract can hold: a closed loop is told by the list of its pads and not by a family,
 -- which the rules prove to be the same (Loops.antt). So it is proved from `promised` by that law alone.
-use Prim.Native.Nat.{ℕ, zero, suc, _+_, _≤_, _<_}
-use mathlib.Core.Path.{_≡_, refl}
+use Prim.Native.Nat.{ℕ, _≤_}
+use mathlib.Core.Path.{_≡_}
 use mathlib.Core.Logic.{_↔_, _≢_, _⊎_}
 use mathlib.Core.List.{List, [], List·Memᴰ, map}
 use native.Mathlib.Omega.{arith}
 use lib.IntN.{ℤ}
-use Rattle.rules.specs.Grid.{Grid, grid-of, Cell, blank, clue, UnitSquare, places, Accepted}
+use Rattle.rules.specs.Grid.{Grid, grid-of, blank, clue, UnitSquare, places, Accepted}
 use Rattle.rules.specs.Drawing.{Drawing, Placed, Line, Joined, NoLine, OneLine, TwoLines, Ordinary, Listed, square-lines, Side, DiagonallyBelow, Corner, IsClue, SamePairs, number-of-lines}
 use Rattle.rules.specs.Loops.{ClosedList, no-loop-exactly}
 use Rattle.rules.specs.Record.{record-of, record-lines, Ascending}

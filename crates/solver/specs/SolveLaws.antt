@@ -1,32 +1,29 @@
 -- From the search over the fresh arrays to the model's run: the kinds tell of the same blank pads, so the events are the grid's own, and
 -- the progress from nothing is the model's result. It rests on the laws of the files beside it.
-use Prim.Native.Nat.{ℕ, zero, suc, _+_, _*_, _-_, _%_, _≤_, _<_}
+use Prim.Native.Nat.{ℕ, _+_, _*_, _-_, _%_, _≤_}
 use mathlib.Core.Path.{_≡_, refl, sym, ap, _∙_, subst}
-use mathlib.Core.Bool.{Bool, true, false}
 use mathlib.Core.List.{List}
 use native.Mathlib.Omega.{arith}
 use native.Mathlib.Nat.{zero-mul}
-use lib.Dec.{eqb, ltb}
 use lib.ListN.{length}
 use lib.IntN.{ℤ}
 use borrow.Author.Tests.{eq-eqb, ne-eqb, lt-ltb}
-use Rattle.rules.specs.Grid.{Edge, Grid, grid-of, pads, places, Accepted}
-use Rattle.model.specs.Board.{EdgeState, State, fresh, isBlank, has-right, decide}
+use Rattle.rules.specs.Grid.{Edge, Grid, grid-of, pads, places}
+use Rattle.model.specs.Board.{EdgeState, State, fresh, decide}
 use Rattle.model.specs.Refusals.{grid-refusal}
 use Rattle.model.specs.RefusalLaws.{not-refused}
 use Rattle.model.specs.Search as model
-use Rattle.boardview.specs.View.{Arrays, view, grid-in, cell-in}
+use Rattle.boardview.specs.View.{Arrays, view, grid-in}
 use Rattle.boardview.specs.SameBlanks.{shown-decides}
 use Rattle.boardfresh.specs.FreshView.{FreshBoard, without-codes, same-blank}
-use Rattle.solver.specs.declared.Solved.{Solved}
 use Rattle.solver.specs.declared.Tally.{Tally}
 use Rattle.searchview.specs.Progress.{Progress, advance, start, result-of, advance-solved}
 use Rattle.searchview.specs.Sizes.{search-sized}
-use Rattle.searchview.specs.Shown.{progress, last-row}
+use Rattle.searchview.specs.Shown.{progress}
 use Rattle.searchview.specs.Searched.{arrays, reached, Begun, Entered, Backtracked}
 use Rattle.searchview.specs.SameEvents.{backtrack-same}
 use Rattle.solver.specs.Promise.{promise}
-use Rattle.solver.specs.Answers.{answer-says, run-of, Solves, tally-says, Ready, Counted}
+use Rattle.solver.specs.Answers.{run-of, Solves, tally-says, Ready, Counted}
 
 -- THE WHOLE SEARCH over the fresh arrays
 module _ (height width : ℕ) (cells : List ℤ) (edges : List ℕ) (ends : List ℤ) (kind : List ℕ) (made : FreshBoard (grid-of height width cells) edges ends kind) (log : List ℤ) where

@@ -2,13 +2,11 @@
 // of the lent buffer equal the model's run (crate model, specs/Search.antt), and demands 2 and 3 stand in the contract of `solve`
 // (specs/Answers.antt, Solves, and specs/Promise.antt).
 ghost use mathlib.Core.Path.{_≡_};
-ghost use mathlib.Core.Bool.{true};
 ghost use mathlib.Core.List.{List};
 ghost use Prim.Native.Nat.{ℕ, _-_, _%_, _≤_, _<_};
 ghost use lib.IntN.{ℤ};
 ghost use Rattle.rules.specs.Grid.{right, down};
-ghost use Rattle.model.specs.Board.{line-or-none, on-board};
-ghost use Rattle.boardview.specs.View.{grid-in, Kinds, Ready, Decided, unwound};
+ghost use Rattle.boardview.specs.View.{grid-in, Kinds, Ready, unwound};
 ghost use Rattle.searchview.specs.Searched.{arrays, reached, Begun, Above, Entered, Attempted, Backtracked};
 ghost use Rattle.solver.specs.Answers as answers;
 use boardparts::FLAGGED;

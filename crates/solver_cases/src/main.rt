@@ -1,8 +1,7 @@
 // Runs what document 01 leaves to a run of the search: limits 0, 1, visited - 1 and visited, buffers of a record less a byte, exactly full
 // and a byte short of two records, sizes 1, 2, 16 and 17, a wrong number of cells and a bad cell. Prints number, index, outcome, layouts,
 // visited, fewest and the sum of the buffer's bytes.
-ghost use Prim.Native.Nat.{_≤_, _<_, _*_};
-ghost use lib.ListN.{length};
+ghost use Prim.Native.Nat.{_≤_, _<_};
 use libc::STDOUT_FILENO;
 use solver::Solved;
 

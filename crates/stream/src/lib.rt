@@ -1,6 +1,6 @@
 // The streams of board calls and of grids that were written down once with the Rust's answers; oracle/README.md describes both and the
 // checksum. These functions read them. They are total: past the end of a stream every byte is 0.
-ghost use Prim.Native.Nat.{_≤_, _<_};
+ghost use Prim.Native.Nat.{_<_};
 ghost use mathlib.Core.Path.{_≡_};
 ghost use lib.ListN.{length};
 

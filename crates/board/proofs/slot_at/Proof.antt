@@ -40,19 +40,31 @@ returns-3 : tie.Need-returns-3
 returns-3 c = even-even _ _ _ (rw (← c .before .before .before .before .height .ensures) (c .before .before .before .if1 .left)) (rw (← c .before .before .before .before .before .width .ensures) (c .before .before .if2 .left)) (c .before .if3 .taken) (c .if4 .taken)
 
 mul-result : tie.Need-mul-result
-mul-result c = omega (arith, pad-inside (c .before .before .before .before .before .width .result) (c .before .before .before .before .before .before .args .y) (c .before .before .before .before .before .before .args .x) (omega (arith, c .before .before .before .before .before .width .ensures, c .before .before .before .before .before .before .pre .largest-width)) (omega (arith, c .before .before .before .before .height .ensures, c .before .before .before .before .before .before .pre .largest-height, c .before .before .before .if1 .left)) (omega (arith, c .before .before .before .before .before .width .ensures, c .before .before .before .before .before .before .pre .largest-width, c .before .before .if2 .left)) .1)
+mul-result c =
+    let start = c .before .before .before .before .before .before in
+    let width-says = c .before .before .before .before .before .width .ensures in
+    omega (arith, pad-inside (c .before .before .before .before .before .width .result) (start .args .y) (start .args .x) (omega (arith, width-says, start .pre .largest-width)) (omega (arith, c .before .before .before .before .height .ensures, start .pre .largest-height, c .before .before .before .if1 .left)) (omega (arith, width-says, start .pre .largest-width, c .before .before .if2 .left)) .1)
 
 add-result : tie.Need-add-result
-add-result c = omega (arith, pad-inside (c .before .before .before .before .before .width .result) (c .before .before .before .before .before .before .args .y) (c .before .before .before .before .before .before .args .x) (omega (arith, c .before .before .before .before .before .width .ensures, c .before .before .before .before .before .before .pre .largest-width)) (omega (arith, c .before .before .before .before .height .ensures, c .before .before .before .before .before .before .pre .largest-height, c .before .before .before .if1 .left)) (omega (arith, c .before .before .before .before .before .width .ensures, c .before .before .before .before .before .before .pre .largest-width, c .before .before .if2 .left)) .1)
+add-result c =
+    let start = c .before .before .before .before .before .before in
+    let width-says = c .before .before .before .before .before .width .ensures in
+    omega (arith, pad-inside (c .before .before .before .before .before .width .result) (start .args .y) (start .args .x) (omega (arith, width-says, start .pre .largest-width)) (omega (arith, c .before .before .before .before .height .ensures, start .pre .largest-height, c .before .before .before .if1 .left)) (omega (arith, width-says, start .pre .largest-width, c .before .before .if2 .left)) .1)
 
 returns-4 : tie.Need-returns-4
 returns-4 c = rw (c .before .before .before .before .before .width .ensures) (even-odd _ _ _ (rw (← c .before .before .before .before .height .ensures) (c .before .before .before .if1 .left)) (rw (← c .before .before .before .before .before .width .ensures) (c .before .before .if2 .left)) (c .before .if3 .taken) (c .if4 .left))
 
 mul-result-2 : tie.Need-mul-result-2
-mul-result-2 c = omega (arith, pad-inside (c .before .before .before .before .before .width .result) (c .before .before .before .before .before .before .args .y) (c .before .before .before .before .before .before .args .x) (omega (arith, c .before .before .before .before .before .width .ensures, c .before .before .before .before .before .before .pre .largest-width)) (omega (arith, c .before .before .before .before .height .ensures, c .before .before .before .before .before .before .pre .largest-height, c .before .before .before .if1 .left)) (omega (arith, c .before .before .before .before .before .width .ensures, c .before .before .before .before .before .before .pre .largest-width, c .before .before .if2 .left)) .1)
+mul-result-2 c =
+    let start = c .before .before .before .before .before .before in
+    let width-says = c .before .before .before .before .before .width .ensures in
+    omega (arith, pad-inside (c .before .before .before .before .before .width .result) (start .args .y) (start .args .x) (omega (arith, width-says, start .pre .largest-width)) (omega (arith, c .before .before .before .before .height .ensures, start .pre .largest-height, c .before .before .before .if1 .left)) (omega (arith, width-says, start .pre .largest-width, c .before .before .if2 .left)) .1)
 
 add-result-2 : tie.Need-add-result-2
-add-result-2 c = omega (arith, pad-inside (c .before .before .before .before .before .width .result) (c .before .before .before .before .before .before .args .y) (c .before .before .before .before .before .before .args .x) (omega (arith, c .before .before .before .before .before .width .ensures, c .before .before .before .before .before .before .pre .largest-width)) (omega (arith, c .before .before .before .before .height .ensures, c .before .before .before .before .before .before .pre .largest-height, c .before .before .before .if1 .left)) (omega (arith, c .before .before .before .before .before .width .ensures, c .before .before .before .before .before .before .pre .largest-width, c .before .before .if2 .left)) .1)
+add-result-2 c =
+    let start = c .before .before .before .before .before .before in
+    let width-says = c .before .before .before .before .before .width .ensures in
+    omega (arith, pad-inside (c .before .before .before .before .before .width .result) (start .args .y) (start .args .x) (omega (arith, width-says, start .pre .largest-width)) (omega (arith, c .before .before .before .before .height .ensures, start .pre .largest-height, c .before .before .before .if1 .left)) (omega (arith, width-says, start .pre .largest-width, c .before .before .if2 .left)) .1)
 
 returns-5 : tie.Need-returns-5
 returns-5 c = rw (c .before .before .before .before .before .width .ensures) (odd-even _ _ _ (rw (← c .before .before .before .before .height .ensures) (c .before .before .before .if1 .left)) (rw (← c .before .before .before .before .before .width .ensures) (c .before .before .if2 .left)) (c .before .if3 .left) (c .if5 .taken))

@@ -1,6 +1,5 @@
 -- `boardfresh::action_entry` meets its contract.
 use native.Mathlib.Omega.{arith}
-use borrow.Author.Needs.{needs}
 use Rattle.boardview.specs.View.{action-entry}
 use Rattle.boardfresh.proofs.action_entry.Statement.{statement}
 use Rattle.boardfresh.proofs.action_entry.Tie as tie

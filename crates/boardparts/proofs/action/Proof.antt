@@ -1,11 +1,10 @@
 -- `boardparts::action` meets its contract: the code that the table holds is read back.
 use Prim.Native.Nat.{ℕ, _+_, _-_, _≤_, _<_}
-use mathlib.Core.Path.{_≡_, refl, sym, ap, _∙_}
+use mathlib.Core.Path.{_≡_, refl, ap, _∙_}
 use native.Mathlib.Omega.{arith}
-use lib.Dec.{ltb}
 use lib.ListN.{getD}
 use borrow.Author.Tests.{lt-ltb, le-ltb}
-use Rattle.boardview.specs.View.{pick, slot-around}
+use Rattle.boardview.specs.View.{slot-around}
 use Rattle.boardview.specs.Actions.{decoded, action-read}
 use borrow.Author.Needs.{needs}
 use Rattle.boardparts.proofs.action.Statement.{statement}
@@ -39,7 +38,9 @@ slot-around-requires : tie.Need-slot-around-requires
 slot-around-requires c κs = search needs
 
 returns-2 : tie.Need-returns-2
-returns-2 c = (a-line _ _ _ _ (c .before .before .if1 .left) (c .before .if2 .taken) (c .slot-around .ensures .0) ∙ action-read (c .before .before .before .before .before .before .args .kind .now) (c .before .before .before .before .before .before .args .edges .now) (c .before .before .before .before .before .before .pre .2) (c .before .before .before .before .before .before .args .width) (c .before .before .before .before .before .before .args .v) (c .before .before .before .before .before .before .pre .3) _ (c .before .before .before .wide .ensures ∙ ap (λ (n : ℕ). getD (c .before .before .before .before .before .before .args .kind .now) (512 + n) 0) (c .before .before .before .before .before .action-index .ensures .0)), omega (arith, c .slot-around .ensures .1))
+returns-2 c =
+    let start = c .before .before .before .before .before .before in
+    (a-line _ _ _ _ (c .before .before .if1 .left) (c .before .if2 .taken) (c .slot-around .ensures .0) ∙ action-read (start .args .kind .now) (start .args .edges .now) (start .pre .2) (start .args .width) (start .args .v) (start .pre .3) _ (c .before .before .before .wide .ensures ∙ ap (λ (n : ℕ). getD (start .args .kind .now) (512 + n) 0) (c .before .before .before .before .before .action-index .ensures .0)), omega (arith, c .slot-around .ensures .1))
 
 slot-around-requires-2 : tie.Need-slot-around-requires-2
 slot-around-requires-2 c κs = search needs
@@ -48,7 +49,9 @@ add-result : tie.Need-add-result
 add-result c = search needs
 
 returns-3 : tie.Need-returns-3
-returns-3 c = (no-line _ _ _ _ (c .before .if2 .left) (c .slot-around2 .ensures .0) ∙ action-read (c .before .before .before .before .before .before .args .kind .now) (c .before .before .before .before .before .before .args .edges .now) (c .before .before .before .before .before .before .pre .2) (c .before .before .before .before .before .before .args .width) (c .before .before .before .before .before .before .args .v) (c .before .before .before .before .before .before .pre .3) _ (c .before .before .before .wide .ensures ∙ ap (λ (n : ℕ). getD (c .before .before .before .before .before .before .args .kind .now) (512 + n) 0) (c .before .before .before .before .before .action-index .ensures .0)), omega (arith, c .slot-around2 .ensures .1))
+returns-3 c =
+    let start = c .before .before .before .before .before .before in
+    (no-line _ _ _ _ (c .before .if2 .left) (c .slot-around2 .ensures .0) ∙ action-read (start .args .kind .now) (start .args .edges .now) (start .pre .2) (start .args .width) (start .args .v) (start .pre .3) _ (c .before .before .before .wide .ensures ∙ ap (λ (n : ℕ). getD (start .args .kind .now) (512 + n) 0) (c .before .before .before .before .before .action-index .ensures .0)), omega (arith, c .slot-around2 .ensures .1))
 
 pub action-spec : {M : Type 1} → statement M
 action-spec = tie.close (tie.spec action-index-requires add-wide element-copy-out-wide wide-requires returns slot-around-requires returns-2 slot-around-requires-2 add-result returns-3)

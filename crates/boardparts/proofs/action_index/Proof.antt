@@ -75,31 +75,57 @@ wide-requires-5 : tie.Need-wide-requires-5
 wide-requires-5 c κs = search needs
 
 mul-result : tie.Need-mul-result
-mul-result c = omega (arith, c .before .before .before .before .before .before .before .before .before .wide .ensures, c .before .before .before .before .before .before .before .wide2 .ensures, c .before .before .before .before .before .wide3 .ensures, c .before .before .before .wide4 .ensures, c .wide5 .ensures, c .before .one-if .ensures .1, byte-low (c .before .before .before .before .before .before .before .before .before .before .before .args .kind .now) (c .before .before .before .before .before .before .before .before .before .before .before .args .edges .now) (c .before .before .before .before .before .before .before .before .before .before .before .pre .2) (c .before .before .before .before .before .before .before .before .before .before .before .args .width) (c .before .before .before .before .before .before .before .before .before .before .before .args .v) (30 + 2 * c .before .before .before .before .before .before .before .before .before .before .before .args .v), byte-low (c .before .before .before .before .before .before .before .before .before .before .before .args .kind .now) (c .before .before .before .before .before .before .before .before .before .before .before .args .edges .now) (c .before .before .before .before .before .before .before .before .before .before .before .pre .2) (c .before .before .before .before .before .before .before .before .before .before .before .args .width) (c .before .before .before .before .before .before .before .before .before .before .before .args .v) (32 + 2 * c .before .before .before .before .before .before .before .before .before .before .before .args .v), byte-low (c .before .before .before .before .before .before .before .before .before .before .before .args .kind .now) (c .before .before .before .before .before .before .before .before .before .before .before .args .edges .now) (c .before .before .before .before .before .before .before .before .before .before .before .pre .2) (c .before .before .before .before .before .before .before .before .before .before .before .args .width) (c .before .before .before .before .before .before .before .before .before .before .before .args .v) (33 + 2 * c .before .before .before .before .before .before .before .before .before .before .before .args .v - 2 * c .before .before .before .before .before .before .before .before .before .before .before .args .width), byte-low (c .before .before .before .before .before .before .before .before .before .before .before .args .kind .now) (c .before .before .before .before .before .before .before .before .before .before .before .args .edges .now) (c .before .before .before .before .before .before .before .before .before .before .before .pre .2) (c .before .before .before .before .before .before .before .before .before .before .before .args .width) (c .before .before .before .before .before .before .before .before .before .before .before .args .v) (33 + 2 * c .before .before .before .before .before .before .before .before .before .before .before .args .v))
+mul-result c =
+    let start = c .before .before .before .before .before .before .before .before .before .before .before in
+    let low = byte-low (start .args .kind .now) (start .args .edges .now) (start .pre .2) (start .args .width) (start .args .v) in
+    omega (arith, c .before .before .before .before .before .before .before .before .before .wide .ensures, c .before .before .before .before .before .before .before .wide2 .ensures, c .before .before .before .before .before .wide3 .ensures, c .before .before .before .wide4 .ensures, c .wide5 .ensures, c .before .one-if .ensures .1, low (30 + 2 * start .args .v), low (32 + 2 * start .args .v), low (33 + 2 * start .args .v - 2 * start .args .width), low (33 + 2 * start .args .v))
 
 add-result : tie.Need-add-result
-add-result c = omega (arith, c .before .before .before .before .before .before .before .before .before .wide .ensures, c .before .before .before .before .before .before .before .wide2 .ensures, c .before .before .before .before .before .wide3 .ensures, c .before .before .before .wide4 .ensures, c .wide5 .ensures, c .before .one-if .ensures .1, byte-low (c .before .before .before .before .before .before .before .before .before .before .before .args .kind .now) (c .before .before .before .before .before .before .before .before .before .before .before .args .edges .now) (c .before .before .before .before .before .before .before .before .before .before .before .pre .2) (c .before .before .before .before .before .before .before .before .before .before .before .args .width) (c .before .before .before .before .before .before .before .before .before .before .before .args .v) (30 + 2 * c .before .before .before .before .before .before .before .before .before .before .before .args .v), byte-low (c .before .before .before .before .before .before .before .before .before .before .before .args .kind .now) (c .before .before .before .before .before .before .before .before .before .before .before .args .edges .now) (c .before .before .before .before .before .before .before .before .before .before .before .pre .2) (c .before .before .before .before .before .before .before .before .before .before .before .args .width) (c .before .before .before .before .before .before .before .before .before .before .before .args .v) (32 + 2 * c .before .before .before .before .before .before .before .before .before .before .before .args .v), byte-low (c .before .before .before .before .before .before .before .before .before .before .before .args .kind .now) (c .before .before .before .before .before .before .before .before .before .before .before .args .edges .now) (c .before .before .before .before .before .before .before .before .before .before .before .pre .2) (c .before .before .before .before .before .before .before .before .before .before .before .args .width) (c .before .before .before .before .before .before .before .before .before .before .before .args .v) (33 + 2 * c .before .before .before .before .before .before .before .before .before .before .before .args .v - 2 * c .before .before .before .before .before .before .before .before .before .before .before .args .width), byte-low (c .before .before .before .before .before .before .before .before .before .before .before .args .kind .now) (c .before .before .before .before .before .before .before .before .before .before .before .args .edges .now) (c .before .before .before .before .before .before .before .before .before .before .before .pre .2) (c .before .before .before .before .before .before .before .before .before .before .before .args .width) (c .before .before .before .before .before .before .before .before .before .before .before .args .v) (33 + 2 * c .before .before .before .before .before .before .before .before .before .before .before .args .v))
+add-result c =
+    let start = c .before .before .before .before .before .before .before .before .before .before .before in
+    let low = byte-low (start .args .kind .now) (start .args .edges .now) (start .pre .2) (start .args .width) (start .args .v) in
+    omega (arith, c .before .before .before .before .before .before .before .before .before .wide .ensures, c .before .before .before .before .before .before .before .wide2 .ensures, c .before .before .before .before .before .wide3 .ensures, c .before .before .before .wide4 .ensures, c .wide5 .ensures, c .before .one-if .ensures .1, low (30 + 2 * start .args .v), low (32 + 2 * start .args .v), low (33 + 2 * start .args .v - 2 * start .args .width), low (33 + 2 * start .args .v))
 
 mul-result-2 : tie.Need-mul-result-2
-mul-result-2 c = omega (arith, c .before .before .before .before .before .before .before .before .before .wide .ensures, c .before .before .before .before .before .before .before .wide2 .ensures, c .before .before .before .before .before .wide3 .ensures, c .before .before .before .wide4 .ensures, c .wide5 .ensures, c .before .one-if .ensures .1, byte-low (c .before .before .before .before .before .before .before .before .before .before .before .args .kind .now) (c .before .before .before .before .before .before .before .before .before .before .before .args .edges .now) (c .before .before .before .before .before .before .before .before .before .before .before .pre .2) (c .before .before .before .before .before .before .before .before .before .before .before .args .width) (c .before .before .before .before .before .before .before .before .before .before .before .args .v) (30 + 2 * c .before .before .before .before .before .before .before .before .before .before .before .args .v), byte-low (c .before .before .before .before .before .before .before .before .before .before .before .args .kind .now) (c .before .before .before .before .before .before .before .before .before .before .before .args .edges .now) (c .before .before .before .before .before .before .before .before .before .before .before .pre .2) (c .before .before .before .before .before .before .before .before .before .before .before .args .width) (c .before .before .before .before .before .before .before .before .before .before .before .args .v) (32 + 2 * c .before .before .before .before .before .before .before .before .before .before .before .args .v), byte-low (c .before .before .before .before .before .before .before .before .before .before .before .args .kind .now) (c .before .before .before .before .before .before .before .before .before .before .before .args .edges .now) (c .before .before .before .before .before .before .before .before .before .before .before .pre .2) (c .before .before .before .before .before .before .before .before .before .before .before .args .width) (c .before .before .before .before .before .before .before .before .before .before .before .args .v) (33 + 2 * c .before .before .before .before .before .before .before .before .before .before .before .args .v - 2 * c .before .before .before .before .before .before .before .before .before .before .before .args .width), byte-low (c .before .before .before .before .before .before .before .before .before .before .before .args .kind .now) (c .before .before .before .before .before .before .before .before .before .before .before .args .edges .now) (c .before .before .before .before .before .before .before .before .before .before .before .pre .2) (c .before .before .before .before .before .before .before .before .before .before .before .args .width) (c .before .before .before .before .before .before .before .before .before .before .before .args .v) (33 + 2 * c .before .before .before .before .before .before .before .before .before .before .before .args .v))
+mul-result-2 c =
+    let start = c .before .before .before .before .before .before .before .before .before .before .before in
+    let low = byte-low (start .args .kind .now) (start .args .edges .now) (start .pre .2) (start .args .width) (start .args .v) in
+    omega (arith, c .before .before .before .before .before .before .before .before .before .wide .ensures, c .before .before .before .before .before .before .before .wide2 .ensures, c .before .before .before .before .before .wide3 .ensures, c .before .before .before .wide4 .ensures, c .wide5 .ensures, c .before .one-if .ensures .1, low (30 + 2 * start .args .v), low (32 + 2 * start .args .v), low (33 + 2 * start .args .v - 2 * start .args .width), low (33 + 2 * start .args .v))
 
 add-result-2 : tie.Need-add-result-2
-add-result-2 c = omega (arith, c .before .before .before .before .before .before .before .before .before .wide .ensures, c .before .before .before .before .before .before .before .wide2 .ensures, c .before .before .before .before .before .wide3 .ensures, c .before .before .before .wide4 .ensures, c .wide5 .ensures, c .before .one-if .ensures .1, byte-low (c .before .before .before .before .before .before .before .before .before .before .before .args .kind .now) (c .before .before .before .before .before .before .before .before .before .before .before .args .edges .now) (c .before .before .before .before .before .before .before .before .before .before .before .pre .2) (c .before .before .before .before .before .before .before .before .before .before .before .args .width) (c .before .before .before .before .before .before .before .before .before .before .before .args .v) (30 + 2 * c .before .before .before .before .before .before .before .before .before .before .before .args .v), byte-low (c .before .before .before .before .before .before .before .before .before .before .before .args .kind .now) (c .before .before .before .before .before .before .before .before .before .before .before .args .edges .now) (c .before .before .before .before .before .before .before .before .before .before .before .pre .2) (c .before .before .before .before .before .before .before .before .before .before .before .args .width) (c .before .before .before .before .before .before .before .before .before .before .before .args .v) (32 + 2 * c .before .before .before .before .before .before .before .before .before .before .before .args .v), byte-low (c .before .before .before .before .before .before .before .before .before .before .before .args .kind .now) (c .before .before .before .before .before .before .before .before .before .before .before .args .edges .now) (c .before .before .before .before .before .before .before .before .before .before .before .pre .2) (c .before .before .before .before .before .before .before .before .before .before .before .args .width) (c .before .before .before .before .before .before .before .before .before .before .before .args .v) (33 + 2 * c .before .before .before .before .before .before .before .before .before .before .before .args .v - 2 * c .before .before .before .before .before .before .before .before .before .before .before .args .width), byte-low (c .before .before .before .before .before .before .before .before .before .before .before .args .kind .now) (c .before .before .before .before .before .before .before .before .before .before .before .args .edges .now) (c .before .before .before .before .before .before .before .before .before .before .before .pre .2) (c .before .before .before .before .before .before .before .before .before .before .before .args .width) (c .before .before .before .before .before .before .before .before .before .before .before .args .v) (33 + 2 * c .before .before .before .before .before .before .before .before .before .before .before .args .v))
+add-result-2 c =
+    let start = c .before .before .before .before .before .before .before .before .before .before .before in
+    let low = byte-low (start .args .kind .now) (start .args .edges .now) (start .pre .2) (start .args .width) (start .args .v) in
+    omega (arith, c .before .before .before .before .before .before .before .before .before .wide .ensures, c .before .before .before .before .before .before .before .wide2 .ensures, c .before .before .before .before .before .wide3 .ensures, c .before .before .before .wide4 .ensures, c .wide5 .ensures, c .before .one-if .ensures .1, low (30 + 2 * start .args .v), low (32 + 2 * start .args .v), low (33 + 2 * start .args .v - 2 * start .args .width), low (33 + 2 * start .args .v))
 
 mul-result-3 : tie.Need-mul-result-3
-mul-result-3 c = omega (arith, c .before .before .before .before .before .before .before .before .before .wide .ensures, c .before .before .before .before .before .before .before .wide2 .ensures, c .before .before .before .before .before .wide3 .ensures, c .before .before .before .wide4 .ensures, c .wide5 .ensures, c .before .one-if .ensures .1, byte-low (c .before .before .before .before .before .before .before .before .before .before .before .args .kind .now) (c .before .before .before .before .before .before .before .before .before .before .before .args .edges .now) (c .before .before .before .before .before .before .before .before .before .before .before .pre .2) (c .before .before .before .before .before .before .before .before .before .before .before .args .width) (c .before .before .before .before .before .before .before .before .before .before .before .args .v) (30 + 2 * c .before .before .before .before .before .before .before .before .before .before .before .args .v), byte-low (c .before .before .before .before .before .before .before .before .before .before .before .args .kind .now) (c .before .before .before .before .before .before .before .before .before .before .before .args .edges .now) (c .before .before .before .before .before .before .before .before .before .before .before .pre .2) (c .before .before .before .before .before .before .before .before .before .before .before .args .width) (c .before .before .before .before .before .before .before .before .before .before .before .args .v) (32 + 2 * c .before .before .before .before .before .before .before .before .before .before .before .args .v), byte-low (c .before .before .before .before .before .before .before .before .before .before .before .args .kind .now) (c .before .before .before .before .before .before .before .before .before .before .before .args .edges .now) (c .before .before .before .before .before .before .before .before .before .before .before .pre .2) (c .before .before .before .before .before .before .before .before .before .before .before .args .width) (c .before .before .before .before .before .before .before .before .before .before .before .args .v) (33 + 2 * c .before .before .before .before .before .before .before .before .before .before .before .args .v - 2 * c .before .before .before .before .before .before .before .before .before .before .before .args .width), byte-low (c .before .before .before .before .before .before .before .before .before .before .before .args .kind .now) (c .before .before .before .before .before .before .before .before .before .before .before .args .edges .now) (c .before .before .before .before .before .before .before .before .before .before .before .pre .2) (c .before .before .before .before .before .before .before .before .before .before .before .args .width) (c .before .before .before .before .before .before .before .before .before .before .before .args .v) (33 + 2 * c .before .before .before .before .before .before .before .before .before .before .before .args .v))
+mul-result-3 c =
+    let start = c .before .before .before .before .before .before .before .before .before .before .before in
+    let low = byte-low (start .args .kind .now) (start .args .edges .now) (start .pre .2) (start .args .width) (start .args .v) in
+    omega (arith, c .before .before .before .before .before .before .before .before .before .wide .ensures, c .before .before .before .before .before .before .before .wide2 .ensures, c .before .before .before .before .before .wide3 .ensures, c .before .before .before .wide4 .ensures, c .wide5 .ensures, c .before .one-if .ensures .1, low (30 + 2 * start .args .v), low (32 + 2 * start .args .v), low (33 + 2 * start .args .v - 2 * start .args .width), low (33 + 2 * start .args .v))
 
 add-result-3 : tie.Need-add-result-3
-add-result-3 c = omega (arith, c .before .before .before .before .before .before .before .before .before .wide .ensures, c .before .before .before .before .before .before .before .wide2 .ensures, c .before .before .before .before .before .wide3 .ensures, c .before .before .before .wide4 .ensures, c .wide5 .ensures, c .before .one-if .ensures .1, byte-low (c .before .before .before .before .before .before .before .before .before .before .before .args .kind .now) (c .before .before .before .before .before .before .before .before .before .before .before .args .edges .now) (c .before .before .before .before .before .before .before .before .before .before .before .pre .2) (c .before .before .before .before .before .before .before .before .before .before .before .args .width) (c .before .before .before .before .before .before .before .before .before .before .before .args .v) (30 + 2 * c .before .before .before .before .before .before .before .before .before .before .before .args .v), byte-low (c .before .before .before .before .before .before .before .before .before .before .before .args .kind .now) (c .before .before .before .before .before .before .before .before .before .before .before .args .edges .now) (c .before .before .before .before .before .before .before .before .before .before .before .pre .2) (c .before .before .before .before .before .before .before .before .before .before .before .args .width) (c .before .before .before .before .before .before .before .before .before .before .before .args .v) (32 + 2 * c .before .before .before .before .before .before .before .before .before .before .before .args .v), byte-low (c .before .before .before .before .before .before .before .before .before .before .before .args .kind .now) (c .before .before .before .before .before .before .before .before .before .before .before .args .edges .now) (c .before .before .before .before .before .before .before .before .before .before .before .pre .2) (c .before .before .before .before .before .before .before .before .before .before .before .args .width) (c .before .before .before .before .before .before .before .before .before .before .before .args .v) (33 + 2 * c .before .before .before .before .before .before .before .before .before .before .before .args .v - 2 * c .before .before .before .before .before .before .before .before .before .before .before .args .width), byte-low (c .before .before .before .before .before .before .before .before .before .before .before .args .kind .now) (c .before .before .before .before .before .before .before .before .before .before .before .args .edges .now) (c .before .before .before .before .before .before .before .before .before .before .before .pre .2) (c .before .before .before .before .before .before .before .before .before .before .before .args .width) (c .before .before .before .before .before .before .before .before .before .before .before .args .v) (33 + 2 * c .before .before .before .before .before .before .before .before .before .before .before .args .v))
+add-result-3 c =
+    let start = c .before .before .before .before .before .before .before .before .before .before .before in
+    let low = byte-low (start .args .kind .now) (start .args .edges .now) (start .pre .2) (start .args .width) (start .args .v) in
+    omega (arith, c .before .before .before .before .before .before .before .before .before .wide .ensures, c .before .before .before .before .before .before .before .wide2 .ensures, c .before .before .before .before .before .wide3 .ensures, c .before .before .before .wide4 .ensures, c .wide5 .ensures, c .before .one-if .ensures .1, low (30 + 2 * start .args .v), low (32 + 2 * start .args .v), low (33 + 2 * start .args .v - 2 * start .args .width), low (33 + 2 * start .args .v))
 
 mul-result-4 : tie.Need-mul-result-4
-mul-result-4 c = omega (arith, c .before .before .before .before .before .before .before .before .before .wide .ensures, c .before .before .before .before .before .before .before .wide2 .ensures, c .before .before .before .before .before .wide3 .ensures, c .before .before .before .wide4 .ensures, c .wide5 .ensures, c .before .one-if .ensures .1, byte-low (c .before .before .before .before .before .before .before .before .before .before .before .args .kind .now) (c .before .before .before .before .before .before .before .before .before .before .before .args .edges .now) (c .before .before .before .before .before .before .before .before .before .before .before .pre .2) (c .before .before .before .before .before .before .before .before .before .before .before .args .width) (c .before .before .before .before .before .before .before .before .before .before .before .args .v) (30 + 2 * c .before .before .before .before .before .before .before .before .before .before .before .args .v), byte-low (c .before .before .before .before .before .before .before .before .before .before .before .args .kind .now) (c .before .before .before .before .before .before .before .before .before .before .before .args .edges .now) (c .before .before .before .before .before .before .before .before .before .before .before .pre .2) (c .before .before .before .before .before .before .before .before .before .before .before .args .width) (c .before .before .before .before .before .before .before .before .before .before .before .args .v) (32 + 2 * c .before .before .before .before .before .before .before .before .before .before .before .args .v), byte-low (c .before .before .before .before .before .before .before .before .before .before .before .args .kind .now) (c .before .before .before .before .before .before .before .before .before .before .before .args .edges .now) (c .before .before .before .before .before .before .before .before .before .before .before .pre .2) (c .before .before .before .before .before .before .before .before .before .before .before .args .width) (c .before .before .before .before .before .before .before .before .before .before .before .args .v) (33 + 2 * c .before .before .before .before .before .before .before .before .before .before .before .args .v - 2 * c .before .before .before .before .before .before .before .before .before .before .before .args .width), byte-low (c .before .before .before .before .before .before .before .before .before .before .before .args .kind .now) (c .before .before .before .before .before .before .before .before .before .before .before .args .edges .now) (c .before .before .before .before .before .before .before .before .before .before .before .pre .2) (c .before .before .before .before .before .before .before .before .before .before .before .args .width) (c .before .before .before .before .before .before .before .before .before .before .before .args .v) (33 + 2 * c .before .before .before .before .before .before .before .before .before .before .before .args .v))
+mul-result-4 c =
+    let start = c .before .before .before .before .before .before .before .before .before .before .before in
+    let low = byte-low (start .args .kind .now) (start .args .edges .now) (start .pre .2) (start .args .width) (start .args .v) in
+    omega (arith, c .before .before .before .before .before .before .before .before .before .wide .ensures, c .before .before .before .before .before .before .before .wide2 .ensures, c .before .before .before .before .before .wide3 .ensures, c .before .before .before .wide4 .ensures, c .wide5 .ensures, c .before .one-if .ensures .1, low (30 + 2 * start .args .v), low (32 + 2 * start .args .v), low (33 + 2 * start .args .v - 2 * start .args .width), low (33 + 2 * start .args .v))
 
 add-result-4 : tie.Need-add-result-4
-add-result-4 c = omega (arith, c .before .before .before .before .before .before .before .before .before .wide .ensures, c .before .before .before .before .before .before .before .wide2 .ensures, c .before .before .before .before .before .wide3 .ensures, c .before .before .before .wide4 .ensures, c .wide5 .ensures, c .before .one-if .ensures .1, byte-low (c .before .before .before .before .before .before .before .before .before .before .before .args .kind .now) (c .before .before .before .before .before .before .before .before .before .before .before .args .edges .now) (c .before .before .before .before .before .before .before .before .before .before .before .pre .2) (c .before .before .before .before .before .before .before .before .before .before .before .args .width) (c .before .before .before .before .before .before .before .before .before .before .before .args .v) (30 + 2 * c .before .before .before .before .before .before .before .before .before .before .before .args .v), byte-low (c .before .before .before .before .before .before .before .before .before .before .before .args .kind .now) (c .before .before .before .before .before .before .before .before .before .before .before .args .edges .now) (c .before .before .before .before .before .before .before .before .before .before .before .pre .2) (c .before .before .before .before .before .before .before .before .before .before .before .args .width) (c .before .before .before .before .before .before .before .before .before .before .before .args .v) (32 + 2 * c .before .before .before .before .before .before .before .before .before .before .before .args .v), byte-low (c .before .before .before .before .before .before .before .before .before .before .before .args .kind .now) (c .before .before .before .before .before .before .before .before .before .before .before .args .edges .now) (c .before .before .before .before .before .before .before .before .before .before .before .pre .2) (c .before .before .before .before .before .before .before .before .before .before .before .args .width) (c .before .before .before .before .before .before .before .before .before .before .before .args .v) (33 + 2 * c .before .before .before .before .before .before .before .before .before .before .before .args .v - 2 * c .before .before .before .before .before .before .before .before .before .before .before .args .width), byte-low (c .before .before .before .before .before .before .before .before .before .before .before .args .kind .now) (c .before .before .before .before .before .before .before .before .before .before .before .args .edges .now) (c .before .before .before .before .before .before .before .before .before .before .before .pre .2) (c .before .before .before .before .before .before .before .before .before .before .before .args .width) (c .before .before .before .before .before .before .before .before .before .before .before .args .v) (33 + 2 * c .before .before .before .before .before .before .before .before .before .before .before .args .v))
+add-result-4 c =
+    let start = c .before .before .before .before .before .before .before .before .before .before .before in
+    let low = byte-low (start .args .kind .now) (start .args .edges .now) (start .pre .2) (start .args .width) (start .args .v) in
+    omega (arith, c .before .before .before .before .before .before .before .before .before .wide .ensures, c .before .before .before .before .before .before .before .wide2 .ensures, c .before .before .before .before .before .wide3 .ensures, c .before .before .before .wide4 .ensures, c .wide5 .ensures, c .before .one-if .ensures .1, low (30 + 2 * start .args .v), low (32 + 2 * start .args .v), low (33 + 2 * start .args .v - 2 * start .args .width), low (33 + 2 * start .args .v))
 
 returns : tie.Need-returns
-returns c = let same-index = same (c .before .before .before .before .before .before .before .before .before .wide .ensures) (c .before .before .before .before .before .before .before .wide2 .ensures) (c .before .before .before .before .before .wide3 .ensures) (c .before .before .before .wide4 .ensures) (c .wide5 .ensures ∙ (c .before .one-if .ensures .0 ∙ ap num (c .before .before .has .ensures))) in (same-index, rw same-index (action-index-small (c .before .before .before .before .before .before .before .before .before .before .before .args .kind .now) (c .before .before .before .before .before .before .before .before .before .before .before .args .edges .now) (c .before .before .before .before .before .before .before .before .before .before .before .pre .2) (c .before .before .before .before .before .before .before .before .before .before .before .args .width) (c .before .before .before .before .before .before .before .before .before .before .before .args .v)))
+returns c =
+    let start = c .before .before .before .before .before .before .before .before .before .before .before in
+    let same-index = same (c .before .before .before .before .before .before .before .before .before .wide .ensures) (c .before .before .before .before .before .before .before .wide2 .ensures) (c .before .before .before .before .before .wide3 .ensures) (c .before .before .before .wide4 .ensures) (c .wide5 .ensures ∙ (c .before .one-if .ensures .0 ∙ ap num (c .before .before .has .ensures))) in (same-index, rw same-index (action-index-small (start .args .kind .now) (start .args .edges .now) (start .pre .2) (start .args .width) (start .args .v)))
 
 pub action-index-spec : {M : Type 1} → statement M
 action-index-spec = tie.close (tie.spec mul-wide add-wide element-copy-out-wide wide-requires mul-wide-2 add-wide-2 element-copy-out-wide-2 wide-requires-2 mul-wide-3 add-wide-3 mul-wide-4 sub-wide element-copy-out-wide-3 wide-requires-3 mul-wide-5 add-wide-4 element-copy-out-wide-4 wide-requires-4 has-requires one-if-requires wide-requires-5 mul-result add-result mul-result-2 add-result-2 mul-result-3 add-result-3 mul-result-4 add-result-4 returns)

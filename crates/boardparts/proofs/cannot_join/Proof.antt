@@ -1,7 +1,7 @@
 -- `boardparts::cannot_join` meets its contract.
 use Rattle.boardview.specs.Signed.{unjoinable-1, unjoinable-2, unjoinable-3, unjoinable-4}
 use Rattle.boardview.specs.View.{end-at}
-use mathlib.Core.Path.{_≡_, refl, sym, ap, _∙_}
+use mathlib.Core.Path.{refl, sym, _∙_}
 use borrow.Author.Needs.{needs}
 use Rattle.boardparts.proofs.cannot_join.Statement.{statement}
 use Rattle.boardparts.proofs.cannot_join.Tie as tie
@@ -28,13 +28,18 @@ rivals-requires : tie.Need-rivals-requires
 rivals-requires c κs = search needs
 
 returns-3 : tie.Need-returns-3
-returns-3 c = c .rivals .ensures ∙ (rw (c .before .before .before .end-code .ensures, c .before .end-code2 .ensures) refl ∙ unjoinable-3 (end-at (c .before .before .before .before .before .before .before .before .args .ends .now) (c .before .before .before .before .before .before .before .before .args .v)) (end-at (c .before .before .before .before .before .before .before .before .args .ends .now) (c .before .before .before .before .before .before .before .before .args .q)) (c .before .before .before .before .before .before .before .before .args .q) (sym (c .before .before .before .before .before .before .before .passed .ensures) ∙ c .before .before .before .before .before .before .if1 .left) (sym (c .before .before .before .before .before .passed2 .ensures) ∙ c .before .before .before .before .if2 .left) (rw (c .before .before .before .end-code .ensures) at (c .before .before .if3 .taken)))
+returns-3 c =
+    let start = c .before .before .before .before .before .before .before .before in
+    let end-code-says = c .before .before .before .end-code .ensures in
+    c .rivals .ensures ∙ (rw (end-code-says, c .before .end-code2 .ensures) refl ∙ unjoinable-3 (end-at (start .args .ends .now) (start .args .v)) (end-at (start .args .ends .now) (start .args .q)) (start .args .q) (sym (c .before .before .before .before .before .before .before .passed .ensures) ∙ c .before .before .before .before .before .before .if1 .left) (sym (c .before .before .before .before .before .passed2 .ensures) ∙ c .before .before .before .before .if2 .left) (rw (end-code-says) at (c .before .before .if3 .taken)))
 
 end-pad-requires : tie.Need-end-pad-requires
 end-pad-requires c κs = search needs
 
 returns-4 : tie.Need-returns-4
-returns-4 c = rw (c .end-pad .ensures) (unjoinable-4 (end-at (c .before .before .before .before .before .before .before .args .ends .now) (c .before .before .before .before .before .before .before .args .v)) (end-at (c .before .before .before .before .before .before .before .args .ends .now) (c .before .before .before .before .before .before .before .args .q)) (c .before .before .before .before .before .before .before .args .q) (sym (c .before .before .before .before .before .before .passed .ensures) ∙ c .before .before .before .before .before .if1 .left) (sym (c .before .before .before .before .passed2 .ensures) ∙ c .before .before .before .if2 .left) (sym (c .before .before .end-code .ensures) ∙ c .before .if3 .left))
+returns-4 c =
+    let start = c .before .before .before .before .before .before .before in
+    rw (c .end-pad .ensures) (unjoinable-4 (end-at (start .args .ends .now) (start .args .v)) (end-at (start .args .ends .now) (start .args .q)) (start .args .q) (sym (c .before .before .before .before .before .before .passed .ensures) ∙ c .before .before .before .before .before .if1 .left) (sym (c .before .before .before .before .passed2 .ensures) ∙ c .before .before .before .if2 .left) (sym (c .before .before .end-code .ensures) ∙ c .before .if3 .left))
 
 pub cannot-join-spec : {M : Type 1} → statement M
 cannot-join-spec =

@@ -1,6 +1,6 @@
 -- `boardparts::count_after` meets its contract.
-use borrow.Author.Tests.{lt-ltb, le-ltb, eq-eqb, ne-eqb}
-use mathlib.Core.Path.{_≡_, refl, sym, ap, _∙_}
+use borrow.Author.Tests.{eq-eqb, ne-eqb}
+use mathlib.Core.Path.{refl}
 use Rattle.boardparts.proofs.count_after.Statement.{statement}
 use Rattle.boardparts.proofs.count_after.Tie as tie
 

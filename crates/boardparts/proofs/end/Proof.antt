@@ -1,7 +1,7 @@
 -- `boardparts::end` meets its contract.
 use Rattle.boardview.specs.View.{ended}
-use borrow.Author.Tests.{lt-ltb, le-ltb, eq-eqb, ne-eqb}
-use mathlib.Core.Path.{_≡_, refl, sym, ap, _∙_}
+use borrow.Author.Tests.{lt-ltb, le-ltb}
+use mathlib.Core.Path.{refl}
 use borrow.Author.Needs.{needs}
 use Rattle.boardparts.proofs.end.Statement.{statement}
 use Rattle.boardparts.proofs.end.Tie as tie

@@ -3,7 +3,7 @@ use Rattle.boardview.specs.Signed.{code-sub, code-cast, code-is, no-code, negat
 use Rattle.boardview.specs.View.{code-number}
 use lib.IntN.{pos}
 use lib.ListN.{getD}
-use mathlib.Core.Path.{_≡_, refl, sym, ap, _∙_}
+use mathlib.Core.Path.{ap, _∙_}
 use borrow.Author.Needs.{needs}
 use Rattle.boardparts.proofs.end_code.Statement.{statement}
 use Rattle.boardparts.proofs.end_code.Tie as tie

@@ -3,7 +3,7 @@ use Rattle.boardview.specs.Signed.{no-pad, negative, not-negative, cast-pad, pa
 use Rattle.boardview.specs.View.{pad-number}
 use lib.IntN.{pos}
 use lib.ListN.{getD}
-use mathlib.Core.Path.{_≡_, refl, sym, ap, _∙_}
+use mathlib.Core.Path.{ap, _∙_}
 use borrow.Author.Needs.{needs}
 use Rattle.boardparts.proofs.end_pad.Statement.{statement}
 use Rattle.boardparts.proofs.end_pad.Tie as tie

@@ -1,7 +1,7 @@
 -- `boardparts::go_on` meets its contract.
 use Rattle.boardview.specs.View.{going}
-use borrow.Author.Tests.{lt-ltb, le-ltb, eq-eqb, ne-eqb}
-use mathlib.Core.Path.{_≡_, refl, sym, ap, _∙_}
+use borrow.Author.Tests.{lt-ltb, le-ltb}
+use mathlib.Core.Path.{refl}
 use borrow.Author.Needs.{needs}
 use Rattle.boardparts.proofs.go_on.Statement.{statement}
 use Rattle.boardparts.proofs.go_on.Tie as tie

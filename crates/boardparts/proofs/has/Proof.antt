@@ -1,6 +1,6 @@
 -- `boardparts::has` meets its contract.
 use Rattle.boardview.specs.View.{has-bit}
-use mathlib.Core.Path.{_≡_, refl, sym, ap, _∙_}
+use mathlib.Core.Path.{refl}
 use borrow.Author.Needs.{needs}
 use Rattle.boardparts.proofs.has.Statement.{statement}
 use Rattle.boardparts.proofs.has.Tie as tie

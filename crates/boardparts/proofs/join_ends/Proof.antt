@@ -49,10 +49,14 @@ element-set-from-a : tie.Need-element-set-from-a
 element-set-from-a c = search needs
 
 returns : tie.Need-returns
-returns c = joined-1 (c .before .before .before .before .before .before .before .before .args .ends .now) (c .before .before .before .before .before .before .before .before .args .v) (c .before .before .before .before .before .before .before .before .args .q) _ _ _ _ (c .before .before .before .before .before .before .before .before .pre .0) (c .before .before .before .before .before .before .before .before .pre .1) (c .before .before .before .before .before .before .before .before .pre .2) (c .before .before .before .before .before .before .end-pad .ensures) (c .before .before .before .before .end-pad2 .ensures) (back (getD (c .before .before .before .before .before .before .before .before .args .ends .now) (c .before .before .before .before .before .before .before .before .args .v) (pos 0)) (record { sfits = c .before .before .before .a .given })) (back (getD (c .before .before .before .before .before .before .before .before .args .ends .now) (c .before .before .before .before .before .before .before .before .args .q) (pos 0)) (record { sfits = c .before .before .b .given })) (c .before .if1 .taken) (c .if2 .taken)
+returns c =
+    let start = c .before .before .before .before .before .before .before .before in
+    joined-1 (start .args .ends .now) (start .args .v) (start .args .q) _ _ _ _ (start .pre .0) (start .pre .1) (start .pre .2) (c .before .before .before .before .before .before .end-pad .ensures) (c .before .before .before .before .end-pad2 .ensures) (back (getD (start .args .ends .now) (start .args .v) (pos 0)) (record { sfits = c .before .before .before .a .given })) (back (getD (start .args .ends .now) (start .args .q) (pos 0)) (record { sfits = c .before .before .b .given })) (c .before .if1 .taken) (c .if2 .taken)
 
 returns-2 : tie.Need-returns-2
-returns-2 c = joined-2 (c .before .before .before .before .before .before .before .before .args .ends .now) (c .before .before .before .before .before .before .before .before .args .v) (c .before .before .before .before .before .before .before .before .args .q) _ _ _ _ (c .before .before .before .before .before .before .before .before .pre .0) (c .before .before .before .before .before .before .before .before .pre .1) (c .before .before .before .before .before .before .before .before .pre .2) (c .before .before .before .before .before .before .end-pad .ensures) (c .before .before .before .before .end-pad2 .ensures) (back (getD (c .before .before .before .before .before .before .before .before .args .ends .now) (c .before .before .before .before .before .before .before .before .args .v) (pos 0)) (record { sfits = c .before .before .before .a .given })) (back (getD (c .before .before .before .before .before .before .before .before .args .ends .now) (c .before .before .before .before .before .before .before .before .args .q) (pos 0)) (record { sfits = c .before .before .b .given })) (c .before .if1 .taken) (c .if2 .left)
+returns-2 c =
+    let start = c .before .before .before .before .before .before .before .before in
+    joined-2 (start .args .ends .now) (start .args .v) (start .args .q) _ _ _ _ (start .pre .0) (start .pre .1) (start .pre .2) (c .before .before .before .before .before .before .end-pad .ensures) (c .before .before .before .before .end-pad2 .ensures) (back (getD (start .args .ends .now) (start .args .v) (pos 0)) (record { sfits = c .before .before .before .a .given })) (back (getD (start .args .ends .now) (start .args .q) (pos 0)) (record { sfits = c .before .before .b .given })) (c .before .if1 .taken) (c .if2 .left)
 
 mul-a-3 : tie.Need-mul-a-3
 mul-a-3 c = search needs
@@ -61,10 +65,14 @@ element-set-from-a-2 : tie.Need-element-set-from-a-2
 element-set-from-a-2 c = search needs
 
 returns-3 : tie.Need-returns-3
-returns-3 c = joined-3 (c .before .before .before .before .before .before .before .before .args .ends .now) (c .before .before .before .before .before .before .before .before .args .v) (c .before .before .before .before .before .before .before .before .args .q) _ _ _ _ (c .before .before .before .before .before .before .before .before .pre .0) (c .before .before .before .before .before .before .before .before .pre .1) (c .before .before .before .before .before .before .before .before .pre .2) (c .before .before .before .before .before .before .end-pad .ensures) (c .before .before .before .before .end-pad2 .ensures) (back (getD (c .before .before .before .before .before .before .before .before .args .ends .now) (c .before .before .before .before .before .before .before .before .args .v) (pos 0)) (record { sfits = c .before .before .before .a .given })) (back (getD (c .before .before .before .before .before .before .before .before .args .ends .now) (c .before .before .before .before .before .before .before .before .args .q) (pos 0)) (record { sfits = c .before .before .b .given })) (c .before .if1 .left) (c .if3 .taken)
+returns-3 c =
+    let start = c .before .before .before .before .before .before .before .before in
+    joined-3 (start .args .ends .now) (start .args .v) (start .args .q) _ _ _ _ (start .pre .0) (start .pre .1) (start .pre .2) (c .before .before .before .before .before .before .end-pad .ensures) (c .before .before .before .before .end-pad2 .ensures) (back (getD (start .args .ends .now) (start .args .v) (pos 0)) (record { sfits = c .before .before .before .a .given })) (back (getD (start .args .ends .now) (start .args .q) (pos 0)) (record { sfits = c .before .before .b .given })) (c .before .if1 .left) (c .if3 .taken)
 
 returns-4 : tie.Need-returns-4
-returns-4 c = joined-4 (c .before .before .before .before .before .before .before .before .args .ends .now) (c .before .before .before .before .before .before .before .before .args .v) (c .before .before .before .before .before .before .before .before .args .q) _ _ _ _ (c .before .before .before .before .before .before .before .before .pre .0) (c .before .before .before .before .before .before .before .before .pre .1) (c .before .before .before .before .before .before .before .before .pre .2) (c .before .before .before .before .before .before .end-pad .ensures) (c .before .before .before .before .end-pad2 .ensures) (back (getD (c .before .before .before .before .before .before .before .before .args .ends .now) (c .before .before .before .before .before .before .before .before .args .v) (pos 0)) (record { sfits = c .before .before .before .a .given })) (back (getD (c .before .before .before .before .before .before .before .before .args .ends .now) (c .before .before .before .before .before .before .before .before .args .q) (pos 0)) (record { sfits = c .before .before .b .given })) (c .before .if1 .left) (c .if3 .left)
+returns-4 c =
+    let start = c .before .before .before .before .before .before .before .before in
+    joined-4 (start .args .ends .now) (start .args .v) (start .args .q) _ _ _ _ (start .pre .0) (start .pre .1) (start .pre .2) (c .before .before .before .before .before .before .end-pad .ensures) (c .before .before .before .before .end-pad2 .ensures) (back (getD (start .args .ends .now) (start .args .v) (pos 0)) (record { sfits = c .before .before .before .a .given })) (back (getD (start .args .ends .now) (start .args .q) (pos 0)) (record { sfits = c .before .before .b .given })) (c .before .if1 .left) (c .if3 .left)
 
 pub join-ends-spec : {M : Type 1} → statement M
 join-ends-spec =

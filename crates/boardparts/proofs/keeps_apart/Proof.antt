@@ -1,8 +1,8 @@
 -- `boardparts::keeps_apart` meets its contract.
 use Rattle.boardview.specs.View.{keeps-apart}
 use native.Mathlib.Omega.{arith}
-use borrow.Author.Tests.{lt-ltb, le-ltb, eq-eqb, ne-eqb}
-use mathlib.Core.Path.{_≡_, refl, sym, ap, _∙_}
+use borrow.Author.Tests.{eq-eqb, ne-eqb}
+use mathlib.Core.Path.{refl}
 use borrow.Author.Needs.{needs}
 use Rattle.boardparts.proofs.keeps_apart.Statement.{statement}
 use Rattle.boardparts.proofs.keeps_apart.Tie as tie

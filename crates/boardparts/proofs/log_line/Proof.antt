@@ -1,6 +1,6 @@
 -- `boardparts::log_line` meets its contract.
 use Rattle.boardview.specs.Signed.{slot-number, end-copied}
-use mathlib.Core.Path.{_≡_, refl, sym, ap, _∙_}
+use mathlib.Core.Path.{refl}
 use borrow.Author.Needs.{needs}
 use Rattle.boardparts.proofs.log_line.Statement.{statement}
 use Rattle.boardparts.proofs.log_line.Tie as tie

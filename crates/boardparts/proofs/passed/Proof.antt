@@ -4,7 +4,7 @@ use Rattle.model.specs.Board.{isThrough}
 use Rattle.boardview.specs.View.{end-of}
 use lib.IntN.{pos}
 use lib.ListN.{getD}
-use mathlib.Core.Path.{_≡_, refl, sym, ap, _∙_}
+use mathlib.Core.Path.{refl, ap, _∙_}
 use borrow.Author.Needs.{needs}
 use Rattle.boardparts.proofs.passed.Statement.{statement}
 use Rattle.boardparts.proofs.passed.Tie as tie

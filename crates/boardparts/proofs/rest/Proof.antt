@@ -1,6 +1,5 @@
 -- `boardparts::rest` meets its contract.
-use borrow.Author.Tests.{lt-ltb, le-ltb, eq-eqb, ne-eqb}
-use mathlib.Core.Path.{_≡_, refl, sym, ap, _∙_}
+use borrow.Author.Tests.{eq-eqb, ne-eqb}
 use borrow.Author.Needs.{needs}
 use Rattle.boardparts.proofs.rest.Statement.{statement}
 use Rattle.boardparts.proofs.rest.Tie as tie

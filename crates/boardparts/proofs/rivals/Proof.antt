@@ -1,7 +1,7 @@
 -- `boardparts::rivals` meets its contract.
 use Rattle.boardview.specs.View.{rival}
-use borrow.Author.Tests.{lt-ltb, le-ltb, eq-eqb, ne-eqb}
-use mathlib.Core.Path.{_≡_, refl, sym, ap, _∙_}
+use borrow.Author.Tests.{eq-eqb, ne-eqb}
+use mathlib.Core.Path.{refl}
 use Rattle.boardparts.proofs.rivals.Statement.{statement}
 use Rattle.boardparts.proofs.rivals.Tie as tie
 

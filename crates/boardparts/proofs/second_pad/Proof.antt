@@ -1,6 +1,6 @@
 -- `boardparts::second_pad` meets its contract.
-use borrow.Author.Tests.{lt-ltb, le-ltb, eq-eqb, ne-eqb}
-use mathlib.Core.Path.{_≡_, refl, sym, ap, _∙_}
+use borrow.Author.Tests.{eq-eqb, ne-eqb}
+use mathlib.Core.Path.{refl}
 use borrow.Author.Needs.{needs}
 use Rattle.boardparts.proofs.second_pad.Statement.{statement}
 use Rattle.boardparts.proofs.second_pad.Tie as tie

@@ -1,7 +1,7 @@
 -- `boardparts::slot_apart` meets its contract.
 use native.Mathlib.Omega.{arith}
-use borrow.Author.Tests.{lt-ltb, le-ltb, eq-eqb, ne-eqb}
-use mathlib.Core.Path.{_≡_, refl, sym, ap, _∙_}
+use borrow.Author.Tests.{lt-ltb, le-ltb}
+use mathlib.Core.Path.{refl}
 use borrow.Author.Needs.{needs}
 use Rattle.boardparts.proofs.slot_apart.Statement.{statement}
 use Rattle.boardparts.proofs.slot_apart.Tie as tie

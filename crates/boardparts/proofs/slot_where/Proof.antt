@@ -1,5 +1,5 @@
 -- `boardparts::slot_where` meets its contract.
-use mathlib.Core.Path.{_≡_, refl, sym, ap, _∙_}
+use mathlib.Core.Path.{refl}
 use borrow.Author.Needs.{needs}
 use Rattle.boardparts.proofs.slot_where.Statement.{statement}
 use Rattle.boardparts.proofs.slot_where.Tie as tie

@@ -1,7 +1,7 @@
 -- `boardparts::some_apart` meets its contract.
 use Rattle.boardparts.proofs.Apart.{apart-0, apart-1, apart-2, apart-3, apart-4}
 use native.Mathlib.Omega.{arith}
-use mathlib.Core.Path.{_≡_, refl, sym, ap, _∙_}
+use mathlib.Core.Path.{sym, _∙_}
 use borrow.Author.Needs.{needs}
 use Rattle.boardparts.proofs.some_apart.Statement.{statement}
 use Rattle.boardparts.proofs.some_apart.Tie as tie
@@ -64,7 +64,9 @@ keeps-apart-requires-3 : tie.Need-keeps-apart-requires-3
 keeps-apart-requires-3 c κs = (omega arith, omega arith, (λ z. omega (arith, c .before .before .before .before .before .before .pre .5 z)), c .before .before .before .before .before .before .pre .3)
 
 returns-4 : tie.Need-returns-4
-returns-4 c = apart-3 (c .before .before .before .before .before .before .before .before .args .edges .now) (c .before .before .before .before .before .before .before .before .args .ends .now) (c .before .before .before .before .before .before .before .before .args .width) (c .before .before .before .before .before .before .before .before .args .v) _ (c .before .before .before .before .before .before .before .end-code .ensures) (c .before .before .before .before .before .before .before .before .pre .2) (c .before .before .before .before .before .before .if1 .left) (sym (c .before .before .before .before .before .keeps-apart .ensures) ∙ c .before .before .before .before .if2 .left) (sym (c .before .before .before .keeps-apart2 .ensures) ∙ c .before .before .if3 .left) (sym (c .before .keeps-apart3 .ensures) ∙ c .if4 .taken)
+returns-4 c =
+    let start = c .before .before .before .before .before .before .before .before in
+    apart-3 (start .args .edges .now) (start .args .ends .now) (start .args .width) (start .args .v) _ (c .before .before .before .before .before .before .before .end-code .ensures) (start .pre .2) (c .before .before .before .before .before .before .if1 .left) (sym (c .before .before .before .before .before .keeps-apart .ensures) ∙ c .before .before .before .before .if2 .left) (sym (c .before .before .before .keeps-apart2 .ensures) ∙ c .before .before .if3 .left) (sym (c .before .keeps-apart3 .ensures) ∙ c .if4 .taken)
 
 mul-keeps-apart-5 : tie.Need-mul-keeps-apart-5
 mul-keeps-apart-5 c = search needs
@@ -82,7 +84,9 @@ keeps-apart-requires-4 : tie.Need-keeps-apart-requires-4
 keeps-apart-requires-4 c κs = search needs
 
 returns-5 : tie.Need-returns-5
-returns-5 c = c .keeps-apart4 .ensures ∙ apart-4 (c .before .before .before .before .before .before .before .before .before .args .edges .now) (c .before .before .before .before .before .before .before .before .before .args .ends .now) (c .before .before .before .before .before .before .before .before .before .args .width) (c .before .before .before .before .before .before .before .before .before .args .v) _ (c .before .before .before .before .before .before .before .before .end-code .ensures) (c .before .before .before .before .before .before .before .before .before .pre .2) (c .before .before .before .before .before .before .before .if1 .left) (sym (c .before .before .before .before .before .before .keeps-apart .ensures) ∙ c .before .before .before .before .before .if2 .left) (sym (c .before .before .before .before .keeps-apart2 .ensures) ∙ c .before .before .before .if3 .left) (sym (c .before .before .keeps-apart3 .ensures) ∙ c .before .if4 .left)
+returns-5 c =
+    let start = c .before .before .before .before .before .before .before .before .before in
+    c .keeps-apart4 .ensures ∙ apart-4 (start .args .edges .now) (start .args .ends .now) (start .args .width) (start .args .v) _ (c .before .before .before .before .before .before .before .before .end-code .ensures) (start .pre .2) (c .before .before .before .before .before .before .before .if1 .left) (sym (c .before .before .before .before .before .before .keeps-apart .ensures) ∙ c .before .before .before .before .before .if2 .left) (sym (c .before .before .before .before .keeps-apart2 .ensures) ∙ c .before .before .before .if3 .left) (sym (c .before .before .keeps-apart3 .ensures) ∙ c .before .if4 .left)
 
 pub some-apart-spec : {M : Type 1} → statement M
 some-apart-spec =

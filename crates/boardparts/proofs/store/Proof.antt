@@ -1,6 +1,6 @@
 -- `boardparts::store` meets its contract.
 use Rattle.boardview.specs.Signed.{slot-number}
-use mathlib.Core.Path.{_≡_, refl, sym, ap, _∙_}
+use mathlib.Core.Path.{refl}
 use borrow.Author.Needs.{needs}
 use Rattle.boardparts.proofs.store.Statement.{statement}
 use Rattle.boardparts.proofs.store.Tie as tie

@@ -2,7 +2,6 @@
 use Rattle.boardview.specs.Signed.{no-pad, negative, not-negative, cast-pad, pad-is}
 use lib.IntN.{pos}
 use lib.ListN.{getD}
-use mathlib.Core.Path.{_≡_, refl, sym, ap, _∙_}
 use borrow.Author.Needs.{needs}
 use Rattle.boardundo.proofs.logged_pad.Statement.{statement}
 use Rattle.boardundo.proofs.logged_pad.Tie as tie

@@ -1,9 +1,8 @@
 -- `boardundo::logged_slot` meets its contract.
 use Rattle.boardview.specs.Signed.{slot-cast, slot-read}
-use Prim.Native.Nat.{ℕ, _+_, _*_, _-_, _≤_, _<_}
+use Prim.Native.Nat.{_*_, _-_}
 use lib.IntN.{pos}
 use lib.ListN.{getD}
-use mathlib.Core.Path.{_≡_, refl, sym, ap, _∙_}
 use borrow.Author.Needs.{needs}
 use Rattle.boardundo.proofs.logged_slot.Statement.{statement}
 use Rattle.boardundo.proofs.logged_slot.Tie as tie

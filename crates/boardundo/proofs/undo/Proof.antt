@@ -4,7 +4,7 @@ use mathlib.Core.List.{List}
 use lib.IntN.{ℤ}
 use lib.ListN.{length}
 use Rattle.boardview.specs.View.{grid-in, unwound}
-use Prim.Native.Nat.{ℕ, _+_, _*_, _-_, _≤_, _<_}
+use Prim.Native.Nat.{ℕ, _-_, _≤_}
 use native.Mathlib.Omega.{arith}
 use mathlib.Core.Path.{_≡_, refl, sym, ap, _∙_}
 use Rattle.boardundo.proofs.undo.Statement.{statement}
@@ -29,7 +29,10 @@ loop-less : tie.Need-loop-less Inv-loop μ-loop
 loop-less c = omega arith
 
 loop-again : tie.Need-loop-again Inv-loop μ-loop
-loop-again c = (omega arith, omega (arith, c .before .before .before .before .loop .inv .1), ap (λ (P : List ℕ × List ℤ). length (P .1)) (c .undo-one .ensures) ∙ (length-undone _ _ _ _ ∙ c .before .before .before .before .loop .inv .2), ap (λ (P : List ℕ × List ℤ). unwound (grid-in (c .before .before .before .before .before .args .kind .now) .width) (c .before .before .before .before .before .args .log .now) (c .before .before .before .before .before .args .to) (c .before .before .before .before .loop .k - 1 - c .before .before .before .before .before .args .to) P) (c .undo-one .ensures) ∙ (sym (unwound-step _ _ _ (c .before .before .before .before .loop .k) _ (c .before .before .before .loop-test .taken)) ∙ c .before .before .before .before .loop .inv .3))
+loop-again c =
+    let start = c .before .before .before .before .before in
+    let loop-inv = c .before .before .before .before .loop .inv in
+    (omega arith, omega (arith, loop-inv .1), ap (λ (P : List ℕ × List ℤ). length (P .1)) (c .undo-one .ensures) ∙ (length-undone _ _ _ _ ∙ loop-inv .2), ap (λ (P : List ℕ × List ℤ). unwound (grid-in (start .args .kind .now) .width) (start .args .log .now) (start .args .to) (c .before .before .before .before .loop .k - 1 - start .args .to) P) (c .undo-one .ensures) ∙ (sym (unwound-step _ _ _ (c .before .before .before .before .loop .k) _ (c .before .before .before .loop-test .taken)) ∙ loop-inv .3))
 
 returns : tie.Need-returns Inv-loop μ-loop
 unfolding unwound

@@ -1,9 +1,9 @@
 -- `boardundo::undo_one` meets its contract.
 use Rattle.boardview.specs.Geometry.{slot-bounds}
 use Rattle.boardview.specs.View.{grid-in, undone-one}
-use Prim.Native.Nat.{ℕ, _+_, _*_, _-_, _≤_, _<_}
+use Prim.Native.Nat.{_-_}
 use native.Mathlib.Omega.{arith}
-use mathlib.Core.Path.{_≡_, refl, sym, ap, _∙_}
+use mathlib.Core.Path.{refl}
 use borrow.Author.Needs.{needs}
 use Rattle.boardundo.proofs.undo_one.Statement.{statement}
 use Rattle.boardundo.proofs.undo_one.Tie as tie
@@ -24,7 +24,10 @@ element-write-edges : tie.Need-element-write-edges
 element-write-edges c = let b = slot-bounds (grid-in (c .before .before .before .before .args .kind .now)) ((c .before .before .before .before .pre .2) .least-width) ((c .before .before .before .before .pre .2) .largest-width) (c .before .before .before .before .pre .3) _ ((c .before .before .before .before .pre .4) .on) in omega (arith, b .1, c .before .before .before .logged-slot .ensures)
 
 unjoin-requires : tie.Need-unjoin-requires
-unjoin-requires c κs = let b = slot-bounds (grid-in (c .before .before .before .before .before .args .kind .now)) ((c .before .before .before .before .before .pre .2) .least-width) ((c .before .before .before .before .before .pre .2) .largest-width) (c .before .before .before .before .before .pre .3) _ ((c .before .before .before .before .before .pre .4) .on) in (c .before .before .before .before .before .pre .0, rw (c .before .before .before .first-pad .ensures, c .before .before .before .before .logged-slot .ensures) (omega (arith, b .2)), rw (c .before .second-pad .ensures, c .before .before .width .ensures, c .before .before .before .before .logged-slot .ensures) (omega (arith, b .3)), c .before .before .before .before .before .pre .1)
+unjoin-requires c κs =
+    let start = c .before .before .before .before .before in
+    let logged-slot-says = c .before .before .before .before .logged-slot .ensures in
+    let b = slot-bounds (grid-in (start .args .kind .now)) ((start .pre .2) .least-width) ((start .pre .2) .largest-width) (start .pre .3) _ ((start .pre .4) .on) in (start .pre .0, rw (c .before .before .before .first-pad .ensures, logged-slot-says) (omega (arith, b .2)), rw (c .before .second-pad .ensures, c .before .before .width .ensures, logged-slot-says) (omega (arith, b .3)), start .pre .1)
 
 returns : tie.Need-returns
 unfolding undone-one

@@ -1,10 +1,10 @@
 -- `boardundo::unjoin` meets its contract.
 use Rattle.boardview.specs.Signed.{back, slot-number, not-passed, unjoined-0, unjoined-1, unjoined-2, unjoined-3, unjoined-4}
-use Prim.Native.Nat.{ℕ, _+_, _*_, _-_, _≤_, _<_}
+use Prim.Native.Nat.{_+_, _*_, _-_}
 use lib.IntN.{pos}
 use lib.ListN.{getD}
 use native.Mathlib.Omega.{arith}
-use mathlib.Core.Path.{_≡_, refl, sym, ap, _∙_}
+use mathlib.Core.Path.{sym}
 use borrow.Author.Needs.{needs}
 use Rattle.boardundo.proofs.unjoin.Statement.{statement}
 use Rattle.boardundo.proofs.unjoin.Tie as tie
@@ -85,10 +85,14 @@ element-set-from-ends-2 : tie.Need-element-set-from-ends-2
 element-set-from-ends-2 c = search needs
 
 returns-2 : tie.Need-returns-2
-returns-2 c = unjoined-1 (c .before .before .before .before .before .before .before .args .ends .now) (c .before .before .before .before .before .before .before .args .v) (c .before .before .before .before .before .before .before .args .q) _ _ (getD (c .before .before .before .before .before .before .before .args .log .now) (4 * c .before .before .before .before .before .before .before .args .k + 1) (pos 0)) (getD (c .before .before .before .before .before .before .before .args .log .now) (4 * c .before .before .before .before .before .before .before .args .k + 2) (pos 0)) _ _ _ _ (c .before .before .before .before .before .before .before .pre .3) (c .before .before .before .logged-pad .ensures) (c .before .before .logged-pad2 .ensures) (back (getD (c .before .before .before .before .before .before .before .args .log .now) (4 * c .before .before .before .before .before .before .before .args .k + 1) (pos 0)) (record { sfits = c .before .before .before .before .before .before .a .given })) (back (getD (c .before .before .before .before .before .before .before .args .log .now) (4 * c .before .before .before .before .before .before .before .args .k + 2) (pos 0)) (record { sfits = c .before .before .before .before .b .given })) (slot-number (c .before .before .before .before .before .before .before .args .v) (omega arith)) (slot-number (c .before .before .before .before .before .before .before .args .q) (omega arith)) (sym (not-passed (getD (c .before .before .before .before .before .before .before .args .log .now) (4 * c .before .before .before .before .before .before .before .args .k + 1) (pos 0)) (c .before .before .before .before .before .if1 .left))) (c .before .if2 .taken) (c .if3 .taken)
+returns-2 c =
+    let start = c .before .before .before .before .before .before .before in
+    unjoined-1 (start .args .ends .now) (start .args .v) (start .args .q) _ _ (getD (start .args .log .now) (4 * start .args .k + 1) (pos 0)) (getD (start .args .log .now) (4 * start .args .k + 2) (pos 0)) _ _ _ _ (start .pre .3) (c .before .before .before .logged-pad .ensures) (c .before .before .logged-pad2 .ensures) (back (getD (start .args .log .now) (4 * start .args .k + 1) (pos 0)) (record { sfits = c .before .before .before .before .before .before .a .given })) (back (getD (start .args .log .now) (4 * start .args .k + 2) (pos 0)) (record { sfits = c .before .before .before .before .b .given })) (slot-number (start .args .v) (omega arith)) (slot-number (start .args .q) (omega arith)) (sym (not-passed (getD (start .args .log .now) (4 * start .args .k + 1) (pos 0)) (c .before .before .before .before .before .if1 .left))) (c .before .if2 .taken) (c .if3 .taken)
 
 returns-3 : tie.Need-returns-3
-returns-3 c = unjoined-2 (c .before .before .before .before .before .before .before .args .ends .now) (c .before .before .before .before .before .before .before .args .v) (c .before .before .before .before .before .before .before .args .q) _ _ (getD (c .before .before .before .before .before .before .before .args .log .now) (4 * c .before .before .before .before .before .before .before .args .k + 1) (pos 0)) (getD (c .before .before .before .before .before .before .before .args .log .now) (4 * c .before .before .before .before .before .before .before .args .k + 2) (pos 0)) _ _ _ _ (c .before .before .before .before .before .before .before .pre .3) (c .before .before .before .logged-pad .ensures) (c .before .before .logged-pad2 .ensures) (back (getD (c .before .before .before .before .before .before .before .args .log .now) (4 * c .before .before .before .before .before .before .before .args .k + 1) (pos 0)) (record { sfits = c .before .before .before .before .before .before .a .given })) (back (getD (c .before .before .before .before .before .before .before .args .log .now) (4 * c .before .before .before .before .before .before .before .args .k + 2) (pos 0)) (record { sfits = c .before .before .before .before .b .given })) (slot-number (c .before .before .before .before .before .before .before .args .v) (omega arith)) (slot-number (c .before .before .before .before .before .before .before .args .q) (omega arith)) (sym (not-passed (getD (c .before .before .before .before .before .before .before .args .log .now) (4 * c .before .before .before .before .before .before .before .args .k + 1) (pos 0)) (c .before .before .before .before .before .if1 .left))) (c .before .if2 .taken) (c .if3 .left)
+returns-3 c =
+    let start = c .before .before .before .before .before .before .before in
+    unjoined-2 (start .args .ends .now) (start .args .v) (start .args .q) _ _ (getD (start .args .log .now) (4 * start .args .k + 1) (pos 0)) (getD (start .args .log .now) (4 * start .args .k + 2) (pos 0)) _ _ _ _ (start .pre .3) (c .before .before .before .logged-pad .ensures) (c .before .before .logged-pad2 .ensures) (back (getD (start .args .log .now) (4 * start .args .k + 1) (pos 0)) (record { sfits = c .before .before .before .before .before .before .a .given })) (back (getD (start .args .log .now) (4 * start .args .k + 2) (pos 0)) (record { sfits = c .before .before .before .before .b .given })) (slot-number (start .args .v) (omega arith)) (slot-number (start .args .q) (omega arith)) (sym (not-passed (getD (start .args .log .now) (4 * start .args .k + 1) (pos 0)) (c .before .before .before .before .before .if1 .left))) (c .before .if2 .taken) (c .if3 .left)
 
 cast-ends-3 : tie.Need-cast-ends-3
 cast-ends-3 c = search needs
@@ -100,10 +104,14 @@ element-set-from-ends-3 : tie.Need-element-set-from-ends-3
 element-set-from-ends-3 c = search needs
 
 returns-4 : tie.Need-returns-4
-returns-4 c = unjoined-3 (c .before .before .before .before .before .before .before .args .ends .now) (c .before .before .before .before .before .before .before .args .v) (c .before .before .before .before .before .before .before .args .q) _ _ (getD (c .before .before .before .before .before .before .before .args .log .now) (4 * c .before .before .before .before .before .before .before .args .k + 1) (pos 0)) (getD (c .before .before .before .before .before .before .before .args .log .now) (4 * c .before .before .before .before .before .before .before .args .k + 2) (pos 0)) _ _ _ _ (c .before .before .before .before .before .before .before .pre .3) (c .before .before .before .logged-pad .ensures) (c .before .before .logged-pad2 .ensures) (back (getD (c .before .before .before .before .before .before .before .args .log .now) (4 * c .before .before .before .before .before .before .before .args .k + 1) (pos 0)) (record { sfits = c .before .before .before .before .before .before .a .given })) (back (getD (c .before .before .before .before .before .before .before .args .log .now) (4 * c .before .before .before .before .before .before .before .args .k + 2) (pos 0)) (record { sfits = c .before .before .before .before .b .given })) (slot-number (c .before .before .before .before .before .before .before .args .v) (omega arith)) (slot-number (c .before .before .before .before .before .before .before .args .q) (omega arith)) (sym (not-passed (getD (c .before .before .before .before .before .before .before .args .log .now) (4 * c .before .before .before .before .before .before .before .args .k + 1) (pos 0)) (c .before .before .before .before .before .if1 .left))) (c .before .if2 .left) (c .if4 .taken)
+returns-4 c =
+    let start = c .before .before .before .before .before .before .before in
+    unjoined-3 (start .args .ends .now) (start .args .v) (start .args .q) _ _ (getD (start .args .log .now) (4 * start .args .k + 1) (pos 0)) (getD (start .args .log .now) (4 * start .args .k + 2) (pos 0)) _ _ _ _ (start .pre .3) (c .before .before .before .logged-pad .ensures) (c .before .before .logged-pad2 .ensures) (back (getD (start .args .log .now) (4 * start .args .k + 1) (pos 0)) (record { sfits = c .before .before .before .before .before .before .a .given })) (back (getD (start .args .log .now) (4 * start .args .k + 2) (pos 0)) (record { sfits = c .before .before .before .before .b .given })) (slot-number (start .args .v) (omega arith)) (slot-number (start .args .q) (omega arith)) (sym (not-passed (getD (start .args .log .now) (4 * start .args .k + 1) (pos 0)) (c .before .before .before .before .before .if1 .left))) (c .before .if2 .left) (c .if4 .taken)
 
 returns-5 : tie.Need-returns-5
-returns-5 c = unjoined-4 (c .before .before .before .before .before .before .before .args .ends .now) (c .before .before .before .before .before .before .before .args .v) (c .before .before .before .before .before .before .before .args .q) _ _ (getD (c .before .before .before .before .before .before .before .args .log .now) (4 * c .before .before .before .before .before .before .before .args .k + 1) (pos 0)) (getD (c .before .before .before .before .before .before .before .args .log .now) (4 * c .before .before .before .before .before .before .before .args .k + 2) (pos 0)) _ _ _ _ (c .before .before .before .before .before .before .before .pre .3) (c .before .before .before .logged-pad .ensures) (c .before .before .logged-pad2 .ensures) (back (getD (c .before .before .before .before .before .before .before .args .log .now) (4 * c .before .before .before .before .before .before .before .args .k + 1) (pos 0)) (record { sfits = c .before .before .before .before .before .before .a .given })) (back (getD (c .before .before .before .before .before .before .before .args .log .now) (4 * c .before .before .before .before .before .before .before .args .k + 2) (pos 0)) (record { sfits = c .before .before .before .before .b .given })) (slot-number (c .before .before .before .before .before .before .before .args .v) (omega arith)) (slot-number (c .before .before .before .before .before .before .before .args .q) (omega arith)) (sym (not-passed (getD (c .before .before .before .before .before .before .before .args .log .now) (4 * c .before .before .before .before .before .before .before .args .k + 1) (pos 0)) (c .before .before .before .before .before .if1 .left))) (c .before .if2 .left) (c .if4 .left)
+returns-5 c =
+    let start = c .before .before .before .before .before .before .before in
+    unjoined-4 (start .args .ends .now) (start .args .v) (start .args .q) _ _ (getD (start .args .log .now) (4 * start .args .k + 1) (pos 0)) (getD (start .args .log .now) (4 * start .args .k + 2) (pos 0)) _ _ _ _ (start .pre .3) (c .before .before .before .logged-pad .ensures) (c .before .before .logged-pad2 .ensures) (back (getD (start .args .log .now) (4 * start .args .k + 1) (pos 0)) (record { sfits = c .before .before .before .before .before .before .a .given })) (back (getD (start .args .log .now) (4 * start .args .k + 2) (pos 0)) (record { sfits = c .before .before .before .before .b .given })) (slot-number (start .args .v) (omega arith)) (slot-number (start .args .q) (omega arith)) (sym (not-passed (getD (start .args .log .now) (4 * start .args .k + 1) (pos 0)) (c .before .before .before .before .before .if1 .left))) (c .before .if2 .left) (c .if4 .left)
 
 pub unjoin-spec : {M : Type 1} → statement M
 unjoin-spec =

@@ -1,9 +1,9 @@
 -- `listing::refusal_bytes` meets its contract: the bytes before `i` are the line's, the others are 0. Assumes nothing.
 use Prim.Native.Nat.{_-_, _≤_}
-use mathlib.Core.Path.{_≡_, refl}
+use mathlib.Core.Path.{_≡_}
 use mathlib.Core.List.{_++_}
 use native.Mathlib.Omega.{arith}
-use lib.ListN.{length, take}
+use lib.ListN.{take}
 use Rattle.printed.specs.Written.{zeros}
 use Rattle.listing.proofs.TextLaws.{nothing-copied, one-copied, all-copied}
 use Rattle.listing.proofs.refusal_bytes.Statement.{statement}

@@ -40,7 +40,12 @@ slice-aggregate-put-codes : tie.Need-slice-aggregate-put-codes
 slice-aggregate-put-codes c = search needs
 
 put-codes-requires : tie.Need-put-codes-requires
-put-codes-requires c κs = ((sym (c .before .before .before .before .before .before .before .before .before .before .before .is-size .ensures) ∙ not-false _ (c .before .before .before .before .before .before .before .before .before .before .if1 .left)), (sym (c .before .before .before .before .before .before .before .before .before .is-size2 .ensures) ∙ not-false _ (c .before .before .before .before .before .before .before .before .if2 .left)), omega (arith, all-pads _ _ 0 (sym (c .before .before .before .before .before .before .before .before .before .before .before .is-size .ensures) ∙ not-false _ (c .before .before .before .before .before .before .before .before .before .before .if1 .left)) (sym (c .before .before .before .before .before .before .before .before .before .is-size2 .ensures) ∙ not-false _ (c .before .before .before .before .before .before .before .before .if2 .left)), filled-room (filled-more (filled-first 299 21 (c .before .before .before .before .before .before .put-field .ensures) (field-21 _ _ (c .before .before .before .before .before .before .before .before .before .before .before .before .before .fits .number))) (c .before .before .put-field2 .ensures) (field-21 _ _ (record { fits = c .before .before .before .lines .ok }))) 256 (omega arith)))
+put-codes-requires c κs =
+    let is-size-says = c .before .before .before .before .before .before .before .before .before .before .before .is-size .ensures in
+    let if1-left = c .before .before .before .before .before .before .before .before .before .before .if1 .left in
+    let is-size2-says = c .before .before .before .before .before .before .before .before .before .is-size2 .ensures in
+    let if2-left = c .before .before .before .before .before .before .before .before .if2 .left in
+    ((sym (is-size-says) ∙ not-false _ (if1-left)), (sym (is-size2-says) ∙ not-false _ (if2-left)), omega (arith, all-pads _ _ 0 (sym (is-size-says) ∙ not-false _ (if1-left)) (sym (is-size2-says) ∙ not-false _ (if2-left)), filled-room (filled-more (filled-first 299 21 (c .before .before .before .before .before .before .put-field .ensures) (field-21 _ _ (c .before .before .before .before .before .before .before .before .before .before .before .before .before .fits .number))) (c .before .before .put-field2 .ensures) (field-21 _ _ (record { fits = c .before .before .before .lines .ok }))) 256 (omega arith)))
 
 slice-aggregate-put-byte : tie.Need-slice-aggregate-put-byte
 slice-aggregate-put-byte c = search needs
@@ -49,7 +54,12 @@ put-byte-requires : tie.Need-put-byte-requires
 put-byte-requires c κs = omega (arith, filled-room (filled-more (filled-more (filled-first 299 21 (c .before .before .before .before .before .before .before .before .before .put-field .ensures) (field-21 _ _ (c .before .before .before .before .before .before .before .before .before .before .before .before .before .before .before .before .fits .number))) (c .before .before .before .before .before .put-field2 .ensures) (field-21 _ _ (record { fits = c .before .before .before .before .before .before .lines .ok }))) (c .before .before .put-codes .ensures) (codes-256 _ _ _ (sym (c .before .before .before .before .before .before .before .before .before .before .before .before .before .before .is-size .ensures) ∙ not-false _ (c .before .before .before .before .before .before .before .before .before .before .before .before .before .if1 .left)) (sym (c .before .before .before .before .before .before .before .before .before .before .before .before .is-size2 .ensures) ∙ not-false _ (c .before .before .before .before .before .before .before .before .before .before .before .if2 .left)))) 1 (omega arith))
 
 returns-3 : tie.Need-returns-3
-returns-3 c = filled-written _ (layout-parts _ _ _ _ (sym (c .before .before .before .before .before .before .before .before .before .before .before .before .before .before .before .before .is-size .ensures) ∙ not-false _ (c .before .before .before .before .before .before .before .before .before .before .before .before .before .before .before .if1 .left)) (sym (c .before .before .before .before .before .before .before .before .before .before .before .before .before .before .is-size2 .ensures) ∙ not-false _ (c .before .before .before .before .before .before .before .before .before .before .before .before .before .if2 .left)) _ (c .before .before .before .before .before .before .before .before .lines .ensures)) (omega arith) (filled-more {more = 1} (filled-more (filled-more (filled-first 299 21 (c .before .before .before .before .before .before .before .before .before .before .before .put-field .ensures) (field-21 _ _ (c .before .before .before .before .before .before .before .before .before .before .before .before .before .before .before .before .before .before .fits .number))) (c .before .before .before .before .before .before .before .put-field2 .ensures) (field-21 _ _ (record { fits = c .before .before .before .before .before .before .before .before .lines .ok }))) (c .before .before .before .before .put-codes .ensures) (codes-256 _ _ _ (sym (c .before .before .before .before .before .before .before .before .before .before .before .before .before .before .before .before .is-size .ensures) ∙ not-false _ (c .before .before .before .before .before .before .before .before .before .before .before .before .before .before .before .if1 .left)) (sym (c .before .before .before .before .before .before .before .before .before .before .before .before .before .before .is-size2 .ensures) ∙ not-false _ (c .before .before .before .before .before .before .before .before .before .before .before .before .before .if2 .left)))) (c .before .put-byte .ensures) (omega arith))
+returns-3 c =
+    let is-size-says = c .before .before .before .before .before .before .before .before .before .before .before .before .before .before .before .before .is-size .ensures in
+    let if1-left = c .before .before .before .before .before .before .before .before .before .before .before .before .before .before .before .if1 .left in
+    let is-size2-says = c .before .before .before .before .before .before .before .before .before .before .before .before .before .before .is-size2 .ensures in
+    let if2-left = c .before .before .before .before .before .before .before .before .before .before .before .before .before .if2 .left in
+    filled-written _ (layout-parts _ _ _ _ (sym (is-size-says) ∙ not-false _ (if1-left)) (sym (is-size2-says) ∙ not-false _ (if2-left)) _ (c .before .before .before .before .before .before .before .before .lines .ensures)) (omega arith) (filled-more {more = 1} (filled-more (filled-more (filled-first 299 21 (c .before .before .before .before .before .before .before .before .before .before .before .put-field .ensures) (field-21 _ _ (c .before .before .before .before .before .before .before .before .before .before .before .before .before .before .before .before .before .before .fits .number))) (c .before .before .before .before .before .before .before .put-field2 .ensures) (field-21 _ _ (record { fits = c .before .before .before .before .before .before .before .before .lines .ok }))) (c .before .before .before .before .put-codes .ensures) (codes-256 _ _ _ (sym (is-size-says) ∙ not-false _ (if1-left)) (sym (is-size2-says) ∙ not-false _ (if2-left)))) (c .before .put-byte .ensures) (omega arith))
 
 pub layout-line-spec : {M : Type 1} → statement M
 layout-line-spec =

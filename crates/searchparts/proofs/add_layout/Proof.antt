@@ -1,6 +1,6 @@
 -- Where less than a record of room is left the buffer is full; else the record is put behind those before it. Assumes nothing.
-use Prim.Native.Nat.{ℕ, _+_, _*_, _-_, _/_, _%_}
-use mathlib.Core.Path.{_≡_, refl, ap, sym, _∙_}
+use Prim.Native.Nat.{ℕ, _*_, _-_}
+use mathlib.Core.Path.{_≡_, ap}
 use native.Mathlib.Omega.{arith}
 use Rattle.rules.specs.Grid.{places}
 use Rattle.boardview.specs.View.{grid-in}
@@ -22,19 +22,29 @@ returns : tie.Need-returns
 returns c = let at : c .before .before .before .before .args .layouts .now * c .before .before .record-size .result ≡ c .before .before .before .before .args .layouts .now * places (grid-in (c .before .before .before .before .args .kind .now) .height) (grid-in (c .before .before .before .before .args .kind .now) .width) = ap (λ (k : ℕ). c .before .before .before .before .args .layouts .now * k) (c .before .before .record-size .ensures) in full _ _ _ _ _ (c .before .before .before .before .pre .2) (omega (arith, c .if1 .taken, c .before .before .record-size .ensures, c .before .before .before .before .pre .2))
 
 write-record-requires : tie.Need-write-record-requires
-write-record-requires c κs = let at : c .before .before .before .before .before .args .layouts .now * c .before .before .before .record-size .result ≡ c .before .before .before .before .before .args .layouts .now * places (grid-in (c .before .before .before .before .before .args .kind .now) .height) (grid-in (c .before .before .before .before .before .args .kind .now) .width) = ap (λ (k : ℕ). c .before .before .before .before .before .args .layouts .now * k) (c .before .before .before .record-size .ensures) in (c .before .before .before .before .before .pre .0, c .before .before .before .before .before .pre .1, omega (arith, c .before .if1 .left, c .before .before .before .record-size .ensures, c .before .before .before .before .before .pre .2))
+write-record-requires c κs =
+    let start = c .before .before .before .before .before in
+    let record-size-says = c .before .before .before .record-size .ensures in
+    let at : start .args .layouts .now * c .before .before .before .record-size .result ≡ start .args .layouts .now * places (grid-in (start .args .kind .now) .height) (grid-in (start .args .kind .now) .width) = ap (λ (k : ℕ). start .args .layouts .now * k) (record-size-says) in (start .pre .0, start .pre .1, omega (arith, c .before .if1 .left, record-size-says, start .pre .2))
 
 least-requires : tie.Need-least-requires
 least-requires c κs = search needs
 
 add-layouts : tie.Need-add-layouts
-add-layouts c = let at : c .before .before .before .before .before .before .before .before .before .before .args .layouts .now * c .before .before .before .before .before .before .before .before .record-size .result ≡ c .before .before .before .before .before .before .before .before .before .before .args .layouts .now * places (grid-in (c .before .before .before .before .before .before .before .before .before .before .args .kind .now) .height) (grid-in (c .before .before .before .before .before .before .before .before .before .before .args .kind .now) .width) = ap (λ (k : ℕ). c .before .before .before .before .before .before .before .before .before .before .args .layouts .now * k) (c .before .before .before .before .before .before .before .before .record-size .ensures) in let few = few-layouts (grid-in (c .before .before .before .before .before .before .before .before .before .before .args .kind .now)) (c .before .before .before .before .before .before .before .before .before .before .args .edges .now) (c .before .before .before .before .before .before .before .before .before .before .args .buffer .now) (c .before .before .before .before .before .before .before .before .before .before .args .layouts .now) (c .before .before .before .before .before .before .before .before .before .before .args .fewest .now) (c .before .before .before .before .before .before .before .before .before .before .pre .0 .least-height) (c .before .before .before .before .before .before .before .before .before .before .pre .0 .least-width) (c .before .before .before .before .before .before .before .before .before .before .pre .2) (omega (arith, c .before .before .before .before .before .before .if1 .left, c .before .before .before .before .before .before .before .before .record-size .ensures, c .before .before .before .before .before .before .before .before .before .before .pre .2)) in omega arith
+add-layouts c =
+    let start = c .before .before .before .before .before .before .before .before .before .before in
+    let record-size-says = c .before .before .before .before .before .before .before .before .record-size .ensures in
+    let at : start .args .layouts .now * c .before .before .before .before .before .before .before .before .record-size .result ≡ start .args .layouts .now * places (grid-in (start .args .kind .now) .height) (grid-in (start .args .kind .now) .width) = ap (λ (k : ℕ). start .args .layouts .now * k) (record-size-says) in let few = few-layouts (grid-in (start .args .kind .now)) (start .args .edges .now) (start .args .buffer .now) (start .args .layouts .now) (start .args .fewest .now) (start .pre .0 .least-height) (start .pre .0 .least-width) (start .pre .2) (omega (arith, c .before .before .before .before .before .before .if1 .left, record-size-says, start .pre .2)) in omega arith
 
 same-length : tie.Need-same-length
 same-length c = search needs
 
 returns-2 : tie.Need-returns-2
-returns-2 c = let at : c .before .before .before .before .before .before .before .before .before .before .args .layouts .now * c .before .before .before .before .before .before .before .before .record-size .result ≡ c .before .before .before .before .before .before .before .before .before .before .args .layouts .now * places (grid-in (c .before .before .before .before .before .before .before .before .before .before .args .kind .now) .height) (grid-in (c .before .before .before .before .before .before .before .before .before .before .args .kind .now) .width) = ap (λ (k : ℕ). c .before .before .before .before .before .before .before .before .before .before .args .layouts .now * k) (c .before .before .before .before .before .before .before .before .record-size .ensures) in added _ _ _ _ _ _ _ _ _ at (c .before .before .before .before .before .before .before .before .before .before .pre .2) (omega (arith, c .before .before .before .before .before .before .if1 .left, c .before .before .before .before .before .before .before .before .record-size .ensures, c .before .before .before .before .before .before .before .before .before .before .pre .2)) (c .before .before .before .before .write-record .ensures .0) (c .before .before .before .before .write-record .ensures .1) (c .least .ensures)
+returns-2 c =
+    let start = c .before .before .before .before .before .before .before .before .before .before in
+    let record-size-says = c .before .before .before .before .before .before .before .before .record-size .ensures in
+    let write-record-says = c .before .before .before .before .write-record .ensures in
+    let at : start .args .layouts .now * c .before .before .before .before .before .before .before .before .record-size .result ≡ start .args .layouts .now * places (grid-in (start .args .kind .now) .height) (grid-in (start .args .kind .now) .width) = ap (λ (k : ℕ). start .args .layouts .now * k) (record-size-says) in added _ _ _ _ _ _ _ _ _ at (start .pre .2) (omega (arith, c .before .before .before .before .before .before .if1 .left, record-size-says, start .pre .2)) (write-record-says .0) (write-record-says .1) (c .least .ensures)
 
 pub add-layout-spec : {M : Type 1} → statement M
 add-layout-spec =

@@ -1,6 +1,6 @@
 -- The byte at a place, by the parity of row and column. Assumes nothing.
 use Prim.Native.Nat.{ℕ, _+_, _*_, _-_, _/_}
-use mathlib.Core.Path.{_≡_, refl, ap, sym, _∙_}
+use mathlib.Core.Path.{_≡_, ap, _∙_}
 use lib.ListN.{getD}
 use native.Mathlib.Omega.{arith}
 use Rattle.boardview.specs.View.{grid-in}
@@ -32,7 +32,10 @@ element-copy-out-result : tie.Need-element-copy-out-result
 element-copy-out-result c = let i = pad-inside _ (c .before .before .before .args .row) (c .before .before .before .args .column) (c .before .before .before .pre .2 .largest-width) (c .before .before .before .pre .0) (c .before .before .before .pre .1) in let same : c .before .before .before .args .row / 2 * c .before .before .width .result ≡ c .before .before .before .args .row / 2 * grid-in (c .before .before .before .args .kind .now) .width = ap (λ (w : ℕ). c .before .before .before .args .row / 2 * w) (c .before .before .width .ensures) in omega arith
 
 returns-2 : tie.Need-returns-2
-returns-2 c = let i = pad-inside _ (c .before .before .before .before .args .row) (c .before .before .before .before .args .column) (c .before .before .before .before .pre .2 .largest-width) (c .before .before .before .before .pre .0) (c .before .before .before .before .pre .1) in let same : c .before .before .before .before .args .row / 2 * c .before .before .before .width .result ≡ c .before .before .before .before .args .row / 2 * grid-in (c .before .before .before .before .args .kind .now) .width = ap (λ (w : ℕ). c .before .before .before .before .args .row / 2 * w) (c .before .before .before .width .ensures) in ap (λ (w : ℕ). getD (c .before .before .before .before .args .edges .now) (32 + 2 * (c .before .before .before .before .args .row / 2 * w + c .before .before .before .before .args .column / 2)) 0) (c .before .before .before .width .ensures) ∙ even-odd _ _ (c .before .before .before .before .pre .3 .long) (c .before .before .before .before .pre .3 .bytes) _ _ (c .before .before .if1 .taken) (c .before .if2 .left) (omega arith)
+returns-2 c =
+    let start = c .before .before .before .before in
+    let width-says = c .before .before .before .width .ensures in
+    let i = pad-inside _ (start .args .row) (start .args .column) (start .pre .2 .largest-width) (start .pre .0) (start .pre .1) in let same : start .args .row / 2 * c .before .before .before .width .result ≡ start .args .row / 2 * grid-in (start .args .kind .now) .width = ap (λ (w : ℕ). start .args .row / 2 * w) (width-says) in ap (λ (w : ℕ). getD (start .args .edges .now) (32 + 2 * (start .args .row / 2 * w + start .args .column / 2)) 0) (width-says) ∙ even-odd _ _ (start .pre .3 .long) (start .pre .3 .bytes) _ _ (c .before .before .if1 .taken) (c .before .if2 .left) (omega arith)
 
 mul-result-2 : tie.Need-mul-result-2
 mul-result-2 c = let i = pad-inside _ (c .before .before .before .args .row) (c .before .before .before .args .column) (c .before .before .before .pre .2 .largest-width) (c .before .before .before .pre .0) (c .before .before .before .pre .1) in let same : c .before .before .before .args .row / 2 * c .before .before .width .result ≡ c .before .before .before .args .row / 2 * grid-in (c .before .before .before .args .kind .now) .width = ap (λ (w : ℕ). c .before .before .before .args .row / 2 * w) (c .before .before .width .ensures) in omega arith
@@ -44,7 +47,10 @@ element-copy-out-result-2 : tie.Need-element-copy-out-result-2
 element-copy-out-result-2 c = let i = pad-inside _ (c .before .before .before .args .row) (c .before .before .before .args .column) (c .before .before .before .pre .2 .largest-width) (c .before .before .before .pre .0) (c .before .before .before .pre .1) in let same : c .before .before .before .args .row / 2 * c .before .before .width .result ≡ c .before .before .before .args .row / 2 * grid-in (c .before .before .before .args .kind .now) .width = ap (λ (w : ℕ). c .before .before .before .args .row / 2 * w) (c .before .before .width .ensures) in omega arith
 
 returns-3 : tie.Need-returns-3
-returns-3 c = let i = pad-inside _ (c .before .before .before .before .args .row) (c .before .before .before .before .args .column) (c .before .before .before .before .pre .2 .largest-width) (c .before .before .before .before .pre .0) (c .before .before .before .before .pre .1) in let same : c .before .before .before .before .args .row / 2 * c .before .before .before .width .result ≡ c .before .before .before .before .args .row / 2 * grid-in (c .before .before .before .before .args .kind .now) .width = ap (λ (w : ℕ). c .before .before .before .before .args .row / 2 * w) (c .before .before .before .width .ensures) in ap (λ (w : ℕ). getD (c .before .before .before .before .args .edges .now) (33 + 2 * (c .before .before .before .before .args .row / 2 * w + c .before .before .before .before .args .column / 2)) 0) (c .before .before .before .width .ensures) ∙ odd-even _ _ (c .before .before .before .before .pre .3 .long) (c .before .before .before .before .pre .3 .bytes) _ _ (c .before .before .if1 .left) (c .before .if3 .taken) (omega arith)
+returns-3 c =
+    let start = c .before .before .before .before in
+    let width-says = c .before .before .before .width .ensures in
+    let i = pad-inside _ (start .args .row) (start .args .column) (start .pre .2 .largest-width) (start .pre .0) (start .pre .1) in let same : start .args .row / 2 * c .before .before .before .width .result ≡ start .args .row / 2 * grid-in (start .args .kind .now) .width = ap (λ (w : ℕ). start .args .row / 2 * w) (width-says) in ap (λ (w : ℕ). getD (start .args .edges .now) (33 + 2 * (start .args .row / 2 * w + start .args .column / 2)) 0) (width-says) ∙ odd-even _ _ (start .pre .3 .long) (start .pre .3 .bytes) _ _ (c .before .before .if1 .left) (c .before .if3 .taken) (omega arith)
 
 returns-4 : tie.Need-returns-4
 returns-4 c = odd-odd _ _ (c .before .before .before .pre .3 .long) (c .before .before .before .pre .3 .bytes) _ _ (c .before .if1 .left) (c .if3 .left)

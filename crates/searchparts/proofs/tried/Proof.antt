@@ -1,7 +1,7 @@
 -- The sum of clue, lines and the two choices, by the law of the degree. Assumes nothing.
 use Prim.Native.Nat.{ℕ, _+_, _*_, _-_}
-use mathlib.Core.Path.{_≡_, refl, ap, sym, _∙_}
-use mathlib.Core.Bool.{true, false, _||_}
+use mathlib.Core.Path.{_≡_, refl, ap, _∙_}
+use mathlib.Core.Bool.{true, _||_}
 use lib.Dec.{eqb}
 use lib.ListN.{getD}
 use borrow.Author.Tests.{eq-eqb, ne-eqb}
@@ -70,10 +70,14 @@ add-degree-4 : tie.Need-add-degree-4
 add-degree-4 c = omega (arith, c .before .before .clue-at .ensures .1, c .before .before .before .before .before .line-at .ensures .1, c .before .before .before .line-at2 .ensures .1, c .before .one-if .ensures .1, c .one-if2 .ensures .1)
 
 returns : tie.Need-returns
-returns c = let d = tried-as _ (c .before .before .before .before .before .before .before .pre .1) _ (c .before .before .before .before .before .before .before .pre .2) _ (c .before .before .before .before .before .before .before .pre .0) (c .before .before .before .before .before .before .before .args .right) (c .before .before .before .before .before .before .before .args .down) _ (sum (c .before .before .before .clue-at .ensures .0) (c .before .before .before .before .before .before .line-at .ensures .0) (c .before .before .before .before .line-at2 .ensures .0 ∙ ap (λ (w : ℕ). num (eqb (getD (c .before .before .before .before .before .before .before .args .edges .now) (33 + 2 * c .before .before .before .before .before .before .before .args .v - 2 * w) 0) 1)) (c .before .before .before .before .before .width .ensures)) (c .before .before .one-if .ensures .0) (c .before .one-if2 .ensures .0)) in zero-tried _ (c .if1 .taken) ∙ d
+returns c =
+    let start = c .before .before .before .before .before .before .before in
+    let d = tried-as _ (start .pre .1) _ (start .pre .2) _ (start .pre .0) (start .args .right) (start .args .down) _ (sum (c .before .before .before .clue-at .ensures .0) (c .before .before .before .before .before .before .line-at .ensures .0) (c .before .before .before .before .line-at2 .ensures .0 ∙ ap (λ (w : ℕ). num (eqb (getD (start .args .edges .now) (33 + 2 * start .args .v - 2 * w) 0) 1)) (c .before .before .before .before .before .width .ensures)) (c .before .before .one-if .ensures .0) (c .before .one-if2 .ensures .0)) in zero-tried _ (c .if1 .taken) ∙ d
 
 returns-2 : tie.Need-returns-2
-returns-2 c = let d = tried-as _ (c .before .before .before .before .before .before .before .pre .1) _ (c .before .before .before .before .before .before .before .pre .2) _ (c .before .before .before .before .before .before .before .pre .0) (c .before .before .before .before .before .before .before .args .right) (c .before .before .before .before .before .before .before .args .down) _ (sum (c .before .before .before .clue-at .ensures .0) (c .before .before .before .before .before .before .line-at .ensures .0) (c .before .before .before .before .line-at2 .ensures .0 ∙ ap (λ (w : ℕ). num (eqb (getD (c .before .before .before .before .before .before .before .args .edges .now) (33 + 2 * c .before .before .before .before .before .before .before .args .v - 2 * w) 0) 1)) (c .before .before .before .before .before .width .ensures)) (c .before .before .one-if .ensures .0) (c .before .one-if2 .ensures .0)) in other-tried _ (c .if1 .left) ∙ d
+returns-2 c =
+    let start = c .before .before .before .before .before .before .before in
+    let d = tried-as _ (start .pre .1) _ (start .pre .2) _ (start .pre .0) (start .args .right) (start .args .down) _ (sum (c .before .before .before .clue-at .ensures .0) (c .before .before .before .before .before .before .line-at .ensures .0) (c .before .before .before .before .line-at2 .ensures .0 ∙ ap (λ (w : ℕ). num (eqb (getD (start .args .edges .now) (33 + 2 * start .args .v - 2 * w) 0) 1)) (c .before .before .before .before .before .width .ensures)) (c .before .before .one-if .ensures .0) (c .before .one-if2 .ensures .0)) in other-tried _ (c .if1 .left) ∙ d
 
 pub tried-spec : {M : Type 1} → statement M
 tried-spec =

@@ -1,7 +1,7 @@
 -- The loop has written the first i bytes of the record, and counted their lines. The measure is what is left of the record.
-use Prim.Native.Nat.{ℕ, _+_, _*_, _-_, _/_, _%_}
+use Prim.Native.Nat.{ℕ, _*_, _-_, _/_, _%_}
 use borrow.Author.Needs.{needs}
-use mathlib.Core.Path.{_≡_, refl, ap, sym, _∙_}
+use mathlib.Core.Path.{ap, _∙_}
 use native.Mathlib.Omega.{arith}
 use Rattle.boardview.specs.View.{grid-in}
 use Rattle.searchview.specs.ShownLaws.{Writing, none-written, one-written, all-written, place-inside}
@@ -61,7 +61,9 @@ loop-less : tie.Need-loop-less Inv-loop μ-loop
 loop-less c = omega arith
 
 loop-again : tie.Need-loop-again Inv-loop μ-loop
-loop-again c = one-written _ _ _ _ _ _ _ (c .before .before .before .before .loop .inv) (c .before .before .before .before .before .before .before .before .pre .2) (omega (arith, c .before .before .before .before .before .before .record-size .ensures, c .before .before .before .loop-test .taken)) _ _ (c .before .before .place-byte .ensures ∙ ap (λ (w : ℕ). place-shown (grid-in (c .before .before .before .before .before .before .before .before .args .kind .now) .width) (c .before .before .before .before .before .before .before .before .args .edges .now) (c .before .before .before .before .loop .i / (2 * w - 1)) (c .before .before .before .before .loop .i % (2 * w - 1))) (c .before .before .before .before .before .width .ensures)) (c .wide .ensures ∙ c .before .one-if .ensures .0) (omega (arith, c .wide .ensures, c .before .one-if .ensures .1))
+loop-again c =
+    let start = c .before .before .before .before .before .before .before .before in
+    one-written _ _ _ _ _ _ _ (c .before .before .before .before .loop .inv) (start .pre .2) (omega (arith, c .before .before .before .before .before .before .record-size .ensures, c .before .before .before .loop-test .taken)) _ _ (c .before .before .place-byte .ensures ∙ ap (λ (w : ℕ). place-shown (grid-in (start .args .kind .now) .width) (start .args .edges .now) (c .before .before .before .before .loop .i / (2 * w - 1)) (c .before .before .before .before .loop .i % (2 * w - 1))) (c .before .before .before .before .before .width .ensures)) (c .wide .ensures ∙ c .before .one-if .ensures .0) (omega (arith, c .wide .ensures, c .before .one-if .ensures .1))
 
 same-length : tie.Need-same-length Inv-loop μ-loop
 same-length c = c .before .loop .inv .same-length

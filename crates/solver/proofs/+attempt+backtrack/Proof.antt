@@ -1,14 +1,14 @@
 -- The search: an attempt goes on at a later pad, so twice the pads left, plus one in backtrack, falls. Each path of the code is one law of
 -- SearchLaws.antt. Assumes nothing.
-use Prim.Native.Nat.{_+_, _*_, _-_, _%_, _≤_}
-use mathlib.Core.Path.{_≡_, refl, sym, ap, _∙_}
+use Prim.Native.Nat.{_+_, _*_, _-_, _≤_}
+use mathlib.Core.Path.{refl, sym, _∙_}
 use native.Mathlib.Omega.{arith}
 use borrow.Author.Tests.{not-true, not-false}
 use Rattle.rules.specs.Grid.{pads}
 use Rattle.boardview.specs.View.{grid-in, view}
 use Rattle.boardview.specs.Unwind.{since-then}
 use Rattle.searchview.specs.Searched.{arrays, reached, Going, events-left}
-use Rattle.searchview.specs.SearchLaws.{ready-edges, since-restored, undone-restored, restored-same, ready-restored, not-tried, flagged, next-entered, went-on, spent, last-row-reached, begun, loop-over, stops-at, next-one, row-small, row-few, row-below, pad-small, right-on-board, down-on-board, next-in-row, taken-back, log-longer}
+use Rattle.searchview.specs.SearchLaws.{ready-edges, since-restored, ready-restored, not-tried, flagged, next-entered, went-on, spent, last-row-reached, begun, loop-over, stops-at, next-one, row-small, row-few, row-below, pad-small, right-on-board, down-on-board, next-in-row, taken-back, log-longer}
 use Prim.Native.Nat.{ℕ, _<_}
 use borrow.Fn.Kinds.{In}
 use borrow.Fn.PlainCycle.{Measures, is, falls, and}
@@ -60,10 +60,14 @@ attempt-returns : (t : ℕ) → attempt-lts.Need-returns (attempt-claims t) (att
 attempt-returns t c = not-tried _ _ _ _ _ _ _ (c .before .before .before .before .pre .1 .0 .inside) (sym (c .before .tried .ensures) ∙ not-true _ (c .if1 .taken))
 
 attempt-decide-right-requires : (t : ℕ) → attempt-lts.Need-decide-right-requires (attempt-claims t) (attempt-at t) attempt.Post
-attempt-decide-right-requires t c κs = (pad-small _ _ (c .before .before .before .before .before .before .before .pre .1 .0 .ready) (c .before .before .before .before .before .before .before .pre .1 .0 .kinds .least-height) _ (c .before .before .before .before .before .before .before .pre .1 .1), c .before .before .before .before .before .before .before .pre .1 .0 .kinds, c .before .before .before .before .before .before .before .pre .1 .0 .ready, right-on-board _ _ (c .before .before .before .before .before .before .before .pre .1 .0 .ready) (c .before .before .before .before .before .before .before .pre .1 .0 .kinds .least-height) _ (c .before .before .before .before .before .before .before .pre .1 .1))
+attempt-decide-right-requires t c κs =
+    let start = c .before .before .before .before .before .before .before in
+    (pad-small _ _ (start .pre .1 .0 .ready) (start .pre .1 .0 .kinds .least-height) _ (start .pre .1 .1), start .pre .1 .0 .kinds, start .pre .1 .0 .ready, right-on-board _ _ (start .pre .1 .0 .ready) (start .pre .1 .0 .kinds .least-height) _ (start .pre .1 .1))
 
 attempt-decide-down-requires : (t : ℕ) → attempt-lts.Need-decide-down-requires (attempt-claims t) (attempt-at t) attempt.Post
-attempt-decide-down-requires t c κs = (pad-small _ _ (c .before .before .before .before .before .before .before .before .before .before .before .pre .1 .0 .ready) (c .before .before .before .before .before .before .before .before .before .before .before .pre .1 .0 .kinds .least-height) _ (c .before .before .before .before .before .before .before .before .before .before .before .pre .1 .1), c .before .before .before .before .before .before .before .before .before .before .before .pre .1 .0 .kinds, c .before .before .before .decide-right .ensures .ready, down-on-board _ _ (c .before .before .before .before .before .before .before .before .before .before .before .pre .1 .0 .ready) (c .before .before .before .before .before .before .before .before .before .before .before .pre .1 .0 .kinds .least-height) _ (c .before .before .before .before .before .before .before .before .before .before .before .pre .1 .1))
+attempt-decide-down-requires t c κs =
+    let start = c .before .before .before .before .before .before .before .before .before .before .before in
+    (pad-small _ _ (start .pre .1 .0 .ready) (start .pre .1 .0 .kinds .least-height) _ (start .pre .1 .1), start .pre .1 .0 .kinds, c .before .before .before .decide-right .ensures .ready, down-on-board _ _ (start .pre .1 .0 .ready) (start .pre .1 .0 .kinds .least-height) _ (start .pre .1 .1))
 
 attempt-first-of-last-row-requires : (t : ℕ) → attempt-lts.Need-first-of-last-row-requires (attempt-claims t) (attempt-at t) attempt.Post
 attempt-first-of-last-row-requires t c κs = c .before .before .before .before .before .before .before .before .before .before .before .before .before .before .pre .1 .0 .kinds
@@ -75,22 +79,39 @@ attempt-next-pad-requires : (t : ℕ) → attempt-lts.Need-next-pad-requires (at
 attempt-next-pad-requires t c κs = let below = row-below _ _ (c .before .before .before .before .before .before .before .before .before .before .before .before .before .before .before .pre .1 .0 .ready) (c .before .before .before .before .before .before .before .before .before .before .before .before .before .before .before .pre .1 .0 .kinds .least-height) in (omega (arith, c .first-of-last-row .ensures, (c .before .before .before .before .before .before .before .before .before .before .before .before .before .before .before .pre .1 .1) .low), omega (arith, c .first-of-last-row .ensures), c .before .before .before .decide-down .ensures .ready .edges-long)
 
 attempt-backtrack-requires : (t : ℕ) → attempt-lts.Need-backtrack-requires (attempt-claims t) (attempt-at t) attempt.Post
-attempt-backtrack-requires t c κs = (omega (arith, c .before .before .before .before .before .before .before .before .before .before .before .before .before .before .before .before .before .before .before .before .before .before .before .pre .0, c .before .before .before .before .before .before .before .next-pad .ensures .later, row-small _ _ (c .before .before .before .before .before .before .before .before .before .before .before .before .before .before .before .before .before .before .before .before .before .before .before .pre .1 .0 .ready) (c .before .before .before .before .before .before .before .before .before .before .before .before .before .before .before .before .before .before .before .before .before .before .before .pre .1 .0 .kinds .least-height), (c .before .before .before .before .before .before .before .before .before .before .before .before .before .before .before .before .before .before .before .before .before .before .before .pre .1 .1) .low), (record { kinds = c .before .before .before .before .before .before .before .before .before .before .before .before .before .before .before .before .before .before .before .before .before .before .before .pre .1 .0 .kinds; ready = c .before .before .before .before .before .before .before .before .before .before .before .decide-down .ensures .ready; clear = c .before .before .before .before .before .before .before .before .before .before .if2 .taken; inside = c .before .before .before .before .before .before .before .before .before .before .before .before .before .before .before .before .before .before .before .before .before .before .before .pre .1 .0 .inside }, next-entered _ _ _ _ _ (sym (c .before .before .before .before .before .before .before .before .before .before .before .before .before .before .before .before .before .before .before .before .tried .ensures) ∙ not-false _ (c .before .before .before .before .before .before .before .before .before .before .before .before .before .before .before .before .before .before .before .if1 .left)) (c .before .before .before .before .before .before .before .before .before .before .before .before .before .before .before .before .before .before .before .before .before .before .before .pre .1 .0 .ready) _ _ (c .before .before .before .before .before .before .before .before .before .before .before .before .before .before .before .decide-right .ensures) (c .before .before .before .before .before .before .before .before .before .before .before .decide-down .ensures) (c .before .before .before .before .before .before .before .before .before .before .before .before .before .before .before .before .before .before .before .before .before .before .before .pre .1 .0 .kinds .least-width) (c .before .before .before .before .before .before .before .before .before .before .before .before .before .before .before .before .before .before .before .before .before .before .before .pre .1 .0 .kinds .least-height) (row-few _ _ (c .before .before .before .before .before .before .before .before .before .before .before .before .before .before .before .before .before .before .before .before .before .before .before .pre .1 .0 .ready) (c .before .before .before .before .before .before .before .before .before .before .before .before .before .before .before .before .before .before .before .before .before .before .before .pre .1 .0 .kinds .least-height)) (c .before .before .before .before .before .before .before .before .before .before .if2 .taken) ((c .before .before .before .before .before .before .before .before .before .before .before .before .before .before .before .before .before .before .before .before .before .before .before .pre .1 .1) .low) _ (next-in-row _ _ _ _ _ (c .before .before .before .before .before .before .before .before .first-of-last-row .ensures) (c .before .before .before .before .before .before .before .next-pad .ensures))))
+attempt-backtrack-requires t c κs =
+    let start = c .before .before .before .before .before .before .before .before .before .before .before .before .before .before .before .before .before .before .before .before .before .before .before in
+    let next-pad-says = c .before .before .before .before .before .before .before .next-pad .ensures in
+    let decide-down-says = c .before .before .before .before .before .before .before .before .before .before .before .decide-down .ensures in
+    let if2-taken = c .before .before .before .before .before .before .before .before .before .before .if2 .taken in
+    (omega (arith, start .pre .0, next-pad-says .later, row-small _ _ (start .pre .1 .0 .ready) (start .pre .1 .0 .kinds .least-height), (start .pre .1 .1) .low), (record { kinds = start .pre .1 .0 .kinds; ready = decide-down-says .ready; clear = if2-taken; inside = start .pre .1 .0 .inside }, next-entered _ _ _ _ _ (sym (c .before .before .before .before .before .before .before .before .before .before .before .before .before .before .before .before .before .before .before .before .tried .ensures) ∙ not-false _ (c .before .before .before .before .before .before .before .before .before .before .before .before .before .before .before .before .before .before .before .if1 .left)) (start .pre .1 .0 .ready) _ _ (c .before .before .before .before .before .before .before .before .before .before .before .before .before .before .before .decide-right .ensures) (decide-down-says) (start .pre .1 .0 .kinds .least-width) (start .pre .1 .0 .kinds .least-height) (row-few _ _ (start .pre .1 .0 .ready) (start .pre .1 .0 .kinds .least-height)) (if2-taken) ((start .pre .1 .1) .low) _ (next-in-row _ _ _ _ _ (c .before .before .before .before .before .before .before .before .first-of-last-row .ensures) (next-pad-says))))
 
 attempt-take-back-requires : (t : ℕ) → attempt-lts.Need-take-back-requires (attempt-claims t) (attempt-at t) attempt.Post
-attempt-take-back-requires t c κs = (c .before .before .before .before .before .before .before .before .before .before .before .before .before .before .before .before .before .before .before .before .before .before .before .before .before .before .before .before .before .pre .1 .0 .kinds, ready-restored _ _ _ refl (c .before .before .before .before .before .backtrack .ensures .restored) (c .before .before .before .before .before .before .before .before .before .before .before .before .before .before .before .before .before .decide-down .ensures .ready), log-longer _ _ _ (since-then _ _ _ _ (c .before .before .before .before .before .before .before .before .before .before .before .before .before .before .before .before .before .before .before .before .before .decide-right .ensures .since) (c .before .before .before .before .before .before .before .before .before .before .before .before .before .before .before .before .before .decide-down .ensures .since)) (c .before .before .before .before .before .before .before .before .before .before .before .before .before .before .before .before .before .before .before .before .before .before .before .before .before .before .before .before .before .pre .1 .0 .clear))
+attempt-take-back-requires t c κs =
+    let start = c .before .before .before .before .before .before .before .before .before .before .before .before .before .before .before .before .before .before .before .before .before .before .before .before .before .before .before .before .before in
+    let decide-down-says = c .before .before .before .before .before .before .before .before .before .before .before .before .before .before .before .before .before .decide-down .ensures in
+    (start .pre .1 .0 .kinds, ready-restored _ _ _ refl (c .before .before .before .before .before .backtrack .ensures .restored) (decide-down-says .ready), log-longer _ _ _ (since-then _ _ _ _ (c .before .before .before .before .before .before .before .before .before .before .before .before .before .before .before .before .before .before .before .before .before .decide-right .ensures .since) (decide-down-says .since)) (start .pre .1 .0 .clear))
 
 attempt-same-length : (t : ℕ) → attempt-lts.Need-same-length (attempt-claims t) (attempt-at t) attempt.Post
 attempt-same-length t c = c .before .before .before .before .before .before .backtrack .ensures .same-length
 
 attempt-returns-2 : (t : ℕ) → attempt-lts.Need-returns-2 (attempt-claims t) (attempt-at t) attempt.Post
-attempt-returns-2 t c = went-on _ _ _ _ _ (sym (c .before .before .before .before .before .before .before .before .before .before .before .before .before .before .before .before .before .before .before .before .before .before .before .before .before .before .before .tried .ensures) ∙ not-false _ (c .before .before .before .before .before .before .before .before .before .before .before .before .before .before .before .before .before .before .before .before .before .before .before .before .before .before .if1 .left)) (c .before .before .before .before .before .before .before .before .before .before .before .before .before .before .before .before .before .before .before .before .before .before .before .before .before .before .before .before .before .before .pre .1 .0 .ready) _ _ (c .before .before .before .before .before .before .before .before .before .before .before .before .before .before .before .before .before .before .before .before .before .before .decide-right .ensures) (c .before .before .before .before .before .before .before .before .before .before .before .before .before .before .before .before .before .before .decide-down .ensures) (c .before .before .before .before .before .before .before .before .before .before .before .before .before .before .before .before .before .before .before .before .before .before .before .before .before .before .before .before .before .before .pre .1 .0 .kinds .least-width) (c .before .before .before .before .before .before .before .before .before .before .before .before .before .before .before .before .before .before .before .before .before .before .before .before .before .before .before .before .before .before .pre .1 .0 .kinds .least-height) (row-few _ _ (c .before .before .before .before .before .before .before .before .before .before .before .before .before .before .before .before .before .before .before .before .before .before .before .before .before .before .before .before .before .before .pre .1 .0 .ready) (c .before .before .before .before .before .before .before .before .before .before .before .before .before .before .before .before .before .before .before .before .before .before .before .before .before .before .before .before .before .before .pre .1 .0 .kinds .least-height)) (c .before .before .before .before .before .before .before .before .before .before .before .before .before .before .before .before .before .if2 .taken) ((c .before .before .before .before .before .before .before .before .before .before .before .before .before .before .before .before .before .before .before .before .before .before .before .before .before .before .before .before .before .before .pre .1 .1) .low) _ (next-in-row _ _ _ _ _ (c .before .before .before .before .before .before .before .before .before .before .before .before .before .before .before .first-of-last-row .ensures) (c .before .before .before .before .before .before .before .before .before .before .before .before .before .before .next-pad .ensures)) _ _ _ _ _ (c .before .before .before .before .before .before .backtrack .ensures) (taken-back _ _ _ _ _ _ (since-restored _ _ _ _ refl (since-then _ _ _ _ (c .before .before .before .before .before .before .before .before .before .before .before .before .before .before .before .before .before .before .before .before .before .before .decide-right .ensures .since) (c .before .before .before .before .before .before .before .before .before .before .before .before .before .before .before .before .before .before .decide-down .ensures .since)) (c .before .before .before .before .before .before .backtrack .ensures .restored)) (c .before .before .before .before .before .before .backtrack .ensures .restored .log-long ∙ c .before .before .before .before .before .before .before .before .before .before .before .before .before .before .before .before .before .before .decide-down .ensures .ready .log-long ∙ sym (c .before .before .before .before .before .before .before .before .before .before .before .before .before .before .before .before .before .before .before .before .before .before .before .before .before .before .before .before .before .before .pre .1 .0 .ready .log-long)) (c .before .before .before .before .before .before .before .before .before .before .before .before .before .before .before .before .before .before .before .before .before .before .before .before .before .before .before .before .before .before .pre .1 .0 .clear) (c .take-back .ensures))
+attempt-returns-2 t c =
+    let start = c .before .before .before .before .before .before .before .before .before .before .before .before .before .before .before .before .before .before .before .before .before .before .before .before .before .before .before .before .before .before in
+    let decide-right-says = c .before .before .before .before .before .before .before .before .before .before .before .before .before .before .before .before .before .before .before .before .before .before .decide-right .ensures in
+    let decide-down-says = c .before .before .before .before .before .before .before .before .before .before .before .before .before .before .before .before .before .before .decide-down .ensures in
+    let backtrack-says = c .before .before .before .before .before .before .backtrack .ensures in
+    went-on _ _ _ _ _ (sym (c .before .before .before .before .before .before .before .before .before .before .before .before .before .before .before .before .before .before .before .before .before .before .before .before .before .before .before .tried .ensures) ∙ not-false _ (c .before .before .before .before .before .before .before .before .before .before .before .before .before .before .before .before .before .before .before .before .before .before .before .before .before .before .if1 .left)) (start .pre .1 .0 .ready) _ _ (decide-right-says) (decide-down-says) (start .pre .1 .0 .kinds .least-width) (start .pre .1 .0 .kinds .least-height) (row-few _ _ (start .pre .1 .0 .ready) (start .pre .1 .0 .kinds .least-height)) (c .before .before .before .before .before .before .before .before .before .before .before .before .before .before .before .before .before .if2 .taken) ((start .pre .1 .1) .low) _ (next-in-row _ _ _ _ _ (c .before .before .before .before .before .before .before .before .before .before .before .before .before .before .before .first-of-last-row .ensures) (c .before .before .before .before .before .before .before .before .before .before .before .before .before .before .next-pad .ensures)) _ _ _ _ _ (backtrack-says) (taken-back _ _ _ _ _ _ (since-restored _ _ _ _ refl (since-then _ _ _ _ (decide-right-says .since) (decide-down-says .since)) (backtrack-says .restored)) (backtrack-says .restored .log-long ∙ decide-down-says .ready .log-long ∙ sym (start .pre .1 .0 .ready .log-long)) (start .pre .1 .0 .clear) (c .take-back .ensures))
 
 attempt-take-back-requires-2 : (t : ℕ) → attempt-lts.Need-take-back-requires-2 (attempt-claims t) (attempt-at t) attempt.Post
 attempt-take-back-requires-2 t c κs = (c .before .before .before .before .before .before .before .before .before .before .before .before .before .before .before .before .pre .1 .0 .kinds, c .before .before .before .before .decide-down .ensures .ready, log-longer _ _ _ (since-then _ _ _ _ (c .before .before .before .before .before .before .before .before .decide-right .ensures .since) (c .before .before .before .before .decide-down .ensures .since)) (c .before .before .before .before .before .before .before .before .before .before .before .before .before .before .before .before .pre .1 .0 .clear))
 
 attempt-returns-3 : (t : ℕ) → attempt-lts.Need-returns-3 (attempt-claims t) (attempt-at t) attempt.Post
-attempt-returns-3 t c = flagged _ _ _ _ _ (sym (c .before .before .before .before .before .before .before .before .before .before .before .before .before .before .tried .ensures) ∙ not-false _ (c .before .before .before .before .before .before .before .before .before .before .before .before .before .if1 .left)) (c .before .before .before .before .before .before .before .before .before .before .before .before .before .before .before .before .before .pre .1 .0 .ready) _ _ (c .before .before .before .before .before .before .before .before .before .decide-right .ensures) (c .before .before .before .before .before .decide-down .ensures) _ _ (c .before .before .before .before .before .before .before .before .before .before .before .before .before .before .before .before .before .pre .1 .0 .inside) (c .before .before .before .before .if2 .left) _ (taken-back _ _ _ _ _ _ (since-then _ _ _ _ (c .before .before .before .before .before .before .before .before .before .decide-right .ensures .since) (c .before .before .before .before .before .decide-down .ensures .since)) (c .before .before .before .before .before .decide-down .ensures .ready .log-long ∙ sym (c .before .before .before .before .before .before .before .before .before .before .before .before .before .before .before .before .before .pre .1 .0 .ready .log-long)) (c .before .before .before .before .before .before .before .before .before .before .before .before .before .before .before .before .before .pre .1 .0 .clear) (c .take-back2 .ensures))
+attempt-returns-3 t c =
+    let start = c .before .before .before .before .before .before .before .before .before .before .before .before .before .before .before .before .before in
+    let decide-right-says = c .before .before .before .before .before .before .before .before .before .decide-right .ensures in
+    let decide-down-says = c .before .before .before .before .before .decide-down .ensures in
+    flagged _ _ _ _ _ (sym (c .before .before .before .before .before .before .before .before .before .before .before .before .before .before .tried .ensures) ∙ not-false _ (c .before .before .before .before .before .before .before .before .before .before .before .before .before .if1 .left)) (start .pre .1 .0 .ready) _ _ (decide-right-says) (decide-down-says) _ _ (start .pre .1 .0 .inside) (c .before .before .before .before .if2 .left) _ (taken-back _ _ _ _ _ _ (since-then _ _ _ _ (decide-right-says .since) (decide-down-says .since)) (decide-down-says .ready .log-long ∙ sym (start .pre .1 .0 .ready .log-long)) (start .pre .1 .0 .clear) (c .take-back2 .ensures))
 
 abbrev backtrack-Inv-loop : backtrack-lts.InvT-loop
 backtrack-Inv-loop edges₀ ends₀ log₀ kind limit buffer₀ visited₀ layouts₀ fewest₀ v count m₀ edges ends log buffer visited layouts fewest m = (m ≤ 4) × Going (grid-in kind) limit v (arrays edges₀ ends₀ log₀ count) (reached kind 0 visited₀ layouts₀ fewest₀ buffer₀) (events-left (grid-in kind) v (view (arrays edges₀ ends₀ log₀ count)) (4 - m) m) (arrays edges ends log count) (reached kind 0 visited layouts fewest buffer)
@@ -99,7 +120,9 @@ abbrev backtrack-μ-loop : backtrack-lts.MeasureT-loop
 backtrack-μ-loop edges₀ ends₀ log₀ kind limit buffer₀ visited₀ layouts₀ fewest₀ v count m₀ edges ends log buffer visited layouts fewest m = 4 - m
 
 backtrack-returns : (t : ℕ) → backtrack-lts.Need-returns (backtrack-claims t) (backtrack-at t) backtrack.Post backtrack-Inv-loop backtrack-μ-loop
-backtrack-returns t c = spent (grid-in (c .before .before .before .args .kind .now)) (c .before .before .before .args .limit) (c .before .before .before .args .v) (arrays (c .before .before .before .args .edges .now) (c .before .before .before .args .ends .now) (c .before .before .before .args .log .now) (c .before .before .before .args .count)) (reached (c .before .before .before .args .kind .now) 0 (c .before .before .before .args .visited .now) (c .before .before .before .args .layouts .now) (c .before .before .before .args .fewest .now) (c .before .before .before .args .buffer .now)) (c .before .before .before .pre .1 .0 .inside) refl (c .before .before .before .pre .1 .0 .kinds .least-height) (c .before .before .before .pre .1 .0 .kinds .least-width) (c .before .before .before .pre .1 .1) (c .if1 .taken)
+backtrack-returns t c =
+    let start = c .before .before .before in
+    spent (grid-in (start .args .kind .now)) (start .args .limit) (start .args .v) (arrays (start .args .edges .now) (start .args .ends .now) (start .args .log .now) (start .args .count)) (reached (start .args .kind .now) 0 (start .args .visited .now) (start .args .layouts .now) (start .args .fewest .now) (start .args .buffer .now)) (start .pre .1 .0 .inside) refl (start .pre .1 .0 .kinds .least-height) (start .pre .1 .0 .kinds .least-width) (start .pre .1 .1) (c .if1 .taken)
 
 backtrack-add-visited : (t : ℕ) → backtrack-lts.Need-add-visited (backtrack-claims t) (backtrack-at t) backtrack.Post backtrack-Inv-loop backtrack-μ-loop
 backtrack-add-visited t c = omega (arith, c .if1 .left)
@@ -114,19 +137,31 @@ backtrack-same-length : (t : ℕ) → backtrack-lts.Need-same-length (backtrack-
 backtrack-same-length t c = c .before .before .add-layout .ensures .same-length
 
 backtrack-returns-2 : (t : ℕ) → backtrack-lts.Need-returns-2 (backtrack-claims t) (backtrack-at t) backtrack.Post backtrack-Inv-loop backtrack-μ-loop
-backtrack-returns-2 t c = last-row-reached (grid-in (c .before .before .before .before .before .before .before .before .before .before .before .before .args .kind .now)) (c .before .before .before .before .before .before .before .before .before .before .before .before .args .limit) (c .before .before .before .before .before .before .before .before .before .before .before .before .args .v) (arrays (c .before .before .before .before .before .before .before .before .before .before .before .before .args .edges .now) (c .before .before .before .before .before .before .before .before .before .before .before .before .args .ends .now) (c .before .before .before .before .before .before .before .before .before .before .before .before .args .log .now) (c .before .before .before .before .before .before .before .before .before .before .before .before .args .count)) (reached (c .before .before .before .before .before .before .before .before .before .before .before .before .args .kind .now) 0 (c .before .before .before .before .before .before .before .before .before .before .before .before .args .visited .now) (c .before .before .before .before .before .before .before .before .before .before .before .before .args .layouts .now) (c .before .before .before .before .before .before .before .before .before .before .before .before .args .fewest .now) (c .before .before .before .before .before .before .before .before .before .before .before .before .args .buffer .now)) (c .before .before .before .before .before .before .before .before .before .before .before .before .pre .1 .0 .inside) refl (c .before .before .before .before .before .before .before .before .before .before .before .before .pre .1 .0 .kinds .least-height) (c .before .before .before .before .before .before .before .before .before .before .before .before .pre .1 .0 .kinds .least-width) (c .before .before .before .before .before .before .before .before .before .before .before .before .pre .1 .1) (c .before .before .before .before .before .before .before .before .before .if1 .left) (omega (arith, c .before .before .before .before .before .before .before .before .first-of-last-row .ensures, c .before .before .before .before .before .before .before .if2 .taken)) _ (c .before .before .add-layout .ensures .advanced _ _) (c .before .before .add-layout .ensures .inside) (c .before .before .add-layout .ensures .same-length)
+backtrack-returns-2 t c =
+    let start = c .before .before .before .before .before .before .before .before .before .before .before .before in
+    let add-layout-says = c .before .before .add-layout .ensures in
+    last-row-reached (grid-in (start .args .kind .now)) (start .args .limit) (start .args .v) (arrays (start .args .edges .now) (start .args .ends .now) (start .args .log .now) (start .args .count)) (reached (start .args .kind .now) 0 (start .args .visited .now) (start .args .layouts .now) (start .args .fewest .now) (start .args .buffer .now)) (start .pre .1 .0 .inside) refl (start .pre .1 .0 .kinds .least-height) (start .pre .1 .0 .kinds .least-width) (start .pre .1 .1) (c .before .before .before .before .before .before .before .before .before .if1 .left) (omega (arith, c .before .before .before .before .before .before .before .before .first-of-last-row .ensures, c .before .before .before .before .before .before .before .if2 .taken)) _ (add-layout-says .advanced _ _) (add-layout-says .inside) (add-layout-says .same-length)
 
 backtrack-loop-holds : (t : ℕ) → backtrack-lts.Need-loop-holds (backtrack-claims t) (backtrack-at t) backtrack.Post backtrack-Inv-loop backtrack-μ-loop
-backtrack-loop-holds t c = (omega arith, begun (grid-in (c .before .before .before .before .before .args .kind .now)) (c .before .before .before .before .before .args .limit) (c .before .before .before .before .before .args .v) (arrays (c .before .before .before .before .before .args .edges .now) (c .before .before .before .before .before .args .ends .now) (c .before .before .before .before .before .args .log .now) (c .before .before .before .before .before .args .count)) (reached (c .before .before .before .before .before .args .kind .now) 0 (c .before .before .before .before .before .args .visited .now) (c .before .before .before .before .before .args .layouts .now) (c .before .before .before .before .before .args .fewest .now) (c .before .before .before .before .before .args .buffer .now)) (c .before .before .before .before .before .pre .1 .0 .inside) refl (c .before .before .before .before .before .pre .1 .0 .kinds .least-height) (c .before .before .before .before .before .pre .1 .0 .kinds .least-width) (c .before .before .before .before .before .pre .1 .1) (c .before .before .if1 .left) (omega (arith, c .before .first-of-last-row .ensures, c .if2 .left)))
+backtrack-loop-holds t c =
+    let start = c .before .before .before .before .before in
+    (omega arith, begun (grid-in (start .args .kind .now)) (start .args .limit) (start .args .v) (arrays (start .args .edges .now) (start .args .ends .now) (start .args .log .now) (start .args .count)) (reached (start .args .kind .now) 0 (start .args .visited .now) (start .args .layouts .now) (start .args .fewest .now) (start .args .buffer .now)) (start .pre .1 .0 .inside) refl (start .pre .1 .0 .kinds .least-height) (start .pre .1 .0 .kinds .least-width) (start .pre .1 .1) (c .before .before .if1 .left) (omega (arith, c .before .first-of-last-row .ensures, c .if2 .left)))
 
 backtrack-attempt-requires : (t : ℕ) → backtrack-lts.Need-attempt-requires (backtrack-claims t) (backtrack-at t) backtrack.Post backtrack-Inv-loop backtrack-μ-loop
-backtrack-attempt-requires t c κs = (omega (arith, c .before .before .before .before .before .before .before .before .before .before .before .before .before .before .pre .0), (record { kinds = c .before .before .before .before .before .before .before .before .before .before .before .before .before .before .pre .1 .0 .kinds; ready = ready-restored _ _ _ refl (c .before .before .before .before .before .before .before .before .loop .inv .1 .restored) (c .before .before .before .before .before .before .before .before .before .before .before .before .before .before .pre .1 .0 .ready); clear = c .before .before .before .before .before .before .before .before .before .before .before .before .before .before .pre .1 .0 .clear; inside = c .before .before .before .before .before .before .before .before .loop .inv .1 .inside }, (record { low = (omega (arith, c .before .before .before .before .before .before .before .before .before .before .first-of-last-row .ensures, c .before .before .before .before .before .before .before .before .before .if2 .left)); has-next = (c .before .before .before .before .before .before .before .before .before .before .before .before .before .before .pre .1 .1) .has-next (omega (arith, c .before .before .before .before .before .before .before .before .before .before .first-of-last-row .ensures, c .before .before .before .before .before .before .before .before .before .if2 .left)) })))
+backtrack-attempt-requires t c κs =
+    let start = c .before .before .before .before .before .before .before .before .before .before .before .before .before .before in
+    let loop-inv = c .before .before .before .before .before .before .before .before .loop .inv in
+    let first-of-last-row-says = c .before .before .before .before .before .before .before .before .before .before .first-of-last-row .ensures in
+    let if2-left = c .before .before .before .before .before .before .before .before .before .if2 .left in
+    (omega (arith, start .pre .0), (record { kinds = start .pre .1 .0 .kinds; ready = ready-restored _ _ _ refl (loop-inv .1 .restored) (start .pre .1 .0 .ready); clear = start .pre .1 .0 .clear; inside = loop-inv .1 .inside }, (record { low = (omega (arith, first-of-last-row-says, if2-left)); has-next = (start .pre .1 .1) .has-next (omega (arith, first-of-last-row-says, if2-left)) })))
 
 backtrack-same-length-2 : (t : ℕ) → backtrack-lts.Need-same-length-2 (backtrack-claims t) (backtrack-at t) backtrack.Post backtrack-Inv-loop backtrack-μ-loop
 backtrack-same-length-2 t c = c .before .before .before .attempt .ensures .same-length ∙ c .before .before .before .before .before .before .before .before .before .before .before .before .loop .inv .1 .same-length
 
 backtrack-returns-3 : (t : ℕ) → backtrack-lts.Need-returns-3 (backtrack-claims t) (backtrack-at t) backtrack.Post backtrack-Inv-loop backtrack-μ-loop
-backtrack-returns-3 t c = stops-at (grid-in (c .before .before .before .before .before .before .before .before .before .before .before .before .before .before .before .before .before .before .args .kind .now)) (c .before .before .before .before .before .before .before .before .before .before .before .before .before .before .before .before .before .before .args .limit) (c .before .before .before .before .before .before .before .before .before .before .before .before .before .before .before .before .before .before .args .v) (arrays (c .before .before .before .before .before .before .before .before .before .before .before .before .before .before .before .before .before .before .args .edges .now) (c .before .before .before .before .before .before .before .before .before .before .before .before .before .before .before .before .before .before .args .ends .now) (c .before .before .before .before .before .before .before .before .before .before .before .before .before .before .before .before .before .before .args .log .now) (c .before .before .before .before .before .before .before .before .before .before .before .before .before .before .before .before .before .before .args .count)) (reached (c .before .before .before .before .before .before .before .before .before .before .before .before .before .before .before .before .before .before .args .kind .now) 0 (c .before .before .before .before .before .before .before .before .before .before .before .before .before .before .before .before .before .before .args .visited .now) (c .before .before .before .before .before .before .before .before .before .before .before .before .before .before .before .before .before .before .args .layouts .now) (c .before .before .before .before .before .before .before .before .before .before .before .before .before .before .before .before .before .before .args .fewest .now) (c .before .before .before .before .before .before .before .before .before .before .before .before .before .before .before .before .before .before .args .buffer .now)) (c .before .before .before .before .before .before .before .before .before .before .before .before .before .before .before .before .before .before .pre .1 .0 .inside) refl (c .before .before .before .before .before .before .before .before .before .before .before .before .before .before .before .before .before .before .pre .1 .0 .kinds .least-height) (c .before .before .before .before .before .before .before .before .before .before .before .before .before .before .before .before .before .before .pre .1 .0 .kinds .least-width) (c .before .before .before .before .before .before .before .before .before .before .before .before .before .before .before .before .before .before .pre .1 .1) (c .before .before .before .before .before .before .before .before .before .before .before .before .before .before .before .if1 .left) (omega (arith, c .before .before .before .before .before .before .before .before .before .before .before .before .before .before .first-of-last-row .ensures, c .before .before .before .before .before .before .before .before .before .before .before .before .before .if2 .left)) (c .before .before .before .before .before .before .before .before .before .before .before .before .loop .m) (c .before .before .before .before .before .before .before .before .before .before .before .loop-test .taken) _ _ _ _ _ _ _ _ refl (c .before .before .before .attempt .ensures) (c .before .before .before .before .before .before .before .before .before .before .before .before .loop .inv .1) (c .if3 .taken)
+backtrack-returns-3 t c =
+    let start = c .before .before .before .before .before .before .before .before .before .before .before .before .before .before .before .before .before .before in
+    stops-at (grid-in (start .args .kind .now)) (start .args .limit) (start .args .v) (arrays (start .args .edges .now) (start .args .ends .now) (start .args .log .now) (start .args .count)) (reached (start .args .kind .now) 0 (start .args .visited .now) (start .args .layouts .now) (start .args .fewest .now) (start .args .buffer .now)) (start .pre .1 .0 .inside) refl (start .pre .1 .0 .kinds .least-height) (start .pre .1 .0 .kinds .least-width) (start .pre .1 .1) (c .before .before .before .before .before .before .before .before .before .before .before .before .before .before .before .if1 .left) (omega (arith, c .before .before .before .before .before .before .before .before .before .before .before .before .before .before .first-of-last-row .ensures, c .before .before .before .before .before .before .before .before .before .before .before .before .before .if2 .left)) (c .before .before .before .before .before .before .before .before .before .before .before .before .loop .m) (c .before .before .before .before .before .before .before .before .before .before .before .loop-test .taken) _ _ _ _ _ _ _ _ refl (c .before .before .before .attempt .ensures) (c .before .before .before .before .before .before .before .before .before .before .before .before .loop .inv .1) (c .if3 .taken)
 
 backtrack-add-m : (t : ℕ) → backtrack-lts.Need-add-m (backtrack-claims t) (backtrack-at t) backtrack.Post backtrack-Inv-loop backtrack-μ-loop
 backtrack-add-m t c = omega (arith, c .before .before .before .before .before .before .before .before .before .before .before .loop-test .taken)
@@ -135,13 +170,18 @@ backtrack-loop-less : (t : ℕ) → backtrack-lts.Need-loop-less (backtrack-clai
 backtrack-loop-less t c = omega (arith, c .before .before .before .before .before .before .before .before .before .before .before .loop-test .taken)
 
 backtrack-loop-again : (t : ℕ) → backtrack-lts.Need-loop-again (backtrack-claims t) (backtrack-at t) backtrack.Post backtrack-Inv-loop backtrack-μ-loop
-backtrack-loop-again t c = (omega (arith, c .before .before .before .before .before .before .before .before .before .before .before .loop-test .taken), next-one (grid-in (c .before .before .before .before .before .before .before .before .before .before .before .before .before .before .before .before .before .before .args .kind .now)) (c .before .before .before .before .before .before .before .before .before .before .before .before .before .before .before .before .before .before .args .limit) (c .before .before .before .before .before .before .before .before .before .before .before .before .before .before .before .before .before .before .args .v) (arrays (c .before .before .before .before .before .before .before .before .before .before .before .before .before .before .before .before .before .before .args .edges .now) (c .before .before .before .before .before .before .before .before .before .before .before .before .before .before .before .before .before .before .args .ends .now) (c .before .before .before .before .before .before .before .before .before .before .before .before .before .before .before .before .before .before .args .log .now) (c .before .before .before .before .before .before .before .before .before .before .before .before .before .before .before .before .before .before .args .count)) (reached (c .before .before .before .before .before .before .before .before .before .before .before .before .before .before .before .before .before .before .args .kind .now) 0 (c .before .before .before .before .before .before .before .before .before .before .before .before .before .before .before .before .before .before .args .visited .now) (c .before .before .before .before .before .before .before .before .before .before .before .before .before .before .before .before .before .before .args .layouts .now) (c .before .before .before .before .before .before .before .before .before .before .before .before .before .before .before .before .before .before .args .fewest .now) (c .before .before .before .before .before .before .before .before .before .before .before .before .before .before .before .before .before .before .args .buffer .now)) (c .before .before .before .before .before .before .before .before .before .before .before .before .before .before .before .before .before .before .pre .1 .0 .inside) refl (c .before .before .before .before .before .before .before .before .before .before .before .before .before .before .before .before .before .before .pre .1 .0 .kinds .least-height) (c .before .before .before .before .before .before .before .before .before .before .before .before .before .before .before .before .before .before .pre .1 .0 .kinds .least-width) (c .before .before .before .before .before .before .before .before .before .before .before .before .before .before .before .before .before .before .pre .1 .1) (c .before .before .before .before .before .before .before .before .before .before .before .before .before .before .before .if1 .left) (omega (arith, c .before .before .before .before .before .before .before .before .before .before .before .before .before .before .first-of-last-row .ensures, c .before .before .before .before .before .before .before .before .before .before .before .before .before .if2 .left)) (c .before .before .before .before .before .before .before .before .before .before .before .before .loop .m) (c .before .before .before .before .before .before .before .before .before .before .before .loop-test .taken) _ _ _ _ _ _ _ _ refl (c .before .before .before .attempt .ensures) (c .before .before .before .before .before .before .before .before .before .before .before .before .loop .inv .1) (c .if3 .left))
+backtrack-loop-again t c =
+    let start = c .before .before .before .before .before .before .before .before .before .before .before .before .before .before .before .before .before .before in
+    let loop-test-taken = c .before .before .before .before .before .before .before .before .before .before .before .loop-test .taken in
+    (omega (arith, loop-test-taken), next-one (grid-in (start .args .kind .now)) (start .args .limit) (start .args .v) (arrays (start .args .edges .now) (start .args .ends .now) (start .args .log .now) (start .args .count)) (reached (start .args .kind .now) 0 (start .args .visited .now) (start .args .layouts .now) (start .args .fewest .now) (start .args .buffer .now)) (start .pre .1 .0 .inside) refl (start .pre .1 .0 .kinds .least-height) (start .pre .1 .0 .kinds .least-width) (start .pre .1 .1) (c .before .before .before .before .before .before .before .before .before .before .before .before .before .before .before .if1 .left) (omega (arith, c .before .before .before .before .before .before .before .before .before .before .before .before .before .before .first-of-last-row .ensures, c .before .before .before .before .before .before .before .before .before .before .before .before .before .if2 .left)) (c .before .before .before .before .before .before .before .before .before .before .before .before .loop .m) (loop-test-taken) _ _ _ _ _ _ _ _ refl (c .before .before .before .attempt .ensures) (c .before .before .before .before .before .before .before .before .before .before .before .before .loop .inv .1) (c .if3 .left))
 
 backtrack-same-length-3 : (t : ℕ) → backtrack-lts.Need-same-length-3 (backtrack-claims t) (backtrack-at t) backtrack.Post backtrack-Inv-loop backtrack-μ-loop
 backtrack-same-length-3 t c = c .before .loop .inv .1 .same-length
 
 backtrack-returns-4 : (t : ℕ) → backtrack-lts.Need-returns-4 (backtrack-claims t) (backtrack-at t) backtrack.Post backtrack-Inv-loop backtrack-μ-loop
-backtrack-returns-4 t c = loop-over (grid-in (c .before .before .before .before .before .before .before .args .kind .now)) (c .before .before .before .before .before .before .before .args .limit) (c .before .before .before .before .before .before .before .args .v) (arrays (c .before .before .before .before .before .before .before .args .edges .now) (c .before .before .before .before .before .before .before .args .ends .now) (c .before .before .before .before .before .before .before .args .log .now) (c .before .before .before .before .before .before .before .args .count)) (reached (c .before .before .before .before .before .before .before .args .kind .now) 0 (c .before .before .before .before .before .before .before .args .visited .now) (c .before .before .before .before .before .before .before .args .layouts .now) (c .before .before .before .before .before .before .before .args .fewest .now) (c .before .before .before .before .before .before .before .args .buffer .now)) (c .before .before .before .before .before .before .before .pre .1 .0 .inside) refl (c .before .before .before .before .before .before .before .pre .1 .0 .kinds .least-height) (c .before .before .before .before .before .before .before .pre .1 .0 .kinds .least-width) (c .before .before .before .before .before .before .before .pre .1 .1) (c .before .before .before .before .if1 .left) (omega (arith, c .before .before .before .first-of-last-row .ensures, c .before .before .if2 .left)) (c .before .loop .m) (c .before .loop .inv .0) (c .loop-test .left) _ _ (c .before .loop .inv .1)
+backtrack-returns-4 t c =
+    let start = c .before .before .before .before .before .before .before in
+    loop-over (grid-in (start .args .kind .now)) (start .args .limit) (start .args .v) (arrays (start .args .edges .now) (start .args .ends .now) (start .args .log .now) (start .args .count)) (reached (start .args .kind .now) 0 (start .args .visited .now) (start .args .layouts .now) (start .args .fewest .now) (start .args .buffer .now)) (start .pre .1 .0 .inside) refl (start .pre .1 .0 .kinds .least-height) (start .pre .1 .0 .kinds .least-width) (start .pre .1 .1) (c .before .before .before .before .if1 .left) (omega (arith, c .before .before .before .first-of-last-row .ensures, c .before .before .if2 .left)) (c .before .loop .m) (c .before .loop .inv .0) (c .loop-test .left) _ _ (c .before .loop .inv .1)
 
 pub +attempt+backtrack-spec : {M : Type 1} → statement M
 +attempt+backtrack-spec = close μ-attempt μ-backtrack (λ t. attempt-lts.spec (attempt-claims t)

@@ -1,7 +1,5 @@
 -- The cells and the buffer are long enough. Assumes nothing.
-use Prim.Native.Nat.{ℕ}
-use mathlib.Core.Path.{sym, _∙_, ap}
-use mathlib.Core.List.{List}
+use mathlib.Core.Path.{sym}
 use lib.ListN.{length-replicate}
 use lib.IntN.{negsuc}
 use lib.Seq.{length-take-le}

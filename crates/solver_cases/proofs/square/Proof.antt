@@ -1,7 +1,6 @@
 -- The buffer is long enough. Assumes nothing.
 use Prim.Native.Nat.{ℕ}
-use mathlib.Core.Path.{sym, _∙_, ap}
-use mathlib.Core.List.{List}
+use mathlib.Core.Path.{sym}
 use lib.ListN.{length-replicate}
 use lib.Seq.{length-take-le}
 use native.Mathlib.Omega.{arith}
