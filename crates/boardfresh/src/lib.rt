@@ -61,7 +61,7 @@ fn edge_byte(width: usize, pads: usize, slot: usize) -> u8
 }
 
 // The bytes of all edges; slots that are no edge of the board hold none.
-pub fn fresh_edges(height: usize, width: usize) -> [u8; 1024]
+fn fresh_edges(height: usize, width: usize) -> [u8; 1024]
     requires { ⌜ Size height × Size width ⌝ }
     ensures { λ r. ⌜ EdgesFrom width (height * width) 0 r ⌝ }
 {
@@ -93,7 +93,7 @@ fn put_fresh_end(ends: &mut [i32; 512], cells: &[i32], v: usize)
 }
 
 // The ends of all pads.
-pub fn fresh_ends(cells: &[i32]) -> [i32; 512]
+fn fresh_ends(cells: &[i32]) -> [i32; 512]
     requires { ⌜ CellsInRange (now cells) ⌝ }
     ensures { λ r. ⌜ EndsFrom (now (cells .entry)) 0 r ⌝ }
 {
@@ -283,7 +283,7 @@ fn fresh_table() -> [u8; 1024]
 }
 
 // The kinds of all pads, from the last one up, the sizes, and the pad check's table.
-pub fn fresh_kind(height: usize, width: usize, cells: &[i32]) -> [u8; 1024]
+fn fresh_kind(height: usize, width: usize, cells: &[i32]) -> [u8; 1024]
     requires { ⌜ Accepted height width (now cells) ⌝ }
     ensures { λ r. ⌜ FreshKinds height width (now (cells .entry)) r ⌝ }
 {

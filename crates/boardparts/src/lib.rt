@@ -115,6 +115,7 @@ pub fn slot_where(kind: &[u8; 1024], v: usize, bit: u8, slot: usize) -> usize
     0
 }
 
+// The first pad of the edge at a slot.
 pub fn first_pad(slot: usize) -> usize
     requires { ⌜ 32 ≤ slot ⌝ }
     ensures { λ r. ⌜ r ≡ slot / 2 - 16 ⌝ }
@@ -122,6 +123,7 @@ pub fn first_pad(slot: usize) -> usize
     slot / 2 - 16
 }
 
+// Its second pad, to the right or below.
 pub fn second_pad(slot: usize, width: usize) -> usize
     requires { ⌜ (32 ≤ slot) × (slot < 1024) × (width ≤ 16) ⌝ }
     ensures { λ r. ⌜ r ≡ second-pad width slot ⌝ }
@@ -157,7 +159,7 @@ pub fn end_code(ends: &[i32; 512], v: usize) -> usize
 }
 
 // A line passes through the pad.
-pub fn passed(ends: &[i32; 512], v: usize) -> bool
+fn passed(ends: &[i32; 512], v: usize) -> bool
     requires { ⌜ (v < 512) × (length (now ends) ≡ 512) ⌝ }
     ensures { λ r. ⌜ r ≡ isThrough (end-at (now (ends .entry)) v) ⌝ }
 {
@@ -169,7 +171,7 @@ pub fn passed(ends: &[i32; 512], v: usize) -> bool
 }
 
 // Two numbers of clues' ends, of different clues.
-pub fn rivals(a: usize, b: usize) -> bool
+fn rivals(a: usize, b: usize) -> bool
     ensures { λ r. ⌜ r ≡ rival a b ⌝ }
 {
     if b == 0 {
@@ -179,7 +181,7 @@ pub fn rivals(a: usize, b: usize) -> bool
 }
 
 // Step c: the line cannot be, by the ends of its pads.
-pub fn cannot_join(ends: &[i32; 512], v: usize, q: usize) -> bool
+fn cannot_join(ends: &[i32; 512], v: usize, q: usize) -> bool
     requires { ⌜ (v < 512) × (q < 512) × (length (now ends) ≡ 512) ⌝ }
     ensures { λ r. ⌜ r ≡ unjoinable (end-at (now (ends .entry)) v) (end-at (now (ends .entry)) q) q ⌝ }
 {
@@ -208,14 +210,7 @@ pub fn store(edges: &mut [u8; 1024], log: &mut [i32; 2048], slot: usize, state: 
 }
 
 // Stores an entry of the log for a line that joins the chains of pads v and q.
-pub fn log_line(
-    ends: &[i32; 512],
-    log: &mut [i32; 2048],
-    slot: usize,
-    v: usize,
-    q: usize,
-    count: usize,
-)
+fn log_line(ends: &[i32; 512], log: &mut [i32; 2048], slot: usize, v: usize, q: usize, count: usize)
     requires { ⌜ (slot < 1024) × (v < 512) × (q < 512) × (count % 1024 < 480) × (length (now ends) ≡ 512) ⌝ }
     ensures { λ _. ⌜ now (log .exit) ≡ log-joined (now (log .entry)) (count % 1024) slot (getD (now (ends .entry)) v (pos v)) (getD (now (ends .entry)) q (pos q)) ⌝ }
 {
@@ -226,7 +221,7 @@ pub fn log_line(
 }
 
 // Step c: both pads get -1, then pad A (if there is one) gets B and pad B gets A.
-pub fn join_ends(ends: &mut [i32; 512], v: usize, q: usize)
+fn join_ends(ends: &mut [i32; 512], v: usize, q: usize)
     requires { ⌜ (v < 512) × (q < 512) × (length (now ends) ≡ 512) ⌝ }
     ensures { λ _. ⌜ now (ends .exit) ≡ joined v q (now (ends .entry)) ⌝ }
 {
@@ -276,13 +271,7 @@ pub fn begin_line(
 }
 
 // The edge at a slot is to be none, since it leads to a pad whose end is of another clue than `code`. `past` is 16 more than that pad.
-pub fn keeps_apart(
-    edges: &[u8; 1024],
-    ends: &[i32; 512],
-    code: usize,
-    slot: usize,
-    past: usize,
-) -> bool
+fn keeps_apart(edges: &[u8; 1024], ends: &[i32; 512], code: usize, slot: usize, past: usize) -> bool
     requires { ⌜ (slot < 1024) × (past < 528) × (getD (now edges) slot 0 ≡ 0 → 16 ≤ past) × (length (now ends) ≡ 512) ⌝ }
     ensures { λ r. ⌜ r ≡ keeps-apart (now (edges .entry)) (now (ends .entry)) code slot (past - 16) ⌝ }
 {
@@ -324,7 +313,7 @@ pub fn count_after(slot: usize, before: usize, after: usize) -> usize
 }
 
 // One of the four edges at a pad is to be none.
-pub fn some_apart(edges: &[u8; 1024], ends: &[i32; 512], width: usize, v: usize) -> bool
+fn some_apart(edges: &[u8; 1024], ends: &[i32; 512], width: usize, v: usize) -> bool
     requires { ⌜ (v < 256) × (2 ≤ width) × (width ≤ 16) × (length (now ends) ≡ 512) × (getD (now edges) (30 + 2 * v) 0 ≡ 0 → 1 ≤ v) × (getD (now edges) (33 + 2 * v - 2 * width) 0 ≡ 0 → width ≤ v) ⌝ }
     ensures { λ r. ⌜ r ≡ clue-apart (now (edges .entry)) (now (ends .entry)) width v ⌝ }
 {
@@ -389,6 +378,7 @@ pub fn past_around(width: usize, v: usize, side: usize) -> usize
     16 + v + width
 }
 
+// 1 if it is so, else 0.
 pub fn one_if(test: bool) -> u8
     ensures { λ r. ⌜ (r ≡ num test) × (r ≤ 1) ⌝ }
 {
@@ -399,7 +389,7 @@ pub fn one_if(test: bool) -> u8
 }
 
 // The index of a pad's code in the table of the pad check: the bytes of its four edges and the clue are the digits.
-pub fn action_index(edges: &[u8; 1024], kind: &[u8; 1024], width: usize, v: usize) -> usize
+fn action_index(edges: &[u8; 1024], kind: &[u8; 1024], width: usize, v: usize) -> usize
     requires { ⌜ (v < 256) × (width ≤ 16) × ((n : ℕ) → getD (now edges) n 2 ≤ 2) ⌝ }
     ensures { λ r. ⌜ (r ≡ action-index (now (kind .entry)) (now (edges .entry)) width v) × (r < 512) ⌝ }
 {

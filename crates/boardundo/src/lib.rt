@@ -12,7 +12,7 @@ use grid::Edge;
 const UNDECIDED: u8 = Edge::UNDECIDED.0;
 
 // The pad that the number at an index of the log names, or 512.
-pub fn logged_pad(log: &[i32; 2048], i: usize) -> usize
+fn logged_pad(log: &[i32; 2048], i: usize) -> usize
     requires { ⌜ i < 2048 ⌝ }
     ensures { λ r. ⌜ r ≡ pad-number (end-of (getD (now (log .entry)) i (pos 0))) ⌝ }
 {
@@ -24,7 +24,7 @@ pub fn logged_pad(log: &[i32; 2048], i: usize) -> usize
 }
 
 // Gives back the ends of an entry: those of its pads v and q, and at the pads that these ends name, v and q.
-pub fn unjoin(ends: &mut [i32; 512], log: &[i32; 2048], k: usize, v: usize, q: usize)
+fn unjoin(ends: &mut [i32; 512], log: &[i32; 2048], k: usize, v: usize, q: usize)
     requires { ⌜ (k < 480) × (v < 512) × (q < 512) × (length (now ends) ≡ 512) ⌝ }
     ensures { λ _. ⌜ now (ends .exit) ≡ unjoined v q (getD (now (log .entry)) (4 * k + 1) (pos 0)) (getD (now (log .entry)) (4 * k + 2) (pos 0)) (now (ends .entry)) ⌝ }
 {
@@ -52,7 +52,7 @@ pub fn unjoin(ends: &mut [i32; 512], log: &[i32; 2048], k: usize, v: usize, q: u
 }
 
 // The slot of an entry.
-pub fn logged_slot(log: &[i32; 2048], k: usize) -> usize
+fn logged_slot(log: &[i32; 2048], k: usize) -> usize
     requires { ⌜ (k < 480) × (getD (now log) (4 * k) (pos 0) ≡ pos (slot-logged (now log) k)) ⌝ }
     ensures { λ r. ⌜ r ≡ slot-logged (now (log .entry)) k ⌝ }
 {
@@ -60,7 +60,7 @@ pub fn logged_slot(log: &[i32; 2048], k: usize) -> usize
 }
 
 // Undoes entry k.
-pub fn undo_one(
+fn undo_one(
     edges: &mut [u8; 1024],
     ends: &mut [i32; 512],
     log: &[i32; 2048],
