@@ -9,7 +9,7 @@ use Rattle.rules.specs.Grid.{grid-of, places, Accepted}
 use Rattle.model.specs.Refusals.{grid-refusal}
 use Rattle.model.specs.Search as model
 use Rattle.solver.specs.declared.Solved.{Solved}
-use Rattle.solver.specs.declared.Tally.{Tally}
+use Rattle.tally.specs.declared.Tally.{Tally}
 use Rattle.searchview.specs.Progress.{Progress, advance}
 use Rattle.searchview.specs.Shown.{progress}
 use Rattle.solver.specs.Promise.{Promise}

@@ -8,7 +8,7 @@ use native.Mathlib.Nat.{zero-mul}
 use lib.ListN.{length}
 use lib.IntN.{ℤ}
 use borrow.Author.Tests.{eq-eqb, ne-eqb, lt-ltb}
-use Rattle.rules.specs.Grid.{Edge, Grid, grid-of, pads, places}
+use Rattle.rules.specs.Grid.{Edge, Grid, grid-of, pads, places, Accepted}
 use Rattle.model.specs.Board.{EdgeState, State, fresh, decide}
 use Rattle.model.specs.Refusals.{grid-refusal}
 use Rattle.model.specs.RefusalLaws.{not-refused}
@@ -16,7 +16,8 @@ use Rattle.model.specs.Search as model
 use Rattle.boardview.specs.View.{Arrays, view, grid-in}
 use Rattle.boardview.specs.SameBlanks.{shown-decides}
 use Rattle.boardfresh.specs.FreshView.{FreshBoard, without-codes, same-blank}
-use Rattle.solver.specs.declared.Tally.{Tally}
+use Rattle.tally.specs.declared.Tally.{Tally}
+use Rattle.tally.specs.Empty.{empty}
 use Rattle.searchview.specs.Progress.{Progress, advance, start, result-of, advance-solved}
 use Rattle.searchview.specs.Sizes.{search-sized}
 use Rattle.searchview.specs.Shown.{progress}
@@ -51,6 +52,10 @@ module _ (height width : ℕ) (cells : List ℤ) (edges : List ℕ) (ends : List
 -- WHERE IT BEGINS
 pub first-entered : (g : Grid) → 2 ≤ g .width → Entered g 0
 first-entered g wide = record { low = omega arith; has-next = λ h. lt-ltb (0 % g .width + 1) (g .width) (let z : 0 % g .width ≡ 0 = native.Mathlib.Nat.zero-mod (g .width) in omega arith) }
+
+-- with nothing counted an accepted grid is all that is asked
+pub from-empty : (height width : ℕ) (cells : List ℤ) (buffer : List ℕ) → Accepted height width cells → Ready height width cells empty buffer
+from-empty height width cells buffer accepted = record { accepted = accepted; none-yet = refl; inside = rw zero-mul (omega arith) }
 
 module _ (height width : ℕ) (cells : List ℤ) (t : Tally) (buffer : List ℕ) (begins : Ready height width cells t buffer)
     (edges : List ℕ) (ends : List ℤ) (kind : List ℕ) (made : FreshBoard (grid-of height width cells) edges ends kind) (log : List ℤ) where
@@ -90,7 +95,7 @@ module _ (height width : ℕ) (cells : List ℤ) (limit : ℕ) (buffer : List �
 
   -- an accepted one
   pub solve-accepted : grid-refusal height width cells .0 ≡ 0 → (t : Tally) (buffer′ : List ℕ)
-      → Counted height width cells limit (record { outcome = 0; visited = 0; layouts = 0; fewest = 481 }) buffer t buffer′
+      → Counted height width cells limit empty buffer t buffer′
       → Solves height width cells limit buffer (record { number = 0; index = 0; outcome = t .outcome; layouts = t .layouts; visited = t .visited; fewest = t .fewest }) buffer′
   unfolding model.solve grid-of
   solve-accepted fine t buffer′ counted = record {
@@ -99,7 +104,7 @@ module _ (height width : ℕ) (cells : List ℤ) (limit : ℕ) (buffer : List �
     promise = λ e. promise height width cells (not-refused height width cells fine) limit (length buffer);
   }
     where
-      from-start : tally-says height width (record { outcome = 0; visited = 0; layouts = 0; fewest = 481 }) buffer ≡ start buffer
+      from-start : tally-says height width empty buffer ≡ start buffer
       from-start = ap (λ (n : ℕ). record { outcome = 0; visited = 0; layouts = 0; fewest-lines = 481; used = n; buffer = buffer }) (zero-mul (places height width))
 
       from-run : result-of (tally-says height width t buffer′) ≡ model.solved (run-of height width cells limit buffer) buffer

@@ -5,11 +5,13 @@ ghost use mathlib.Core.Path.{_≡_};
 ghost use mathlib.Core.List.{List};
 ghost use Prim.Native.Nat.{ℕ, _-_, _%_, _≤_, _<_};
 ghost use lib.IntN.{ℤ};
-ghost use Rattle.rules.specs.Grid.{right, down};
+ghost use Rattle.rules.specs.Grid.{right, down, Accepted};
 ghost use Rattle.boardview.specs.View.{grid-in, Kinds, Ready, unwound};
 ghost use Rattle.searchview.specs.Searched.{arrays, reached, Begun, Above, Entered, Attempted, Backtracked};
+ghost use Rattle.tally.specs.Empty.{empty};
 ghost use Rattle.solver.specs.Answers as answers;
 use boardparts::FLAGGED;
+use tally::Tally;
 
 // Undoes what has been decided since.
 fn take_back(
@@ -126,14 +128,6 @@ fn backtrack(
     0
 }
 
-// The counts of a search: outcome (0 complete, 1 spent, 2 full), visited boards, layouts, and the fewest lines of a layout, 481 for none.
-pub struct Tally {
-    pub outcome: u8,
-    pub visited: u64,
-    pub layouts: usize,
-    pub fewest: usize,
-}
-
 // What `solve` answers: the grid's refusal with its index, and the counts.
 pub struct Solved {
     pub number: u8,
@@ -145,7 +139,7 @@ pub struct Solved {
 }
 
 // Searches a whole grid and counts on from the tally.
-pub fn search(
+fn search_from(
     tally: Tally,
     cells: &[i32],
     buffer: &mut [u8],
@@ -186,7 +180,7 @@ pub fn search(
 }
 
 // The same with the tally lent: the boards visited are counted up in it.
-pub fn search_lent(
+fn search_lent(
     tally: &mut Tally,
     cells: &[i32],
     buffer: &mut [u8],
@@ -197,7 +191,17 @@ pub fn search_lent(
     requires { ⌜ answers.Ready height width (now cells) (now tally) (now buffer) ⌝ }
     ensures { λ _. ⌜ answers.Counted height width (now (cells .entry)) limit (now (tally .entry)) (now (buffer .entry)) (now (tally .exit)) (now (buffer .exit)) ⌝ }
 {
-    *tally = search(*tally, cells, buffer, height, width, limit);
+    *tally = search_from(*tally, cells, buffer, height, width, limit);
+}
+
+// Searches a whole grid with a tally of its own, which is lent down the search and handed back.
+fn search(cells: &[i32], buffer: &mut [u8], height: usize, width: usize, limit: u64) -> Tally
+    requires { ⌜ Accepted height width (now cells) ⌝ }
+    ensures { λ r. ⌜ answers.Counted height width (now (cells .entry)) limit empty (now (buffer .entry)) r (now (buffer .exit)) ⌝ }
+{
+    let mut tally = Tally::EMPTY;
+    search_lent(&mut tally, cells, buffer, height, width, limit);
+    tally
 }
 
 // Lists the wirings of a grid into the lent buffer.
@@ -216,13 +220,7 @@ pub fn solve(height: usize, width: usize, cells: &[i32], limit: u64, buffer: &mu
             fewest: 481,
         };
     }
-    let none = Tally {
-        outcome: 0,
-        visited: 0,
-        layouts: 0,
-        fewest: 481,
-    };
-    let counted = search(none, cells, buffer, height, width, limit);
+    let counted = search(cells, buffer, height, width, limit);
     Solved {
         number: 0,
         index: 0,

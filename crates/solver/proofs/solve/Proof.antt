@@ -1,8 +1,6 @@
--- A refused grid leaves everything as it was; for an accepted one the counts from nothing are the model's result. Assumes nothing.
-use native.Mathlib.Omega.{arith}
+-- A refused grid leaves everything as it was; for an accepted one the counts from an empty tally are the model's result. Assumes nothing.
 use Prim.Native.Nat.{ℕ}
-use native.Mathlib.Nat.{zero-mul}
-use mathlib.Core.Path.{refl, sym, _∙_, ap}
+use mathlib.Core.Path.{sym, _∙_, ap}
 use Rattle.model.specs.RefusalLaws.{not-refused}
 use Rattle.solver.specs.SolveLaws.{solve-refused, solve-accepted}
 use borrow.Author.Needs.{needs}
@@ -16,7 +14,7 @@ returns : tie.Need-returns
 returns c = solve-refused _ _ _ _ _ _ _ (c .before .grid-refusal .ensures) (c .if1 .taken)
 
 search-requires : tie.Need-search-requires
-search-requires c κs = record { accepted = not-refused _ _ _ (sym (ap (λ (p : ℕ × ℕ). p .0) (c .before .before .grid-refusal .ensures)) ∙ c .before .if1 .left); none-yet = refl; inside = rw zero-mul (omega arith) }
+search-requires c κs = not-refused _ _ _ (sym (ap (λ (p : ℕ × ℕ). p .0) (c .before .before .grid-refusal .ensures)) ∙ c .before .if1 .left)
 
 same-length : tie.Need-same-length
 same-length c = search needs

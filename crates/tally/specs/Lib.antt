@@ -1,0 +1,2 @@
+-- The tally with nothing counted.
+pub mod Empty
