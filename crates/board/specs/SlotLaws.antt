@@ -9,10 +9,11 @@ use lib.Dec.{eqb, ltb}
 use lib.ListN.{getD}
 use borrow.Author.Tests.{eq-eqb, ne-eqb, ltb-true, eqb-true, eqb-false}
 use Rattle.rules.specs.Grid.{right, down, Grid, pads}
+use Rattle.rules.specs.Tests.{both}
 use Rattle.model.specs.Board.{on-board, line-or-none}
 use Rattle.model.specs.Calls as model
 use Rattle.boardview.specs.View.{slot-on, edge-of, grid-in}
-use Rattle.boardview.specs.Bytes.{on-slot, edge-on, both-true}
+use Rattle.boardview.specs.Bytes.{on-slot, edge-on}
 use Rattle.boardview.specs.OneEdge.{edge-of-slot}
 use Rattle.board.specs.PlaceLaws.{slot-of-place, EdgeThere, found-there, no-edge-there}
 use Rattle.board.specs.ShowLaws.{edge-byte}
@@ -44,7 +45,7 @@ module _ (g : Grid) (n : ℕ) (few : pads g ≤ 256) (on : slot-on g n ≡ true)
   pad-small = go (eqb (n % 2) 0) refl
     where
       go : (b : Bool) → eqb (n % 2) 0 ≡ b → n / 2 - 16 < 256
-      go true even = let v : n / 2 - 16 < pads g = ltb-true (n / 2 - 16) (pads g) (both-true (ltb ((n / 2 - 16) % g .width + 1) (g .width)) (ltb (n / 2 - 16) (pads g)) (right-on (eqb-true (n % 2) 0 even)) .1) in omega arith
+      go true even = let v : n / 2 - 16 < pads g = ltb-true (n / 2 - 16) (pads g) (both (ltb ((n / 2 - 16) % g .width + 1) (g .width)) (ltb (n / 2 - 16) (pads g)) (right-on (eqb-true (n % 2) 0 even)) .1) in omega arith
       go false odd = let v : n / 2 - 16 + g .width < pads g = ltb-true (n / 2 - 16 + g .width) (pads g) (down-on (eqb-false (n % 2) 0 odd)) in omega arith
 
 -- THE CALLS AT A PLACE

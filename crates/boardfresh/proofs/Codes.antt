@@ -1,9 +1,9 @@
 -- Laws of a cell as the code reads it, an i32: the sign tells a clue from a blank pad, and -v - 2 of a clue's value v is exact, at 0 and at
 -- 2147483646, where it is the least i32. Assumes nothing.
-use Prim.Native.Nat.{ℕ, zero, suc, _-_, _≤_, _<_}
-use mathlib.Core.Path.{_≡_, refl, sym, ap, _∙_}
+use Prim.Native.Nat.{ℕ, zero, suc, _≤_, _<_}
+use mathlib.Core.Path.{_≡_, refl, ap, _∙_}
 use mathlib.Core.Logic.{inl, inr}
-use mathlib.Core.Bool.{true, false, not}
+use mathlib.Core.Bool.{true, false, not, true≢false}
 use mathlib.Core.List.{List}
 use native.Mathlib.Omega.{arith}
 use lib.IntN.{ℤ, pos, negsuc, negℤ, _-ℤ_}
@@ -14,12 +14,10 @@ use mir.Val.{SFits, toZ, ofZ}
 use mir.ValLaws.{toZ-ofZ, toZ-pos}
 use borrow.Author.Tests.{lt-ltb, ltb-true}
 use Rattle.rules.specs.Grid.{CellInRange, blank-cell, cell-of, largest-code}
+use Rattle.rules.specs.Tests.{conflict}
 use Rattle.model.specs.Board.{isBlank}
 use Rattle.boardview.specs.Bytes.{default-free}
 use Rattle.boardfresh.specs.FreshArrays.{fresh-end-number, end-number-at, is-clue}
-
-never : {A : Type 0} → true ≡ false → A
-never e = let z : _≡_ {A = ℕ} 0 1 = cc in absurd (omega arith)
 
 -- 0 - n, and then less 2
 minus : (n : ℕ) → pos 0 -ℤ pos n ≡ negℤ (pos n)
@@ -68,7 +66,7 @@ module _ (cells : List ℤ) (v : ℕ) (inside : v < length cells) where
       where
         go : (z : ℤ) → ltZ z (pos 0) ≡ false → not (isBlank (cell-of z)) ≡ true
         go (pos n) h = refl
-        go (negsuc n) h = never h
+        go (negsuc n) h = absurd (true≢false h)
 
     pub blank-end : v < 512 → ltZ (toZ w32 (ofZ w32 cell)) (pos 0) ≡ true → toZ w32 v ≡ end-number-at cells v
     unfolding end-number-at fresh-end-number
@@ -83,7 +81,7 @@ module _ (cells : List ℤ) (v : ℕ) (inside : v < length cells) where
       code = go (rw (← same-cell) at range) (rw back at h)
         where
           go : {z : ℤ} → CellInRange z → ltZ z (pos 0) ≡ false → (n : ℕ) × (z ≡ pos n) × (n ≤ largest-code)
-          go (inl e) k = never (sym (ap (λ z. ltZ z (pos 0)) e) ∙ k)
+          go (inl e) k = conflict (ap (λ z. ltZ z (pos 0)) e) k
           go (inr c) k = c
 
       first-value : pos 0 -ℤ toZ w32 (ofZ w32 cell) ≡ negℤ (pos (code .0))

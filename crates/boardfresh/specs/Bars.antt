@@ -1,8 +1,8 @@
 -- Laws of barred pads, each stated once over the side: more rows than the grid has change nothing, and the byte of a pad follows from the
 -- bytes of the pads below it. It rests on FreshArrays.antt and KindBits.antt.
-use Prim.Native.Nat.{ℕ, zero, suc, _+_, _*_, _-_, _%_, _≤_, _<_}
+use Prim.Native.Nat.{ℕ, zero, suc, _+_, _*_, _%_, _≤_, _<_}
 use mathlib.Core.Path.{_≡_, refl, sym, ap, _∙_}
-use mathlib.Core.Bool.{Bool, true, false, _&&_, not}
+use mathlib.Core.Bool.{Bool, true, false, _&&_, not, and-true, Bool·not-not}
 use mathlib.Core.List.{List}
 use native.Mathlib.Omega.{arith}
 use native.Mathlib.Nat.{add-mod-right, mul-mod-left, mul-add-mod-self-right}
@@ -12,20 +12,12 @@ use lib.IntN.{ℤ}
 use borrow.Author.Tests.{le-ltb, ltb-true, ltb-false}
 use Rattle.rules.specs.Grid.{Grid, pads, grid-of, blank-cell, cell-of}
 use Rattle.rules.specs.Drawing.{Side, on-left, on-right}
+use Rattle.rules.specs.Tests.{both}
 use Rattle.model.specs.Board.{isBlank, has-down, has-side, diagonal, barred}
 use Rattle.boardview.specs.View.{pick, has-bit, clue-bit, corner-bit, bar-bit}
-use Rattle.boardview.specs.Bytes.{both-true}
 use Rattle.boardview.specs.Geometry.{next-pad}
 use Rattle.boardfresh.specs.FreshArrays.{Filled, kind-byte, is-clue, corner-test, barred-in, barred-below, bar-test, kind-from, kind-of}
 use Rattle.boardfresh.specs.KindBits.{FiveBits, five-bits}
-
-and-true : (b : Bool) → b && true ≡ b
-and-true true = refl
-and-true false = refl
-
-twice-not : (b : Bool) → not (not b) ≡ b
-twice-not true = refl
-twice-not false = refl
 
 module _ (g : Grid) where
   abbrev W : ℕ
@@ -60,7 +52,7 @@ module _ (g : Grid) where
       go : (b : Bool) → corner side v ≡ b → (pads g ≤ diagonal g side v + suc n * W → barred g side n (diagonal g side v) ≡ barred g side (suc n) (diagonal g side v))
           → isBlank (g .cell v) && (elim b [ true ↦ barred g side n (diagonal g side v) | false ↦ true ])
           ≡ isBlank (g .cell v) && (elim b [ true ↦ barred g side (suc n) (diagonal g side v) | false ↦ true ])
-      go true e rest = ap (λ b. isBlank (g .cell v) && b) (rest (fewer-rows side (suc n) v (both-true (has-down g v) (has-side g side v) e .1) h))
+      go true e rest = ap (λ b. isBlank (g .cell v) && b) (rest (fewer-rows side (suc n) v (both (has-down g v) (has-side g side v) e .1) h))
       go false e rest = refl
 
   -- the whole height, at a pad with a corner and at one without
@@ -103,7 +95,7 @@ module _ (g : Grid) where
     -- a byte tells whether its pad is barred
     pub barred-held : (side : Side) (h : ℕ) → g .height ≡ suc h → barred-in kind v (corner-bit side) (bar-bit side) ≡ barred g side (g .height) v
     unfolding barred-in
-    barred-held side h tall = rw (corner-held side, bar-held side, clue-held, twice-not (isBlank (g .cell v))) (go (corner side v) refl)
+    barred-held side h tall = rw (corner-held side, bar-held side, clue-held, Bool·not-not (isBlank (g .cell v))) (go (corner side v) refl)
       where
         go : (b : Bool) → corner side v ≡ b → pick b (b && barred g side (g .height) v) (isBlank (g .cell v)) ≡ barred g side (g .height) v
         go true e = refl
@@ -132,12 +124,12 @@ module _ (height width : ℕ) (cells : List ℤ) (wide : 2 ≤ width) (few : hei
   diagonal-pad : (side : Side) (v : ℕ) → corner the-grid side v ≡ true → (v + 1 ≤ diagonal the-grid side v) × (diagonal the-grid side v < 256)
   unfolding grid-of
   diagonal-pad on-right v e =
-      let b = both-true _ _ e in
+      let b = both _ _ e in
       let below : v + width < height * width = ltb-true _ _ (b .0) in
       let column : v % width + 1 < width = ltb-true _ _ (b .1) in
       let inside = next-pad height width (v + width) below (rw (add-mod-right v width) column) in
       (omega arith, omega arith)
-  diagonal-pad on-left v e = let below : v + width < height * width = ltb-true _ _ (both-true _ _ e .0) in (omega arith, omega arith)
+  diagonal-pad on-left v e = let below : v + width < height * width = ltb-true _ _ (both _ _ e .0) in (omega arith, omega arith)
 
   module _ (kind : List ℕ) (v : ℕ) (filled : Filled (kind-of the-grid) 0 1024 256 (v + 1) kind) where
     same-bar : (side : Side) → bar-test kind width (height * width) (is-clue cells v) (is-right side) v ≡ corner the-grid side v && barred the-grid side height v
@@ -147,7 +139,7 @@ module _ (height width : ℕ) (cells : List ℤ) (wide : 2 ≤ width) (few : hei
         go : (b : Bool) → corner the-grid side v ≡ b
             → b && (not (not (isBlank (cell-of (getD cells v blank-cell)))) && barred-in kind (diagonal the-grid side v) (corner-bit side) (bar-bit side)) ≡ b && barred the-grid side height v
         go true e = let d = diagonal-pad side v e in
-            rw (twice-not (isBlank (cell-of (getD cells v blank-cell))), barred-held the-grid kind (v + 1) filled (diagonal the-grid side v) (d .0) (d .1) side h tall) (sym (barred-inside the-grid side h v tall e))
+            rw (Bool·not-not (isBlank (cell-of (getD cells v blank-cell))), barred-held the-grid kind (v + 1) filled (diagonal the-grid side v) (d .0) (d .1) side h tall) (sym (barred-inside the-grid side h v tall e))
         go false e = refl
 
     pub next-kind : kind-from kind width (height * width) cells v ≡ kind-of the-grid v

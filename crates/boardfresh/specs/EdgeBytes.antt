@@ -7,16 +7,13 @@ use native.Mathlib.Nat.{mul-le-mul}
 use lib.Dec.{eqb, ltb, leb}
 use borrow.Author.Tests.{le-ltb, ltb-true, ltb-false, le-leb, lt-leb}
 use Rattle.rules.specs.Grid.{Size, right, down, Grid, pads}
+use Rattle.rules.specs.Tests.{both-off}
 use Rattle.model.specs.Board.{on-board}
 use Rattle.boardview.specs.View.{pick, edge-of, slot-on}
 use Rattle.boardfresh.specs.FreshArrays.{right-byte, down-byte, edge-byte}
 
 pub few-pads : (height width : ℕ) → Size height → Size width → height * width ≤ 256
 few-pads height width h w = mul-le-mul (h .1) (w .1)
-
-pub and-false : (a b : Bool) → b ≡ false → a && b ≡ false
-and-false true b h = h
-and-false false b h = refl
 
 -- THE BYTE OF A SLOT: 0 on the board, 2 elsewhere
 pub edge-byte-is : (g : Grid) (s : ℕ) → edge-byte (g .width) (pads g) s ≡ pick (slot-on g s) 0 2
@@ -41,5 +38,5 @@ past-the-edges width pads s h = rw (le-ltb s 32 (omega arith)) (go (eqb (s % 2) 
     past = omega arith
 
     go : (b : Bool) → 2 ≡ pick b (right-byte width pads (s / 2 - 16)) (down-byte width pads (s / 2 - 16))
-    go true = rw (and-false (ltb ((s / 2 - 16) % width + 1) width) (ltb (s / 2 - 16) pads) (le-ltb (s / 2 - 16) pads past)) refl
+    go true = rw (both-off (ltb ((s / 2 - 16) % width + 1) width) (ltb (s / 2 - 16) pads) (le-ltb (s / 2 - 16) pads past)) refl
     go false = rw (le-ltb (s / 2 - 16 + width) pads (omega arith)) refl

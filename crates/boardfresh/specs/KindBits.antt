@@ -8,8 +8,8 @@ use lib.Bits.{bitAnd}
 use lib.ListN.{getD}
 use mathlib.Core.List.{List}
 use Rattle.rules.specs.Drawing.{num}
+use Rattle.rules.specs.Tests.{both}
 use Rattle.boardview.specs.View.{has-bit}
-use Rattle.boardview.specs.Bytes.{both-true}
 use Rattle.boardfresh.specs.FreshArrays.{kind-byte}
 
 pub number-small : (b : Bool) → num b ≤ 1
@@ -21,8 +21,8 @@ abbrev all-bools : (Bool → Bool) → Bool
 all-bools f = f true && f false
 
 all-bools-at : (f : Bool → Bool) → all-bools f ≡ true → (b : Bool) → f b ≡ true
-all-bools-at f h true = both-true (f true) (f false) h .0
-all-bools-at f h false = both-true (f true) (f false) h .1
+all-bools-at f h true = both (f true) (f false) h .0
+all-bools-at f h false = both (f true) (f false) h .1
 
 abbrev same-bool : Bool → Bool → Bool
 same-bool true b = b
@@ -59,10 +59,10 @@ pub record FiveBits (kind : List ℕ) (v : ℕ) (a b c d e : Bool) : Type 0 wher
 pub five-bits : (kind : List ℕ) (v : ℕ) (a b c d e : Bool) → getD kind v 0 ≡ kind-byte a b c d e → FiveBits kind v a b c d e
 unfolding has-bit
 five-bits kind v a b c d e h =
-    let first = both-true _ _ (right a b c d e) in
-    let second = both-true _ _ (first .1) in
-    let third = both-true _ _ (second .1) in
-    let fourth = both-true _ _ (third .1) in
+    let first = both _ _ (right a b c d e) in
+    let second = both _ _ (first .1) in
+    let third = both _ _ (second .1) in
+    let fourth = both _ _ (third .1) in
     record {
       clue = rw h (same-bool-sound _ _ (first .0));
       bar-right = rw h (same-bool-sound _ _ (second .0));

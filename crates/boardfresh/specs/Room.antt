@@ -2,16 +2,16 @@
 -- rests on FreshArrays.antt.
 use Prim.Native.Nat.{ℕ, zero, suc, _+_, _*_, _≤_, _<_}
 use mathlib.Core.Path.{_≡_, refl, sym, ap, _∙_}
-use mathlib.Core.Bool.{Bool, true, false, _&&_}
+use mathlib.Core.Bool.{Bool, true, false}
 use mathlib.Core.List.{List, [], _∷_}
 use native.Mathlib.Omega.{arith}
 use lib.Dec.{eqb, leb}
 use lib.ListN.{getD, length}
-use borrow.Author.Tests.{leb-true, eqb-true, eqb-false, ne-eqb}
+use borrow.Author.Tests.{leb-true, ne-eqb}
 use Rattle.rules.specs.Drawing.{num}
 use Rattle.rules.specs.Grid.{Size}
+use Rattle.rules.specs.Tests.{all-below, all-below-at}
 use Rattle.boardview.specs.View.{pick, undecided-in}
-use Rattle.boardview.specs.Bytes.{both-true}
 use Rattle.boardfresh.specs.FreshArrays.{EdgesFrom, right-byte, down-byte, edge-byte}
 use Rattle.boardfresh.specs.EdgeBytes.{past-the-edges}
 
@@ -41,24 +41,10 @@ few-undecided (byte ∷ bytes) f start (suc n) same past =
         → pick (eqb byte 0) (suc (undecided-in bytes)) (undecided-in bytes) ≤ num (eqb (f start) 0) + zeros f (start + 1) n
     first e rest = rw (split (eqb byte 0), e, at-start) (omega arith)
 
--- a test of every number below n
-unfoldable all-below : ℕ → (ℕ → Bool) → Bool
-all-below zero test = true
-all-below (suc n) test = test n && all-below n test
-
-all-below-at : (n : ℕ) (test : ℕ → Bool) → all-below n test ≡ true → (m : ℕ) → m < n → test m ≡ true
-unfolding all-below
-all-below-at zero test h m k = absurd (omega arith)
-all-below-at (suc n) test h m k = go (eqb m n) refl (λ l. all-below-at n test (both-true (test n) (all-below n test) h .1) m l)
-  where
-    go : (b : Bool) → eqb m n ≡ b → (m < n → test m ≡ true) → test m ≡ true
-    go true e rest = rw (eqb-true m n e) (both-true (test n) (all-below n test) h .0)
-    go false e rest = rest (omega (arith, eqb-false m n e))
-
 abbrev few-enough : ℕ → ℕ → Bool
 few-enough height width = leb (zeros (edge-byte width (height * width)) 0 (32 + 2 * (height * width))) 480
 
-every-size : all-below 17 (λ height. all-below 17 (λ width. few-enough height width)) ≡ true
+every-size : all-below (λ height. all-below (λ width. few-enough height width) 17) 17 ≡ true
 unfolding all-below zeros edge-byte right-byte down-byte
 every-size = refl
 
@@ -73,4 +59,4 @@ room height width h w edges filled = omega (arith, counted, leb-true (zeros (edg
         (λ i k l. held i k ∙ ap (edge-byte width (height * width)) (omega arith)) (λ i k l. held i k ∙ sym (past-the-edges width (height * width) i l))
 
     tested : few-enough height width ≡ true
-    tested = all-below-at 17 (λ width. few-enough height width) (all-below-at 17 (λ height. all-below 17 (λ width. few-enough height width)) every-size height (omega arith)) width (omega arith)
+    tested = all-below-at (λ width. few-enough height width) 17 (all-below-at (λ height. all-below (λ width. few-enough height width) 17) 17 every-size height (omega arith)) width (omega arith)

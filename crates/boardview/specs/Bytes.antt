@@ -2,7 +2,7 @@
 -- and what the view shows after a byte is stored. It rests on View.antt.
 use Prim.Native.Nat.{ℕ, zero, suc, _+_, _*_, _-_, _%_, _/_, _≤_, _<_}
 use mathlib.Core.Path.{_≡_, refl, sym, ap, _∙_}
-use mathlib.Core.Bool.{Bool, true, false, _&&_}
+use mathlib.Core.Bool.{Bool, true, false}
 use mathlib.Core.List.{List, [], _∷_}
 use native.Mathlib.Nat.{not-suc-le-zero, le-of-suc-le-suc}
 use native.Mathlib.Omega.{arith}
@@ -12,6 +12,7 @@ use lib.Seq.{getD-set-same, getD-set-other}
 use lib.IntN.{ℤ}
 use borrow.Author.Tests.{eq-eqb, ne-eqb, eqb-true, eqb-false, le-leb, leb-true}
 use Rattle.rules.specs.Grid.{Edge, right, down, Grid}
+use Rattle.rules.specs.Tests.{both}
 use Rattle.model.specs.Board.{undecided, line, none, isLine, isUndecided, sameEdge, set-edge, on-board}
 use Rattle.boardview.specs.View.{Arrays, slot, edge-of, slot-on, state-of, view, pick, undecided-in, flag-in, end-at}
 
@@ -20,12 +21,6 @@ pub default-free : {A : Type 0} (l : List A) (i : ℕ) (a b : A) → i < length 
 default-free [] i a b h = absurd (not-suc-le-zero h)
 default-free (x ∷ xs) zero a b h = refl
 default-free (x ∷ xs) (suc i) a b h = default-free xs i a b (le-of-suc-le-suc h)
-
--- and: both
-pub both-true : (a b : Bool) → a && b ≡ true → (a ≡ true) × (b ≡ true)
-both-true true true h = (refl, refl)
-both-true true false h = absurd (let z : _≡_ {A = ℕ} 0 1 = cc in omega arith)
-both-true false b h = absurd (let z : _≡_ {A = ℕ} 0 1 = cc in omega arith)
 
 -- BYTES
 pub undecided-byte-test : (b : ℕ) → isUndecided (state-of b) ≡ eqb b 0
@@ -86,7 +81,7 @@ edge-on g (down v) = rw (down-slot v, le-leb 32 (33 + 2 * v) (omega arith)) refl
 
 pub on-slot : (g : Grid) (s : ℕ) → slot-on g s ≡ true → (32 ≤ s) × (on-board g (edge-of s) ≡ true)
 unfolding slot-on
-on-slot g s h = let b = both-true (leb 32 s) (on-board g (edge-of s)) h in (leb-true 32 s (b .0), b .1)
+on-slot g s h = let b = both (leb 32 s) (on-board g (edge-of s)) h in (leb-true 32 s (b .0), b .1)
 
 -- THE NUMBER OF UNDECIDED EDGES
 pub one-fewer : (l : List ℕ) (p v : ℕ) → p < length l → getD l p 0 ≡ 0 → 0 < v → undecided-in (set l p v) + 1 ≡ undecided-in l

@@ -2,7 +2,7 @@
 -- decision. It rests on Settle.antt and Steps.antt.
 use Prim.Native.Nat.{ℕ, zero, suc, _+_, _*_, _-_, _≤_, _<_}
 use mathlib.Core.Path.{_≡_, refl, sym, ap, _∙_, subst}
-use mathlib.Core.Bool.{Bool, true, false, _&&_, not}
+use mathlib.Core.Bool.{Bool, true, false, _&&_, not, false≢true}
 use mathlib.Core.List.{List, [], _∷_, _++_}
 use native.Mathlib.Omega.{arith}
 use native.Mathlib.Nat.{not-suc-le-zero}
@@ -10,6 +10,7 @@ use lib.Dec.{eqb, ltb}
 use lib.ListN.{getD}
 use borrow.Author.Tests.{eqb-true, eqb-false, eq-eqb, ne-eqb, lt-leb, le-leb, lt-ltb, le-ltb, ltb-true, ltb-false}
 use Rattle.rules.specs.Grid.{Edge, right, down, Grid, pads}
+use Rattle.rules.specs.Tests.{not-so}
 use Rattle.model.specs.Board.{line, none, isUndecided, End, through, at-pad, at-clue, other-clue, State, Item, check-pad, keep-apart, settle, when, Decide, Check, with-edge, keep-aparts, has-right, has-left, has-down, has-up, around, do-item, do-items, check-items, decide, check}
 use Rattle.boardview.specs.View.{Arrays, flag-in, ended-in, stopped, ended, pick, edge-of, slot-on, view, end-at, grid-in, undecided-in, Ready, Since, Decided, Done, then, in-a-row, shown, check-at, NoneAt, Settled, action-around, code-number, rival, keeps-apart, keep-at}
 use Rattle.boardview.specs.Bytes.{elim-true, elim-false, right-slot, down-slot, on-slot}
@@ -17,9 +18,6 @@ use Rattle.boardview.specs.Unwind.{since-still, since-then}
 use Rattle.boardview.specs.Stores.{flag-of-ended, ended-of-ended, logged-of-ended, recounted}
 use Rattle.boardview.specs.Steps.{row-append, row-ended, row-is, with-count, done-nothing, done-still, done-ended, done-decided, view-stopped, view-recounted, undecided-at, slot-is-on}
 use Rattle.boardview.specs.Settle.{Action, nothing, raise, draw, leave, action-is, slot-left, slot-right, slot-up, slot-down, edge-left, edge-up}
-
-never : true ≡ false → ⊥
-never e = let z : _≡_ {A = ℕ} 0 1 = cc in omega arith
 
 -- THE LAST PART
 module _ (kind : List ℕ) (s : Arrays) (y : Ready (grid-in kind) s) (v t : ℕ) (inside : v < pads (grid-in kind)) (e : t ≡ action-around kind (s .edges) (grid-in kind .width) v) where
@@ -160,7 +158,7 @@ module _ (g : Grid) (s : Arrays) (y : Ready g s) (code n u : ℕ) (h : n < 1024)
     where
       go : (t : Bool) → eqb (getD (s .edges) n 0) 0 ≡ t → pick t (rival (suc code) (code-number (end-at (s .ends) u))) false ≡ true → slot-on g n ≡ true
       go true e k = slot-is-on g s y n h (omega (arith, eqb-true (getD (s .edges) n 0) 0 e))
-      go false e k = absurd (never (sym k))
+      go false e k = absurd (false≢true k)
 
   pub keep-decides : acts-here ≡ true → (s′ : Arrays) → Decided g s (edge-of n) none s′ → Done g 0 s (keep-at g code n u) s′
   unfolding keep-at
@@ -172,11 +170,7 @@ pub keep-step : (g : Grid) (s : Arrays) (y : Ready g s) (code n u : ℕ) → n <
 keep-step g s y code n u h n′ e s′ d = go (ltb (s .count) 2048) refl (keeps-apart (s .edges) (s .ends) (suc code) n u) refl
   where
     off : slot-on g 0 ≡ false
-    off = go-off (slot-on g 0) refl
-      where
-        go-off : (b : Bool) → slot-on g 0 ≡ b → b ≡ false
-        go-off true k = absurd (omega (arith, on-slot g 0 k .0))
-        go-off false k = refl
+    off = not-so (slot-on g 0) (λ k. omega (arith, on-slot g 0 k .0))
 
     stays : n′ ≡ 0 → s ≡ with-count s′ (pick (eqb n′ 0) (s .count) (s′ .count))
     stays z = let r = d .rests (ap (slot-on g) z ∙ off) in let k : pick (eqb n′ 0) (s .count) (s′ .count) ≡ s .count = rw (eq-eqb n′ 0 z) refl in

@@ -2,7 +2,7 @@
 -- code computed them, arrays as it left them. It rests on Items.antt, Check.antt and Geometry.antt.
 use Prim.Native.Nat.{ℕ, zero, suc, _+_, _*_, _-_, _%_, _/_, _≤_, _<_}
 use mathlib.Core.Path.{_≡_, refl, sym, ap, _∙_, subst}
-use mathlib.Core.Bool.{Bool, true, false, _&&_, _||_}
+use mathlib.Core.Bool.{Bool, true, false, _&&_, false≢true}
 use mathlib.Core.List.{List, [], _++_, append-assoc}
 use native.Mathlib.Omega.{arith}
 use native.Mathlib.Nat.{mod-le}
@@ -13,18 +13,16 @@ use lib.IntN.{ℤ, pos}
 use borrow.Author.Tests.{eqb-true, eqb-false, eq-eqb, ne-eqb, lt-ltb, ltb-true}
 use Rattle.rules.specs.Grid.{Edge, right, down, first, second, Grid, pads}
 use Rattle.rules.specs.Drawing.{Side, on-left, on-right}
+use Rattle.rules.specs.Tests.{both, neither, conflict, not-so, is-so}
 use Rattle.model.specs.Board.{line, End, through, at-pad, at-clue, Item, has-right, has-left, has-down, has-up, has-side, on-board, barred, shape-items, keep-aparts, around}
 use Rattle.boardview.specs.View.{Arrays, logged, stopped, ended, going, pick, slot, edge-of, slot-on, state-of, end-at, second-pad, has-bit, grid-in, corner-bit, joined, undecided-in, Kinds, Ready, Decided, Done, NoneAt, Settled, unjoinable, pad-number, detour-at, corner-at, bar-at, check-at, code-number, keeps-apart, some-apart, clue-apart, keep-at, slot-around, past-around, action-around}
-use Rattle.boardview.specs.Bytes.{both-true, slot-of-edge, edge-on, on-slot, default-free}
+use Rattle.boardview.specs.Bytes.{slot-of-edge, edge-on, on-slot, default-free}
 use Rattle.boardview.specs.Unwind.{log-stored, log-joined, LineBegun}
 use Rattle.boardview.specs.Geometry.{column-before, right-on, down-on, beyond-right, upper-left, upper-right, upper, lower-left, lower-right, lower, right-items, left-side, lower-left-side, far-left, right-side, lower-right-side, far-right, down-items}
 use Rattle.boardview.specs.Stores.{Stored, going-count, few-logged, first-inside, second-inside}
 use Rattle.boardview.specs.Steps.{with-count, done-then, done-as, done-nothing, slot-is-on}
 use Rattle.boardview.specs.Check.{settle-nothing, settle-raise, leave-slot, settle-none, draw-slot, settle-line, keep-rests, keep-step, keeps-is, first-items}
 use Rattle.boardview.specs.Items.{none-arrays, none-stored, decided-none, decided-same, decided-other, line-stopped, line-arrays, line-stored, decided-line}
-
-never : true ≡ false → ⊥
-never e = let z : _≡_ {A = ℕ} 0 1 = cc in omega arith
 
 pub same-on : {a b c : Bool} → a ≡ c → b ≡ c → a ≡ true → b ≡ true
 same-on p q h = q ∙ (sym p ∙ h)
@@ -91,7 +89,7 @@ module _ (kind : List ℕ) (s : Arrays) (n : ℕ) (h : n < 1024) (k : Kinds kind
       none-returns v q w ev ew eq s₁ s₂ d₁ d₂ c ec = record {
         acts = λ on. rw ec (decided-none g s (edge-of n) y edge-there byte-there s₂ (subst (λ (x : Arrays). Done g 1 x (check-at (first (edge-of n)) ++ check-at (second (g .width) (edge-of n))) s₂) (sym starts)
             (rw (ev ∙ first-is, (rw ew at eq) ∙ second-is) at (done-then g d₁ d₂))));
-        rests = λ off. absurd (never (sym none-on ∙ off));
+        rests = λ off. conflict none-on off;
       }
 
   -- decided before
@@ -152,18 +150,10 @@ module _ (kind : List ℕ) (s : Arrays) (e : Edge) (k : Kinds kind) (y : Ready (
       unjoined-there x = unjoinable (end-at (s .ends) (first e)) (end-at (s .ends) x) x
 
       cannot-join : 2048 ≤ s₁ .count → unjoined-there q ≡ true
-      cannot-join high = go (unjoined-there q) refl
-        where
-          go : (b : Bool) → unjoined-there q ≡ b → b ≡ true
-          go true eb = refl
-          go false eb = absurd (omega (arith, begun .joins eb .2, going-count (s .count) (y .mode) .0, going-count (s .count) (y .mode) .1, line-room))
+      cannot-join high = is-so (unjoined-there q) (λ eb. omega (arith, begun .joins eb .2, going-count (s .count) (y .mode) .0, going-count (s .count) (y .mode) .1, line-room))
 
       can-join : s₁ .count < 2048 → unjoined-there q ≡ false
-      can-join low = go (unjoined-there q) refl
-        where
-          go : (b : Bool) → unjoined-there q ≡ b → b ≡ false
-          go true eb = absurd (omega (arith, begun .cannot eb .2))
-          go false eb = refl
+      can-join low = not-so (unjoined-there q) (λ eb. omega (arith, begun .cannot eb .2))
 
       pub line-stops : 2048 ≤ s₁ .count → Decided gg s e line s₁
       line-stops high = let b = begun .cannot (cannot-join high) in
@@ -249,14 +239,11 @@ module _ (kind : List ℕ) (k : Kinds kind) (few : pads (grid-in kind) ≤ 256) 
   bars-left : has-bit kind (v + 1) 4 ≡ ((has-down gr (v + 1) && has-side gr on-left (v + 1)) && barred gr on-left (gr .height) (v + 1))
   bars-left = k .bars on-left (v + 1) right-beyond
 
-  first-true : (a b c : Bool) → ((a && b) && c) ≡ true → a ≡ true
-  first-true a b c h = both-true a b (both-true (a && b) c h .0) .0
-
   pub right-bar-on : has-bit kind v 2 ≡ true → slot-on gr (33 + 2 * v) ≡ true
-  right-bar-on h = right-left ∙ first-true (has-down gr v) (has-right gr v) (barred gr on-right (gr .height) v) (sym bars-right ∙ h)
+  right-bar-on h = right-left ∙ both (has-down gr v) (has-right gr v) (both _ (barred gr on-right (gr .height) v) (sym bars-right ∙ h) .0) .0
 
   pub left-bar-on : has-bit kind (v + 1) 4 ≡ true → slot-on gr (35 + 2 * v) ≡ true
-  left-bar-on h = ap (slot-on gr) at ∙ (edge-on gr (down (v + 1)) ∙ first-true (has-down gr (v + 1)) (has-left gr (v + 1)) (barred gr on-left (gr .height) (v + 1)) (sym bars-left ∙ h))
+  left-bar-on h = ap (slot-on gr) at ∙ (edge-on gr (down (v + 1)) ∙ both (has-down gr (v + 1)) (has-left gr (v + 1)) (both _ (barred gr on-left (gr .height) (v + 1)) (sym bars-left ∙ h) .0) .0)
     where
       at : 35 + 2 * v ≡ slot (down (v + 1))
       at = omega arith
@@ -340,14 +327,11 @@ module _ (kind : List ℕ) (k : Kinds kind) (few : pads (grid-in kind) ≤ 256) 
   bars-down-right : has-bit kind v 2 ≡ ((has-down gd v && has-side gd on-right v) && barred gd on-right (gd .height) v)
   bars-down-right = k .bars on-right v (omega (arith, down-inside))
 
-  second-true : (a b c : Bool) → ((a && b) && c) ≡ true → b ≡ true
-  second-true a b c h = both-true a b (both-true (a && b) c h .0) .1
-
   pub down-left-bar-on : has-bit kind v 4 ≡ true → slot-on gd (30 + 2 * v) ≡ true
-  down-left-bar-on h = down-left ∙ second-true (has-down gd v) (has-left gd v) (barred gd on-left (gd .height) v) (sym bars-down-left ∙ h)
+  down-left-bar-on h = down-left ∙ both (has-down gd v) (has-left gd v) (both _ (barred gd on-left (gd .height) v) (sym bars-down-left ∙ h) .0) .1
 
   pub down-right-bar-on : has-bit kind v 2 ≡ true → slot-on gd (32 + 2 * v) ≡ true
-  down-right-bar-on h = down-right ∙ second-true (has-down gd v) (has-right gd v) (barred gd on-right (gd .height) v) (sym bars-down-right ∙ h)
+  down-right-bar-on h = down-right ∙ both (has-down gd v) (has-right gd v) (both _ (barred gd on-right (gd .height) v) (sym bars-down-right ∙ h) .0) .1
 
   pub down-done : {s₀ s′ : Arrays} (x y : ℕ) → x ≡ pick (has-bit kind v 16) (31 + 2 * v) 0 → y ≡ pick (has-bit kind v 8) (35 + 2 * v) 0 → (L : List Item)
       → Done gd 1 s₀ (detour-at gd (30 + 2 * v) (30 + 2 * v + 2 * w) (31 + 2 * v)
@@ -372,13 +356,13 @@ module _ (kind : List ℕ) (k : Kinds kind) (q : ℕ) (inside : q < pads (grid-i
     corner-exists = sym (k .corners side q inside) ∙ sym et
 
   pub corner-down : (side : Side) → t ≡ has-bit kind q (corner-bit side) → t ≡ true → on-board gc (down q) ≡ true
-  corner-down side et ht = both-true (has-down gc q) (has-side gc side q) (corner-exists side et ∙ ht) .0
+  corner-down side et ht = both (has-down gc q) (has-side gc side q) (corner-exists side et ∙ ht) .0
 
   pub corner-line-right : t ≡ has-bit kind q 8 → t ≡ true → on-board gc (right q) ≡ true
-  corner-line-right et ht = rw (both-true (has-down gc q) (has-right gc q) (corner-exists on-right et ∙ ht) .1, lt-ltb q (pads gc) inside) refl
+  corner-line-right et ht = rw (both (has-down gc q) (has-right gc q) (corner-exists on-right et ∙ ht) .1, lt-ltb q (pads gc) inside) refl
 
   left-column : t ≡ has-bit kind q 16 → t ≡ true → 0 < q % gc .width
-  left-column et ht = ltb-true 0 (q % gc .width) (both-true (has-down gc q) (has-left gc q) (corner-exists on-left et ∙ ht) .1)
+  left-column et ht = ltb-true 0 (q % gc .width) (both (has-down gc q) (has-left gc q) (corner-exists on-left et ∙ ht) .1)
 
   pub corner-not-first : t ≡ has-bit kind q 16 → t ≡ true → 1 ≤ q
   corner-not-first et ht = omega (arith, left-column et ht, mod-le q (gc .width))
@@ -437,10 +421,6 @@ module _ (kind : List ℕ) (s : Arrays) (k : Kinds kind) (y : Ready (grid-in kin
     low-slots : (30 + 2 * v < 1024) × (32 + 2 * v < 1024) × (33 + 2 * v - 2 * w < 1024) × (33 + 2 * v < 1024)
     low-slots = omega (arith, small-pad)
 
-    neither : (a b : Bool) → (a || b) ≡ false → (a ≡ false) × (b ≡ false)
-    neither true b h = absurd (never h)
-    neither false b h = (refl, h)
-
     none-apart : (code : ℕ) → some-apart (s .edges) (s .ends) w (suc code) v ≡ false → Done gk 0 s (keep-aparts code (around gk v)) s
     unfolding some-apart
     none-apart code h =
@@ -468,7 +448,7 @@ module _ (kind : List ℕ) (s : Arrays) (k : Kinds kind) (y : Ready (grid-in kin
     clue-there ht code ec = go (eqb (code-number (end-at (s .ends) v)) 0) refl (sym et ∙ ht)
       where
         go : (b : Bool) → eqb (code-number (end-at (s .ends) v)) 0 ≡ b → pick b false (some-apart (s .edges) (s .ends) w (code-number (end-at (s .ends) v)) v) ≡ true → 1 ≤ code
-        go true e h = absurd (never (sym h))
+        go true e h = absurd (false≢true h)
         go false e h = omega (arith, ec, eqb-false (code-number (end-at (s .ends) v)) 0 e)
 
   clue-items : (code : ℕ) (E : End) → code ≡ code-number E → 1 ≤ code → first-items gk v E ≡ keep-aparts (code - 1) (around gk v)

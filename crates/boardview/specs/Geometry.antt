@@ -2,7 +2,7 @@
 -- items of steps d and e, in the same order. It rests on View.antt and Bytes.antt; geometry is by flat indexes v, v + 1, v + width.
 use Prim.Native.Nat.{ℕ, _+_, _*_, _-_, _%_, _/_, _≤_, _<_}
 use mathlib.Core.Path.{_≡_, refl, sym, ap, _∙_}
-use mathlib.Core.Bool.{Bool, true, false, _&&_}
+use mathlib.Core.Bool.{Bool, true, false, _&&_, and-true}
 use mathlib.Core.List.{List, [], _∷_, _++_, append-assoc}
 use native.Mathlib.Omega.{arith}
 use native.Mathlib.Nat.{add-mod-right, mod-add-mod, mod-eq-of-lt, mod-le, mod-lt, mod-self, mul-mod-left}
@@ -10,9 +10,10 @@ use lib.Dec.{eqb, ltb}
 use borrow.Author.Tests.{lt-ltb, le-ltb, ltb-true, ltb-false, lt-leb, leb-true, leb-false}
 use Rattle.rules.specs.Grid.{Edge, right, down, Grid, pads}
 use Rattle.rules.specs.Drawing.{on-left, on-right}
+use Rattle.rules.specs.Tests.{both}
 use Rattle.model.specs.Board.{Item, bar, detours, when, has-right, has-left, has-down, has-up, on-board, has-side, barred, corner-right, corner-left, shape-items}
 use Rattle.boardview.specs.View.{pick, slot, edge-of, second-pad, slot-on, detour-at, corner-at, bar-at}
-use Rattle.boardview.specs.Bytes.{both-true, right-slot, down-slot, edge-on, on-slot}
+use Rattle.boardview.specs.Bytes.{right-slot, down-slot, edge-on, on-slot}
 
 -- COLUMNS
 module _ (H W v : ℕ) where
@@ -56,7 +57,7 @@ module _ (g : Grid) (p : 2 ≤ g .width) (q : g .width ≤ 16) where
   W = g .width
 
   pub right-on : (v : ℕ) → on-board g (right v) ≡ true → (v % W + 1 < W) × (v < pads g)
-  right-on v h = let b = both-true (has-right g v) (ltb v (pads g)) h in (ltb-true _ _ (b .0), ltb-true _ _ (b .1))
+  right-on v h = let b = both (has-right g v) (ltb v (pads g)) h in (ltb-true _ _ (b .0), ltb-true _ _ (b .1))
 
   pub down-on : (v : ℕ) → on-board g (down v) ≡ true → v + W < pads g
   down-on v h = ltb-true _ _ h
@@ -285,21 +286,13 @@ module _ (g : Grid) (p : 2 ≤ g .width) (q : g .width ≤ 16) where
         go false e = rw (eb, on, e) (low-off 0 (omega arith))
 
     pub right-side : slot-on g (32 + 2 * v) ≡ has-right g v
-    right-side = edge-on g (right v) ∙ go (has-right g v)
-      where
-        go : (b : Bool) → (b && ltb v (pads g)) ≡ b
-        go true = lt-ltb v (pads g) (omega (arith, below))
-        go false = refl
+    right-side = edge-on g (right v) ∙ rw (lt-ltb v (pads g) (omega (arith, below))) (and-true (has-right g v))
 
     pub lower-right-side : slot-on g (32 + 2 * v + 2 * W) ≡ has-right g v
-    lower-right-side = slot-is _ (right (v + W)) at ∙ (ap (λ (x : Bool). x && ltb (v + W) (pads g)) (below-column v) ∙ go (has-right g v))
+    lower-right-side = slot-is _ (right (v + W)) at ∙ (ap (λ (x : Bool). x && ltb (v + W) (pads g)) (below-column v) ∙ rw on (and-true (has-right g v)))
       where
         at : 32 + 2 * v + 2 * W ≡ slot (right (v + W))
         at = omega arith
-
-        go : (b : Bool) → (b && ltb (v + W) (pads g)) ≡ b
-        go true = on
-        go false = refl
 
     pub far-right : (b : Bool) → b ≡ (has-down g v && has-side g on-right v) → slot-on g (pick b (35 + 2 * v) 0) ≡ has-right g v
     far-right b eb = go (has-right g v) refl

@@ -1,8 +1,8 @@
 -- What each way through corner and bar does, and what a decision does: the edge decided before, a line that cannot be, none, and a line
 -- whose ends are joined. It rests on Steps.antt and Stores.antt; the corners are one law over the side.
-use Prim.Native.Nat.{ℕ, zero, suc, _+_, _*_, _-_, _%_, _≤_, _<_}
+use Prim.Native.Nat.{ℕ, zero, suc, _+_, _*_, _%_, _≤_, _<_}
 use mathlib.Core.Path.{_≡_, refl, sym, ap, _∙_}
-use mathlib.Core.Bool.{Bool, true, false, _&&_, _||_, not}
+use mathlib.Core.Bool.{Bool, true, false, _&&_, not}
 use mathlib.Core.List.{List, [], _∷_, _++_}
 use native.Mathlib.Omega.{arith}
 use native.Mathlib.Nat.{not-suc-le-zero}
@@ -12,15 +12,13 @@ use lib.IntN.{pos}
 use borrow.Author.Tests.{eq-eqb, ne-eqb, lt-leb, le-leb, lt-ltb}
 use Rattle.rules.specs.Grid.{Edge, down, first, second, Grid}
 use Rattle.rules.specs.Drawing.{Side}
+use Rattle.rules.specs.Tests.{both-off, neither}
 use Rattle.model.specs.Board.{EdgeState, line, none, isLine, isUndecided, isBlank, sameState, End, through, at-pad, at-clue, isThrough, State, set-edge, set-flag, Item, corner, bar, check-pad, check-end, when, on-board, has-down, has-side, shape-items, do-items, cannot-join, join-ends, after-store, decide, check}
 use Rattle.boardview.specs.View.{Arrays, logged, flag-in, stopped, ended, going, slot, edge-of, slot-on, state-of, view, end-at, has-bit, clue-bit, cell-in, grid-in, joined, undecided-in, Ready, Decided, Done, then, in-a-row, shown, corner-at, bar-at, check-at, beside, unjoinable, pad-number}
 use Rattle.boardview.specs.Bytes.{default-free, elim-true, elim-false, undecided-byte-test, on-slot, view-stored}
 use Rattle.boardview.specs.Unwind.{since-still, since-then, log-stored, log-joined}
 use Rattle.boardview.specs.Stores.{flag-of-ended, ended-of-ended, logged-of-ended, going-count, next-count, recounted, Stored, slot-inside, few-logged, first-inside, second-inside, edge-is-stored, line-is-joined, joined-view}
 use Rattle.boardview.specs.Steps.{row-is, with-count, done-nothing, done-still, done-stopped, done-decided, view-stopped, view-recounted, line-at, slot-is-on, corner-no, corner-two, corner-stops, bar-no, bar-acts}
-
-never : true ≡ false → ⊥
-never e = let z : _≡_ {A = ℕ} 0 1 = cc in omega arith
 
 -- a decision hands its arrays on with another count
 pub recount-decided : {g : Grid} {s s′ : Arrays} {e : Edge} {m : EdgeState} → Decided g s e m s′ → Ready g (with-count s′ (going (s′ .count)))
@@ -42,10 +40,6 @@ module _ (kind : List ℕ) (side : Side) (s : Arrays) (y : Ready (grid-in kind) 
   line-test : slot-on g a ≡ true → isLine (view s .edge (edge-of a)) ≡ eqb (getD (s .edges) a 0) 1
   line-test e = line-at s a (on-slot g a e .0) (omega (arith, y .edges-long))
 
-  never-both : (b : Bool) → (b && false) ≡ false
-  never-both true = refl
-  never-both false = refl
-
   pub corner-off : (getD (s .edges) a 0 ≡ 1 → ⊥) → Done g 1 s (corner-at g side q a) s
   unfolding corner-at
   corner-off n = go (slot-on g a) refl
@@ -53,7 +47,7 @@ module _ (kind : List ℕ) (side : Side) (s : Arrays) (y : Ready (grid-in kind) 
       go : (t : Bool) → slot-on g a ≡ t → Done g 1 s (when t (corner q (edge-of a) (has-down g q && has-side g side q) (beside side q) (down q) ∷ [])) s
       go false e = done-nothing g 1 s y
       go true e = done-still g 1 s _ y going-on
-          (λ f. corner-no g (decide g f) (check g f) (view s) q _ _ _ _ (rw (line-test e ∙ ne-eqb (getD (s .edges) a 0) 1 n) (never-both (isBlank (g .cell q)))))
+          (λ f. corner-no g (decide g f) (check g f) (view s) q _ _ _ _ (both-off (isBlank (g .cell q)) _ (line-test e ∙ ne-eqb (getD (s .edges) a 0) 1 n)))
 
   module _ (l : getD (s .edges) a 0 ≡ 1) where
     corner-on : slot-on g a ≡ true
@@ -293,13 +287,9 @@ module _ (g : Grid) (s : Arrays) (e : Edge) (y : Ready g s) (on : on-board g e �
   }
 
   module _ (b : unjoinable (end-at (s .ends) (first e)) (end-at (s .ends) (second (g .width) e)) (second (g .width) e) ≡ false) where
-    not-first : (a c : Bool) → (a || c) ≡ false → a ≡ false
-    not-first true c h = absurd (never h)
-    not-first false c h = refl
-
     not-passed : isThrough (end-at (s .ends) (first e)) ≡ false
     unfolding unjoinable
-    not-passed = not-first _ _ b
+    not-passed = neither _ _ b .0
 
     pub line-stored : Stored g s line-arrays
     line-stored = line-is-joined g s e y on z (going (s .count) + 1) counted (omega (arith, next .1)) not-passed

@@ -2,7 +2,7 @@
 -- what the model does. It rests on Geometry.antt and Steps.antt.
 use Prim.Native.Nat.{ℕ, _+_, _*_, _-_, _%_, _≤_, _<_}
 use mathlib.Core.Path.{_≡_, refl, sym, ap, _∙_}
-use mathlib.Core.Bool.{Bool, true, false, _&&_, _||_, not}
+use mathlib.Core.Bool.{Bool, true, false, _&&_, _||_, and-true, and-false, or-true, Bool·not-not}
 use mathlib.Core.List.{List, []}
 use native.Mathlib.Omega.{arith}
 use native.Mathlib.Nat.{mod-le}
@@ -47,11 +47,7 @@ module _ (g : Grid) (p : 2 ≤ g .width) (q : g .width ≤ 16) (v : ℕ) (inside
           start false f = low-off g p q _ (omega (arith, ltb-false 0 v f))
 
   pub slot-right : slot-on g (32 + 2 * v) ≡ has-right g v
-  slot-right = edge-on g (right v) ∙ go (has-right g v)
-    where
-      go : (b : Bool) → (b && ltb v (pads g)) ≡ b
-      go true = lt-ltb v (pads g) inside
-      go false = refl
+  slot-right = edge-on g (right v) ∙ rw (lt-ltb v (pads g) inside) (and-true (has-right g v))
 
   pub slot-up : slot-on g (33 + 2 * v - 2 * W) ≡ has-up g v
   slot-up = go (has-up g v) refl
@@ -201,12 +197,8 @@ module _ (kind : List ℕ) (s : Arrays) (y : Ready (grid-in kind) s) (v : ℕ) (
     lines-one g s y (32 + 2 * v) low-right (has-right g v) at-right (right v) is-right (v + 1) from-up,
     lines-one g s y (33 + 2 * v - 2 * w) low-up (has-up g v) at-up (down (v - w)) is-up (v - w) from-down,
     lines-one g s y (33 + 2 * v) low-down (has-down g v) at-down (down v) is-down (v + w) [],
-    twice (has-bit kind v clue-bit),
+    Bool·not-not (has-bit kind v clue-bit),
   ) (omega arith)
-    where
-      twice : (b : Bool) → num (not (not b)) ≡ num b
-      twice true = refl
-      twice false = refl
 
   -- the first undecided edge
   module _ (dec : Decide) (m : EdgeState) where
@@ -310,14 +302,6 @@ module _ (kind : List ℕ) (s : Arrays) (y : Ready (grid-in kind) s) (v : ℕ) (
   -- THE ACTION
   first-facts : (N (λ e m S. S) ≡ 0 → ⊥) → (getD es (first-around es w v) 0 ≡ 0) × (first-around es w v < 1024)
   first-facts h = let c = first-undecided (λ e m S. S) line h in (c .1, c .2)
-
-  or-true : (b : Bool) → (b || true) ≡ true
-  or-true true = refl
-  or-true false = refl
-
-  and-false : (b : Bool) → (b && false) ≡ false
-  and-false true = refl
-  and-false false = refl
 
   abbrev dd : ℕ
   dd = degree-around kind es w v

@@ -1,9 +1,9 @@
 -- Laws of the end numbers as the code holds them: what the sign of an i32 says of the end, that -1 - a is exact for a negative a, and what
 -- the stores of step c and of undo leave. It rests on View.antt and on the kit's account of i32.
 use mathlib.Core.Path.{_≡_, refl, sym, ap, _∙_}
-use mathlib.Core.Bool.{Bool, true, false, not, _||_}
+use mathlib.Core.Bool.{Bool, true, false, not, _||_, true≢false}
 use mathlib.Core.List.{List}
-use Prim.Native.Nat.{ℕ, zero, suc, _-_, _^_, _≤_, _<_}
+use Prim.Native.Nat.{ℕ, zero, suc, _^_, _≤_, _<_}
 use native.Mathlib.Omega.{arith}
 use lib.ListN.{getD, set, length, length-set}
 use lib.Seq.{set-out}
@@ -24,9 +24,6 @@ back z f = toZ-ofZ w32 z f
 pub from-bits : (z : ℤ) (n : ℕ) → SFits w32 z → ofZ w32 z ≡ n → z ≡ toZ w32 n
 from-bits z n f e = sym (back z f) ∙ ap (toZ w32) e
 
-never : true ≡ false → ⊥
-never e = let z : _≡_ {A = ℕ} 0 1 = cc in omega arith
-
 pub negative : (e : ℤ) → SFits w32 e → ltZ (toZ w32 (ofZ w32 e)) (pos 0) ≡ true → (k : ℕ) × (e ≡ negsuc k)
 negative e f h = signs e (rw (back e f) at h)
   where
@@ -39,7 +36,7 @@ not-negative e f h = signs e f (rw (back e f) at h)
   where
     signs : (e : ℤ) → SFits w32 e → ltZ e (pos 0) ≡ false → (n : ℕ) × (e ≡ pos n) × (n < 2 ^ 31)
     signs (pos k) f h = (k, refl, f .sfits)
-    signs (negsuc k) f h = absurd (never h)
+    signs (negsuc k) f h = absurd (true≢false h)
 
 pub no-pad : (e : ℤ) → (k : ℕ) × (e ≡ negsuc k) → 512 ≡ pad-number (end-of e)
 unfolding pad-number end-of
@@ -101,9 +98,9 @@ end-read ends v h l = ap end-of (default-free ends v (pos 0) (pos v) (omega arit
 -- STEP C'S TEST, in the code's order
 clue-rivals : (q : ℕ) (A B : End) → isThrough A ≡ false → isThrough B ≡ false → (code-number A ≡ 0 → ⊥) → rival (code-number A) (code-number B) ≡ (unequal-negative A B || isPad A q)
 unfolding rival code-number
-clue-rivals q through B h k n = absurd (never h)
+clue-rivals q through B h k n = absurd (true≢false h)
 clue-rivals q (at-pad a) B h k n = absurd (n refl)
-clue-rivals q (at-clue c) through h k n = absurd (never k)
+clue-rivals q (at-clue c) through h k n = absurd (true≢false k)
 clue-rivals q (at-clue c) (at-pad b) h k n = refl
 clue-rivals q (at-clue c) (at-clue d) h k n = rw (ne-eqb (suc d) 0 (omega arith)) (same (eqb c d) refl)
   where
@@ -113,7 +110,7 @@ clue-rivals q (at-clue c) (at-clue d) h k n = rw (ne-eqb (suc d) 0 (omega arith)
 
 pad-same : (q : ℕ) (A B : End) → isThrough A ≡ false → code-number A ≡ 0 → eqb (pad-number A) q ≡ (unequal-negative A B || isPad A q)
 unfolding pad-number code-number
-pad-same q through B h n = absurd (never h)
+pad-same q through B h n = absurd (true≢false h)
 pad-same q (at-pad a) B h n = refl
 pad-same q (at-clue c) B h n = absurd (omega arith)
 

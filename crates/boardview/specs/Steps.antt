@@ -1,6 +1,6 @@
 -- Items in a row: parts of a decision one after the other, and what each way through detour, corner and bar does. It rests on
 -- View.antt and Stores.antt. A part that was done tells the view, the number of undecided edges, the arrays' invariant and the log.
-use Prim.Native.Nat.{ℕ, _+_, _*_, _-_, _≤_, _<_}
+use Prim.Native.Nat.{ℕ, _+_, _*_, _≤_, _<_}
 use mathlib.Core.Path.{_≡_, refl, sym, ap, _∙_}
 use mathlib.Core.Bool.{Bool, true, false, _&&_}
 use mathlib.Core.List.{List, [], _∷_, _++_}
@@ -9,6 +9,7 @@ use lib.Dec.{eqb}
 use lib.ListN.{getD, length}
 use borrow.Author.Tests.{eq-eqb, ne-eqb, lt-leb, le-leb}
 use Rattle.rules.specs.Grid.{Edge, Grid}
+use Rattle.rules.specs.Tests.{is-so}
 use Rattle.model.specs.Board.{EdgeState, line, none, isLine, isUndecided, isBlank, State, set-flag, Item, detour, corner, bar, when, Decide, Check, do-item, do-items, decide, check}
 use Rattle.boardview.specs.View.{Arrays, flag-in, ended-in, stopped, edge-of, slot-on, state-of, view, undecided-in, Ready, Decided, Done, then, in-a-row, shown, detour-at}
 use Rattle.boardview.specs.Bytes.{default-free, elim-true, elim-false, line-byte-test, undecided-byte-test, slot-of-edge, on-slot}
@@ -129,17 +130,10 @@ line-at s n h k = ap isLine (state-at s n h k) ∙ line-byte-test (getD (s .edge
 pub undecided-at : (s : Arrays) (n : ℕ) → 32 ≤ n → n < length (s .edges) → isUndecided (view s .edge (edge-of n)) ≡ eqb (getD (s .edges) n 0) 0
 undecided-at s n h k = ap isUndecided (state-at s n h k) ∙ undecided-byte-test (getD (s .edges) n 0)
 
-never : true ≡ false → ⊥
-never e = let z : _≡_ {A = ℕ} 0 1 = cc in omega arith
-
 -- a slot with a line, or undecided, is on the board
 module _ (g : Grid) (s : Arrays) (y : Ready g s) (n : ℕ) (h : n < 1024) (k : getD (s .edges) n 0 < 2) where
   pub slot-is-on : slot-on g n ≡ true
-  slot-is-on = go (slot-on g n) refl
-    where
-      go : (b : Bool) → slot-on g n ≡ b → b ≡ true
-      go true e = refl
-      go false e = absurd (omega (arith, y .rim n h e))
+  slot-is-on = is-so (slot-on g n) (λ e. omega (arith, y .rim n h e))
 
 -- WHAT THE MODEL'S ITEMS DO, by their tests
 module _ (g : Grid) (dec : Decide) (chk : Check) (S : State) where

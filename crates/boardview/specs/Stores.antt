@@ -9,8 +9,9 @@ use lib.Dec.{eqb, ltb, leb}
 use lib.ListN.{getD, set, length, length-set}
 use lib.Seq.{getD-set-same, getD-set-other}
 use lib.IntN.{ℤ, pos, negsuc, natAbs}
-use borrow.Author.Tests.{eqb-true, eqb-false, eq-eqb, ne-eqb, lt-leb, le-leb, ltb-true, ltb-false}
+use borrow.Author.Tests.{eqb-true, eqb-false, eq-eqb, ne-eqb, lt-leb, le-leb, leb-true, leb-false, ltb-true, ltb-false}
 use Rattle.rules.specs.Grid.{Edge, right, down, first, second, Grid, pads}
+use Rattle.rules.specs.Tests.{conflict}
 use Rattle.model.specs.Board.{at-pad, isThrough, set-edge, on-board, joined-ends, join-ends}
 use Rattle.boardview.specs.View.{Arrays, logged, flag-in, ended-in, stopped, ended, going, pick, slot, slot-on, state-of, view, end-of, end-at, second-pad, joined, undecided-in, Entry, Ready, Since}
 use Rattle.boardview.specs.Bytes.{edge-on, one-fewer, some-undecided, edge-stored}
@@ -56,19 +57,8 @@ pub next-count : (c : ℕ) → c % 1024 < 1000 → c < 2048 → ((c + 1) % 1024 
 next-count c h k = (omega arith, omega arith, go (leb 1024 c) refl)
   where
     go : (b : Bool) → leb 1024 c ≡ b → flag-in (c + 1) ≡ b
-    go true e = le-leb 1024 (c + 1) (omega (arith, leb-true′ e))
-      where
-        leb-true′ : leb 1024 c ≡ true → 1024 ≤ c
-        leb-true′ x = pick-le (ltb c 1024) refl x
-          where
-            pick-le : (t : Bool) → ltb c 1024 ≡ t → leb 1024 c ≡ true → 1024 ≤ c
-            pick-le true a x = absurd (let z : true ≡ false = sym x ∙ lt-leb 1024 c (ltb-true c 1024 a) in let y : _≡_ {A = ℕ} 0 1 = cc in omega arith)
-            pick-le false a x = ltb-false c 1024 a
-    go false e = lt-leb 1024 (c + 1) (last (ltb c 1024) refl)
-      where
-        last : (t : Bool) → ltb c 1024 ≡ t → c + 1 < 1024
-        last true a = omega (arith, ltb-true c 1024 a)
-        last false a = absurd (let z : true ≡ false = sym (le-leb 1024 c (ltb-false c 1024 a)) ∙ e in let y : _≡_ {A = ℕ} 0 1 = cc in omega arith)
+    go true e = le-leb 1024 (c + 1) (omega (arith, leb-true 1024 c e))
+    go false e = lt-leb 1024 (c + 1) (omega (arith, leb-false 1024 c e))
 
 -- THE SAME ARRAYS with another count of the same length
 pub recounted : (g : Grid) (s : Arrays) (c : ℕ) → Ready g s → c % 1024 ≡ logged s → c < 3072 → Ready g (record { edges = s .edges; ends = s .ends; log = s .log; count = c })
@@ -125,7 +115,7 @@ module _ (g : Grid) (s : Arrays) (e : Edge) (y : Ready g s) (on : on-board g e �
       go false q = rw (getD-set-other (s .edges) (slot e) n b 2 (eqb-false n (slot e) q)) (y .bytes n)
 
   rim-stored : (b : ℕ) (n : ℕ) → n < 1024 → slot-on g n ≡ false → getD (set (s .edges) (slot e) b) n 0 ≡ 2
-  rim-stored b n h off = getD-set-other (s .edges) (slot e) n b 0 (λ q. absurd (let x : true ≡ false = sym (edge-on g e ∙ on) ∙ (ap (slot-on g) (sym q) ∙ off) in let k : _≡_ {A = ℕ} 0 1 = cc in omega arith)) ∙ y .rim n h off
+  rim-stored b n h off = getD-set-other (s .edges) (slot e) n b 0 (λ q. conflict (edge-on g e ∙ on) (ap (slot-on g) (sym q) ∙ off)) ∙ y .rim n h off
 
   -- the entries of a longer log
   entry-kept : (log : List ℤ) (n : ℕ) → ((i : ℕ) → i < 4 * logged s → getD log i (pos 0) ≡ getD (s .log) i (pos 0)) → n < logged s → Entry g log n

@@ -2,7 +2,7 @@
 -- the degree test fails or a decision sets the flag there is no such drawing; else the branch goes on from the next pad.
 use Prim.Native.Nat.{ℕ, _+_, _-_, _%_, _≤_, _<_}
 use mathlib.Core.Path.{_≡_, refl, _∙_, ap}
-use mathlib.Core.Logic.{_⊎_, ⊎-elim, ⊎-map}
+use mathlib.Core.Logic.{⊎-map}
 use mathlib.Core.Bool.{Bool, true, false, _&&_, _||_}
 use mathlib.Core.List.{List, [], List·Memᴰ, List·Memᴰ·not-nil, map}
 use native.Mathlib.Omega.{arith}
@@ -11,9 +11,9 @@ use lib.Dec.{eqb}
 use Rattle.rules.specs.Grid.{Edge, first, Grid, pads, OnBoard, right, down}
 use Rattle.rules.specs.Drawing.{Drawing, drawn, num, Listed}
 use Rattle.rules.specs.Record.{record-of, Ascending}
+use Rattle.rules.specs.Tests.{either-on, conflict}
 use Rattle.model.specs.Board.{EdgeState, isLine, isUndecided, State, with-edge, line-or-none, has-right, has-left, has-down, has-up, around, decide, enough, undecided, line, none}
 use Rattle.model.specs.Search.{Event, next-pad, degree-so-far, try}
-use Rattle.propagation.specs.Tests.{conflict}
 use Rattle.propagation.specs.Edges.{line-or-none-decided}
 use Rattle.propagation.specs.Objects.{AllHold}
 use Rattle.propagation.specs.Items.{Onward, onward-trans}
@@ -56,10 +56,6 @@ module _ (g : Grid) (proper : Proper g) where
     where
       zero-plus : (n : ℕ) → n ≡ 0 + n
       zero-plus n = omega arith
-
-  or-on : (a b : Bool) → (a ≡ true) ⊎ (b ≡ true) → (a || b) ≡ true
-  or-on true b h = refl
-  or-on false b h = ⊎-elim (λ k. conflict k refl) (λ k. k) h
 
   module _ (S : State) (v : ℕ) (at : StandsAt g proper S v) (above-last : has-down g v ≡ true) (r d : Bool) where
     -- the states after the right edge and after both
@@ -144,7 +140,7 @@ module _ (g : Grid) (proper : Proper g) where
 
     passes-test : (D : Drawing) → Listed g D → Agrees D S → D .right v ≡ r → D .down v ≡ d → (eqb tried-degree 0 || eqb tried-degree 2) ≡ true
     passes-test D listed a p q = let e = its-whole-degree D a p q in
-        or-on _ _ (⊎-map (λ h. eq-eqb tried-degree 0 (e ∙ h)) (λ h. eq-eqb tried-degree 2 (e ∙ h)) (its-degree g wide D listed v))
+        either-on _ _ (⊎-map (λ h. eq-eqb tried-degree 0 (e ∙ h)) (λ h. eq-eqb tried-degree 2 (e ∙ h)) (its-degree g wide D listed v))
 
     -- THE BRANCH GOES ON at a later pad
     still-passed : Passed g wide after-both v

@@ -8,9 +8,9 @@ use borrow.Author.Tests.{ltb-true}
 use Rattle.rules.specs.Grid.{Edge, first, Grid, pads, right, down}
 use Rattle.rules.specs.Drawing.{Drawing, drawn, Placed}
 use Rattle.rules.specs.Record.{pad-code}
+use Rattle.rules.specs.Tests.{both, both-off, second-off, conflict}
 use Rattle.model.specs.Board.{EdgeState, isLine, isUndecided, State, has-right, has-down, undecided, line, none}
 use Rattle.model.specs.Search.{next-pad}
-use Rattle.propagation.specs.Tests.{and-off, conflict}
 use Rattle.propagation.specs.Edges.{drawing}
 use Rattle.propagation.specs.Objects.{AtRest, Holds, AllHold, pad}
 use Rattle.propagation.specs.Agreement.{Agrees}
@@ -70,15 +70,12 @@ module _ (g : Grid) (proper : Proper g) where
       here : (has-down g v ≡ true → has-right g v ≡ true) → NextFrom S v v
       here h = record { on-to = omega arith; passed = passed; inside = inside; right-there = h }
 
-      decided-right : (has-right g v && isUndecided (S .edge (right v))) ≡ false → has-right g v ≡ true → isUndecided (S .edge (right v)) ≡ false
-      decided-right h r = rw r at h
-
       go : (d : Bool) → has-down g v ≡ d → (o : Bool) → (has-right g v && isUndecided (S .edge (right v))) ≡ o
           → (Passed g wide S (v + 1) → v + 1 < pads g → NextFrom S (v + 1) (next-pad g n (v + 1) S)) → NextFrom S v (next-pad g (suc n) v S)
       go false d o h r = rw (d, next-pad) (here (λ t. conflict t d))
-      go true d true h r = rw (d, next-pad) (rw h (here (λ t. and-off (has-right g v) (isUndecided (S .edge (right v))) h .0)))
+      go true d true h r = rw (d, next-pad) (rw h (here (λ t. both (has-right g v) (isUndecided (S .edge (right v))) h .0)))
       go true d false h r = rw (d, next-pad) (rw h (
-          let p = r (rw (one-on v) at (pass g wide S v inside (rest-at S holds v) passed (λ x y. decided-right h x))) (in-next-row v d) in
+          let p = r (rw (one-on v) at (pass g wide S v inside (rest-at S holds v) passed (λ x y. second-off (has-right g v) (isUndecided (S .edge (right v))) h x))) (in-next-row v d) in
           record { on-to = (let q = p .on-to in omega arith); passed = p .passed; inside = p .inside; right-there = p .right-there }))
 
   -- past a pad whose right edge is decided the next one is later
@@ -86,9 +83,5 @@ module _ (g : Grid) (proper : Proper g) where
       → has-down g v ≡ true → isUndecided (S .edge (right v)) ≡ false → NextFrom S (v + 1) (next-pad g n v S)
   unfolding next-pad
   next-is-later zero S v holds passed inside some bound d o = absurd (omega arith)
-  next-is-later (suc n) S v holds passed inside some bound d o = rw (d, next-pad) (rw (no-more (has-right g v) o) (next-from n S (v + 1) holds
+  next-is-later (suc n) S v holds passed inside some bound d o = rw (d, next-pad) (rw (both-off (has-right g v) (isUndecided (S .edge (right v))) o) (next-from n S (v + 1) holds
       (rw (one-on v) at (pass g wide S v inside (rest-at S holds v) passed (λ x y. o))) (in-next-row v d) (omega arith)))
-    where
-      no-more : (a : Bool) → isUndecided (S .edge (right v)) ≡ false → (a && isUndecided (S .edge (right v))) ≡ false
-      no-more true h = h
-      no-more false h = refl

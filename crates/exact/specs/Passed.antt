@@ -9,8 +9,8 @@ use native.Mathlib.Omega.{arith}
 use native.Mathlib.Decide.{ℕ-discrete}
 use borrow.Author.Tests.{lt-ltb, ltb-true}
 use Rattle.rules.specs.Grid.{Edge, first, Grid, pads, OnBoard, right, down}
+use Rattle.rules.specs.Tests.{conflict, not-so}
 use Rattle.model.specs.Board.{isUndecided, State, undecideds, has-right, has-left, has-down, has-up, around}
-use Rattle.propagation.specs.Tests.{conflict}
 use Rattle.propagation.specs.Objects.{AtRest}
 use Rattle.propagation.specs.Squares.{previous-column, Neighbour, neighbour, one-before, row-before, to-left, to-right, to-above, to-below}
 use Rattle.propagation.specs.Counting.{undecideds-among, one-to, some-among, right-around, down-around, around-apart}
@@ -36,15 +36,12 @@ module _ (g : Grid) (wide : 2 ≤ g .width) (S : State) where
   never-alone : (v : ℕ) → AtRest g S v → (a : ℕ) → ((p : Edge × ℕ) → List·Memᴰ p (around g v) → undecided-at (p .0) ≡ true → p .1 ≡ a)
       → (p : Edge × ℕ) → List·Memᴰ p (around g v) → undecided-at (p .0) ≡ false
   unfolding AtRest
-  never-alone v rest a only p m = go (undecided-at (p .0)) refl
+  never-alone v rest a only p m = not-so (undecided-at (p .0)) (λ h.
+      let k : 1 ≤ undecideds S (around g v) = rw (undecideds-among S (around g v)) (some-among undecided-at (around g v) p m h) in
+      ⊎-elim (λ (z, w). omega (arith, few)) (λ (z, w). omega (arith, few)) rest)
     where
       few : undecideds S (around g v) ≤ 1
       few = rw (undecideds-among S (around g v)) (one-to undecided-at (around g v) a (around-apart g wide v) only)
-
-      go : (b : Bool) → undecided-at (p .0) ≡ b → undecided-at (p .0) ≡ false
-      go false h = h
-      go true h = let k : 1 ≤ undecideds S (around g v) = rw (undecideds-among S (around g v)) (some-among undecided-at (around g v) p m h) in
-          absurd (⊎-elim (λ (z, w). omega (arith, few)) (λ (z, w). omega (arith, few)) rest)
 
   -- the edges to the left and upward are those of pads before
   pub left-decided : (v : ℕ) → Passed v → has-left g v ≡ true → undecided-at (right (v - 1)) ≡ false
@@ -93,11 +90,7 @@ module _ (g : Grid) (wide : 2 ≤ g .width) (S : State) where
 
   -- FROM THE LAST ROW ON nothing is left to decide
   no-down : (v u : ℕ) → has-down g v ≡ false → v ≤ u → has-down g u ≡ false
-  no-down v u h l = go (has-down g u) refl
-    where
-      go : (b : Bool) → has-down g u ≡ b → has-down g u ≡ false
-      go false k = k
-      go true k = let j = ltb-true (u + W) (pads g) k in conflict (lt-ltb (v + W) (pads g) (omega arith)) h
+  no-down v u h l = not-so (has-down g u) (λ k. let j = ltb-true (u + W) (pads g) k in conflict (lt-ltb (v + W) (pads g) (omega arith)) h)
 
   pub pass-last-row : ((u : ℕ) → AtRest g S u) → (v : ℕ) → v < pads g → has-down g v ≡ false → Passed v → Passed (pads g)
   pass-last-row rest v o h b = rw (fit (pads g) v o) at (go (pads g - v) (omega arith))

@@ -14,10 +14,10 @@ use Rattle.rules.specs.Grid.{Edge, first, Grid, pads, OnBoard, right, down}
 use Rattle.rules.specs.Drawing.{Drawing, drawn, num, Listed}
 use Rattle.rules.specs.Record.{byte-of, tabulate, record-of, pad-code, codes, Before, Ascending, lower, later}
 use Rattle.rules.specs.RecordLaws.{field-same}
+use Rattle.rules.specs.Tests.{conflict}
 use Rattle.model.specs.Board.{EdgeState, isLine, isUndecided, State, has-down, fresh, undecided, line, none}
 use Rattle.model.specs.Calls.{state-byte}
 use Rattle.model.specs.Search.{Event, board-record, backtrack, search, visit, layout}
-use Rattle.propagation.specs.Tests.{conflict}
 use Rattle.propagation.specs.Edges.{drawing}
 use Rattle.propagation.specs.Agreement.{Agrees}
 use Rattle.propagation.specs.ProperGrid.{Proper}

@@ -10,8 +10,8 @@ use native.Mathlib.Decide.{decLt}
 use Rattle.rules.specs.Grid.{Edge, first, second, Cell, Grid, pads, right, down, blank, clue}
 use Rattle.rules.specs.Drawing.{drawn, NoLine, num, Listed}
 use Rattle.rules.specs.Places.{zero≢one}
+use Rattle.rules.specs.Tests.{conflict}
 use Rattle.model.specs.Board.{isLine, isUndecided, End, State, isBlank, undecideds, around, degree, line, through, at-pad, at-clue}
-use Rattle.propagation.specs.Tests.{conflict}
 use Rattle.propagation.specs.Ends.{Room, blank-room, clue-room}
 use Rattle.propagation.specs.Refutation.{finished-wired}
 use Rattle.propagation.specs.Edges.{drawing, board-lines, edge-of}
@@ -19,7 +19,6 @@ use Rattle.propagation.specs.Objects.{AtRest, AllHold}
 use Rattle.propagation.specs.Squares.{next-in-row, Neighbour, neighbour, to-left, to-right, to-above, to-below}
 use Rattle.propagation.specs.Counting.{among, lines-among, undecideds-among, none-among, one-among, some-among, around-apart, beside, leads}
 use Rattle.propagation.specs.BoardAtRest.{ends-say, pad-at-rest, right-place, down-place, board-placed, at-most-two, board-corners}
-use Rattle.propagation.specs.ListedDrawing.{its-degree}
 use Rattle.exact.specs.Passed.{Passed, left-decided, up-decided}
 
 module _ (g : Grid) (wide : 2 ≤ g .width) (S : State) (past : (v : ℕ) → pads g ≤ v → g .cell v ≡ blank)

@@ -1,7 +1,7 @@
 -- Laws of sizes and of the first bad cell, one cell at a time: what the tests of the code say of a cell and of the cells
 -- from an index on. Assumes nothing.
 use mathlib.Core.Path.{_≡_, sym, _∙_}
-use mathlib.Core.Bool.{Bool, true, false, not}
+use mathlib.Core.Bool.{Bool, true, false, not, false≢true}
 use mathlib.Core.List.{List}
 use Prim.Native.Nat.{ℕ, _+_, _*_, _≤_, _<_}
 use native.Mathlib.Nat.{mul-le-mul}
@@ -19,9 +19,6 @@ use Rattle.model.specs.Bounds.{is-size}
 use Rattle.model.specs.RefusalLaws.{size-of-test}
 use Rattle.model.specs.Refusals.{is-cell, first-bad-cell, grid-refusal}
 
-never : {A : Type 0} → true ≡ false → A
-never e = let z : _≡_ {A = ℕ} 0 1 = cc in absurd (omega arith)
-
 -- ## The code's tests of a cell
 
 module _ (z : ℤ) (f : SFits w32 z) where
@@ -33,7 +30,7 @@ module _ (z : ℤ) (f : SFits w32 z) where
   below-blank h = go z (rw back at h)
     where
       go : (z : ℤ) → ltZ z (negsuc 0) ≡ true → is-cell z ≡ false
-      go (pos n) h = never (sym h)
+      go (pos n) h = absurd (false≢true h)
       go (negsuc n) h = ne-eqb n 0 (λ e. absurd (omega (arith, ltb-true 0 n h)))
 
   pub above-codes : ltZ (pos 2147483646) (toZ w32 (ofZ w32 z)) ≡ true → is-cell z ≡ false
@@ -42,7 +39,7 @@ module _ (z : ℤ) (f : SFits w32 z) where
     where
       go : (z : ℤ) → ltZ (pos 2147483646) z ≡ true → is-cell z ≡ false
       go (pos n) h = rw h
-      go (negsuc n) h = never (sym h)
+      go (negsuc n) h = absurd (false≢true h)
 
   pub sound-cell : ltZ (toZ w32 (ofZ w32 z)) (negsuc 0) ≡ false → ltZ (pos 2147483646) (toZ w32 (ofZ w32 z)) ≡ false → is-cell z ≡ true
   unfolding is-cell

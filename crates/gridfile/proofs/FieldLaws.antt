@@ -11,24 +11,17 @@ use lib.ListN.{length, getD, drop, drop-of-length-le}
 use lib.Seq.{drop-cons}
 use lib.Dec.{leb}
 use borrow.Author.Tests.{leb-true, lt-ltb, le-ltb, ne-eqb, eq-eqb, not-true, not-false}
+use Rattle.rules.specs.Tests.{both}
 use Rattle.model.specs.Bounds.{most-digits}
 use Rattle.model.specs.GridFile.{is-digit, is-comma, is-line-end}
 use Rattle.gridfile.specs.Fields.{ended-field, field-from, field-at}
 use Rattle.gridfile.specs.declared.Field.the-variants.{Value, Refused}
 
-never : {A : Type 0} → true ≡ false → A
-never e = let z : _≡_ {A = ℕ} 0 1 = cc in absurd (omega arith)
-
 -- ## Bytes
 
 pub digit-bounds : (byte : ℕ) → is-digit byte ≡ true → (48 ≤ byte) × (byte ≤ 57)
 unfolding is-digit
-digit-bounds byte h = go (leb 48 byte) (leb byte 57) refl refl h
-  where
-    go : (a b : Bool) → leb 48 byte ≡ a → leb byte 57 ≡ b → a && b ≡ true → (48 ≤ byte) × (byte ≤ 57)
-    go true true p q h = (leb-true _ _ p, leb-true _ _ q)
-    go true false p q h = never (sym h)
-    go false b p q h = never (sym h)
+digit-bounds byte h = let (low, high) = both (leb 48 byte) (leb byte 57) h in (leb-true _ _ low, leb-true _ _ high)
 
 -- ## The end of a field
 

@@ -1,7 +1,7 @@
 -- The model's byte by byte reading, taken field by field: what a field does to the reading of the rest of the file, and what
 -- the byte does that ends it, in a row and in the header. Assumes nothing.
 use mathlib.Core.Path.{_≡_, refl, sym, ap, _∙_}
-use mathlib.Core.Bool.{Bool, true, false, _||_}
+use mathlib.Core.Bool.{Bool, true, false, _||_, or-assoc, or-true}
 use mathlib.Core.List.{List, [], _∷_}
 use mathlib.Core.Logic.{_⊎_, inl, inr, ⊎-elim}
 use Prim.Native.Nat.{ℕ, suc, _+_, _-_, _*_, _≤_, _<_}
@@ -102,11 +102,7 @@ module _ (s : Standing) (open-yet : is-complete s ≡ false) where
 
     separated : is-comma byte || is-line-end byte ≡ true → is-allowed byte ≡ true
     unfolding is-allowed
-    separated c = go (is-digit byte) (is-comma byte) (is-line-end byte) c
-      where
-        go : (d c l : Bool) → c || l ≡ true → d || c || l ≡ true
-        go true c l h = refl
-        go false c l h = h
+    separated c = or-assoc (is-digit byte) (is-comma byte) (is-line-end byte) ∙ rw c (or-true (is-digit byte))
 
     refusal-3 : is-digit byte ≡ false → is-comma byte || is-line-end byte ≡ true → ltb largest-code value ≡ true → refusal (in-field s digits value) byte ≡ 3
     unfolding refusal in-field

@@ -1,6 +1,6 @@
 -- The loop over the calls: the grid of the board stays, an answer is small, a call gives one block more, and at the end all blocks are written.
 -- It rests on Blocks.antt and on the model. Assumes nothing.
-use Prim.Native.Nat.{ℕ, zero, suc, _+_, _*_, _-_, _/_, _≤_, _<_}
+use Prim.Native.Nat.{ℕ, zero, suc, _+_, _*_, _/_, _≤_, _<_}
 use mathlib.Core.Path.{_≡_, refl, sym, ap, _∙_}
 use mathlib.Core.Bool.{Bool, true, false, _&&_}
 use mathlib.Core.List.{List, [], _∷_, _++_, append-assoc, append-nil}
@@ -14,10 +14,11 @@ use lib.IntN.{ℤ}
 use borrow.Author.Tests.{eqb-true, ltb-true}
 use Rattle.rules.specs.Grid.{places, pads, Place, edge, no-edge, Grid}
 use Rattle.rules.specs.Drawing.{num}
+use Rattle.rules.specs.Tests.{both}
 use Rattle.model.specs.Bounds.{is-size}
 use Rattle.model.specs.Board.{EdgeState, undecided, line, none, State, decide, enough}
 use Rattle.model.specs.Refusals.{first-bad-cell, grid-refusal}
-use Rattle.model.specs.RefusalLaws.{and-both, size-of-test}
+use Rattle.model.specs.RefusalLaws.{size-of-test}
 use Rattle.model.specs.Calls.{Board, Answer, state-byte, decide-edge, decide-at, edge-at, read-edge, read-at, add-checkpoint, undo, undo-to, fresh-board, new}
 use Rattle.board.specs.Held.{Held, Says}
 use Rattle.board.specs.declared.Board as code
@@ -110,7 +111,7 @@ index-small height width cells = go (is-size height && is-size width) (eqb (leng
     go true false d h1 h2 h3 = rw (h1, h2) (omega arith)
     go true true false h1 h2 h3 = rw (h1, h2, h3) (omega arith)
     go true true true h1 h2 h3 =
-        let sizes = and-both (is-size height) (is-size width) h1 in
+        let sizes = both (is-size height) (is-size width) h1 in
         let few : height * width ≤ 16 * 16 = mul-le-mul (size-of-test height (sizes .0) .1) (size-of-test width (sizes .1) .1) in
         let many : length cells ≡ height * width = eqb-true (length cells) (height * width) h2 in
         let below : first-bad-cell cells < length cells = ltb-true (first-bad-cell cells) (length cells) h3 in

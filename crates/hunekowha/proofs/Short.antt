@@ -10,14 +10,12 @@ use lib.ListN.{length, drop, length-drop}
 use lib.Seq.{paste, take-length, length-take-le}
 use lib.IntN.{ℤ}
 use borrow.Author.Tests.{le-leb, lt-leb, leb-true}
+use Rattle.rules.specs.Tests.{both}
 use Rattle.model.specs.Bounds.{is-size}
 use Rattle.model.specs.GridFile.{Reading, read}
 use Rattle.model.specs.Records.{record-length, has-record, record-at}
 use Rattle.hunekowha.specs.Lent.{written, read-numbers, read-gives, record-place, record-gives, solve-numbers, solve-gives}
 use Rattle.model.specs.Search.{Solved, solve}
-
-false-is-not-true : false ≡ true → ⊥
-false-is-not-true same = let z : _≡_ {A = ℕ} 0 1 = cc in omega arith
 
 -- a copy of a whole list to the front
 pub front : {A : Type 0} (old new : List A) → paste old 0 new (length new) ≡ written new old
@@ -41,16 +39,10 @@ module _ (file answer : List ℕ) (cells : List ℤ) where
       rw (le-leb 5 (length answer) long, le-leb 256 (length cells) long-cells, put, put-cells, front cells (r .cells), same)
 
 -- RECORD
-last-of-four : (a b c d : Bool) → a && b && c && d ≡ true → d ≡ true
-last-of-four true true true d all = all
-last-of-four true true false d all = absurd (false-is-not-true all)
-last-of-four true false c d all = absurd (false-is-not-true all)
-last-of-four false b c d all = absurd (false-is-not-true all)
-
 module _ (height width count k : ℕ) (buffer : List ℕ) where
   record-inside : has-record height width count k (length buffer) ≡ true → k * record-length height width + record-length height width ≤ length buffer
   unfolding has-record
-  record-inside there = leb-true _ _ (last-of-four (is-size height) (is-size width) (ltb k count) _ there)
+  record-inside there = leb-true _ _ (both (is-size height && is-size width && ltb k count) _ there .1)
 
   -- the part's length says where it begins, and it lies in the buffer
   abbrev Placed : List ℕ → Type 0

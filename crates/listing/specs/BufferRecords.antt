@@ -11,8 +11,9 @@ use lib.Dec.{ltb, leb}
 use lib.ListN.{length, take, drop, length-append, length-drop}
 use lib.Seq.{length-take-le, take-at, drop-at}
 use Rattle.rules.specs.Grid.{places}
+use Rattle.rules.specs.Tests.{both}
 use Rattle.model.specs.Bounds.{is-size}
-use Rattle.model.specs.RefusalLaws.{and-both, size-of-test}
+use Rattle.model.specs.RefusalLaws.{size-of-test}
 use Rattle.model.specs.Records.{record-length, has-record, record-at}
 use Rattle.model.specs.Search.{Event, visit, layout, scan, concat}
 use Rattle.model.specs.Printed.{layout-line, layout-lines}
@@ -33,9 +34,9 @@ module _ (height width count k room : ℕ) where
   pub what-a-record-has : has-record height width count k room ≡ true → HasRecord
   unfolding has-record record-length
   what-a-record-has e =
-      let (abc, d) = and-both (is-size height && is-size width && ltb k count) (leb (k * places height width + places height width) room) e in
-      let (ab, c) = and-both (is-size height && is-size width) (ltb k count) abc in
-      let (a, b) = and-both (is-size height) (is-size width) ab in
+      let (abc, d) = both (is-size height && is-size width && ltb k count) (leb (k * places height width + places height width) room) e in
+      let (ab, c) = both (is-size height && is-size width) (ltb k count) abc in
+      let (a, b) = both (is-size height) (is-size width) ab in
       record { tall = a; wide = b; counted = ltb-true _ _ c; inside = leb-true _ _ d }
 
   pub record-is-there : HasRecord → has-record height width count k room ≡ true

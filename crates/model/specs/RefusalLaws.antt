@@ -2,26 +2,23 @@
 use Prim.Native.Nat.{ℕ, zero, suc, _*_, _≤_, _<_}
 use mathlib.Core.Path.{_≡_, refl, ap}
 use mathlib.Core.Logic.{inl, inr}
-use mathlib.Core.Bool.{Bool, true, false, not, _&&_}
+use mathlib.Core.Bool.{Bool, true, false, _&&_}
 use mathlib.Core.List.{List, [], _∷_}
 use native.Mathlib.Omega.{arith}
-use borrow.Author.Tests.{ltb-false, leb-true, eqb-true, le-ltb, le-leb, eq-eqb}
+use borrow.Author.Tests.{ltb-false, leb-true, eqb-true, not-true, le-ltb, le-leb, eq-eqb}
 use lib.Dec.{eqb, ltb, leb}
 use lib.ListN.{length, getD}
 use lib.IntN.{ℤ, pos, negsuc}
 use Rattle.rules.specs.Grid.{Size, largest-code, blank-cell, CellInRange, Accepted}
+use Rattle.rules.specs.Tests.{both}
 use Rattle.rules.specs.Places.{zero≢one}
 use Rattle.model.specs.Bounds.{is-size}
 use Rattle.model.specs.Refusals.{is-cell, first-bad-cell, grid-refusal}
 
 -- the tests say what the rules say
-pub and-both : (a b : Bool) → (a && b) ≡ true → (a ≡ true) × (b ≡ true)
-and-both true b h = (refl, h)
-and-both false b h = zero≢one (cc)
-
 pub size-of-test : (n : ℕ) → is-size n ≡ true → Size n
 unfolding is-size
-size-of-test n h = let (low, high) = and-both (leb 2 n) (leb n 16) h in (leb-true 2 n low, leb-true n 16 high)
+size-of-test n h = let (low, high) = both (leb 2 n) (leb n 16) h in (leb-true 2 n low, leb-true n 16 high)
 
 pub test-of-size : (n : ℕ) → Size n → is-size n ≡ true
 unfolding is-size
@@ -29,11 +26,7 @@ test-of-size n (low, high) = rw (le-leb 2 n low, le-leb n 16 high) refl
 
 pub cell-of-test : (z : ℤ) → is-cell z ≡ true → CellInRange z
 unfolding is-cell
-cell-of-test (pos code) h = inr (code, refl, ltb-false largest-code code (go (ltb largest-code code) h))
-  where
-    go : (b : Bool) → not b ≡ true → b ≡ false
-    go true k = zero≢one (cc)
-    go false k = refl
+cell-of-test (pos code) h = inr (code, refl, ltb-false largest-code code (not-true (ltb largest-code code) h))
 cell-of-test (negsuc zero) h = inl refl
 cell-of-test (negsuc (suc n)) h = absurd (let k = eqb-true (suc n) 0 h in omega arith)
 
@@ -70,7 +63,7 @@ module _ (height width : ℕ) (cells : List ℤ) where
       go true hs false hn b hb = zero≢one (absurd (let k = rw (hs, hn, grid-refusal) at accepted in omega arith))
       go true hs true hn true hb = zero≢one (absurd (let k = rw (hs, hn, hb, grid-refusal) at accepted in omega arith))
       go true hs true hn false hb =
-          let sizes = and-both (is-size height) (is-size width) hs in
+          let sizes = both (is-size height) (is-size width) hs in
           let count : length cells ≡ height * width = eqb-true _ _ hn in
           record {
             height-in-range = size-of-test height (sizes .0);

@@ -11,13 +11,9 @@ use lib.IntN.{ℤ, pos}
 use Rattle.rules.specs.Grid.{Cell, blank, clue, cell-of, blank-cell, Grid, grid-of, pads, place-at, place-by-parity}
 use Rattle.rules.specs.Drawing.{Drawing, num, square-lines}
 use Rattle.rules.specs.Record.{codes, drawing-of, field, tabulate}
+use Rattle.rules.specs.Tests.{all-below}
 use Rattle.model.specs.Board.{has-left, has-right, has-up, has-down, fresh, decide, check, after-store, cannot-join, join-ends, check-items, settled, decide-first, degree, undecideds, lines, keep-aparts, around, do-item, do-items, shape-items, barred, joined-ends, put-end, put-end-at, set-flag, set-edge, enough, isBlank}
 use Rattle.model.specs.Search.{Event, visit, layout, search, backtrack, try, degree-so-far, next-pad, board-record}
-
--- a test of every pad below n
-unfoldable pub all-below : ℕ → (ℕ → Bool) → Bool
-all-below zero test = true
-all-below (suc n) test = test n && all-below n test
 
 -- THE DRAWING of a list of codes, one for each pad
 unfoldable pub drawing-of-codes : List ℕ → Drawing
@@ -85,13 +81,13 @@ module _ (g : Grid) where
     same-code (clue c) (clue d) = eqb c d
 
     unfoldable pub codes-agree : List ℕ → Bool
-    codes-agree chain = all-below (pads g) (λ u. all-below u (λ v. not (eqb (getD chain u 0) (getD chain v 0)) || same-code (g .cell u) (g .cell v)))
+    codes-agree chain = all-below (λ u. all-below (λ v. not (eqb (getD chain u 0) (getD chain v 0)) || same-code (g .cell u) (g .cell v)) u) (pads g)
 
     unfoldable pub none-closed : List ℕ → Bool
-    none-closed chain = all-below (pads g) (λ u. eqb (lines-at u) 0 || not (all-below (pads g) (λ v. not (is-clue v && eqb (getD chain u 0) (getD chain v 0)))))
+    none-closed chain = all-below (λ u. eqb (lines-at u) 0 || not (all-below (λ v. not (is-clue v && eqb (getD chain u 0) (getD chain v 0))) (pads g))) (pads g)
 
     unfoldable pub is-listed : Bool
-    is-listed = all-below (pads g) (λ v. right-number (g .cell v) (lines-at v) && (square-right v && (corner-right-at v && corner-left-at v)))
+    is-listed = all-below (λ v. right-number (g .cell v) (lines-at v) && (square-right v && (corner-right-at v && corner-left-at v))) (pads g)
         && (codes-agree (labels (pads g)) && none-closed (labels (pads g)))
 
   -- those that keep the rules

@@ -10,8 +10,8 @@ use borrow.Author.Tests.{lt-ltb}
 use Rattle.rules.specs.Grid.{Grid, pads, clue}
 use Rattle.rules.specs.Drawing.{Drawing, drawn, Placed, Side, LineBeside, DiagonallyBelow, Corner, IsClue, on-left, on-right}
 use Rattle.rules.specs.Places.{zero≢one}
+use Rattle.rules.specs.Tests.{both, both-on}
 use Rattle.model.specs.Board.{isBlank, has-side, diagonal, barred}
-use Rattle.propagation.specs.Tests.{and-on, and-off}
 use Rattle.propagation.specs.Squares.{next-column, edge-beside}
 use Rattle.propagation.specs.Counting.{right-column, down-in}
 
@@ -50,7 +50,7 @@ module _ (g : Grid) (wide : 2 ≤ g .width) (D : Drawing) (placed : Placed g D)
   blank-of : (side : Side) (n v : ℕ) → barred g side n v ≡ true → isBlank (g .cell v) ≡ true
   unfolding barred
   blank-of side zero v h = h
-  blank-of side (suc n) v h = and-off (isBlank (g .cell v)) _ h .0
+  blank-of side (suc n) v h = both (isBlank (g .cell v)) _ h .0
 
   -- n rows are enough from the row of p on
   down-the-diagonal : (side : Side) (n p : ℕ) → pads g + p % W ≤ p + n * W → barred g side n p ≡ true → Corner side D p → ⊥
@@ -62,7 +62,7 @@ module _ (g : Grid) (wide : 2 ≤ g .width) (D : Drawing) (placed : Placed g D)
       (corners side p (diagonal g side p) (diagonal-below side p l) (l, d))
     where
       deeper : barred g side n (diagonal g side p) ≡ true
-      deeper = rw (and-on (lt-ltb (p + W) (pads g) (down-in g wide D placed p d)) (line-beside side p l .0)) at (and-off (isBlank (g .cell p)) _ b .1)
+      deeper = rw (both-on (lt-ltb (p + W) (pads g) (down-in g wide D placed p d)) (line-beside side p l .0)) at (both (isBlank (g .cell p)) _ b .1)
 
   pub no-barred-corner : (side : Side) (p : ℕ) → barred g side (g .height) p ≡ true → Corner side D p → ⊥
   no-barred-corner side p b c = down-the-diagonal side (g .height) p (let k = mod-le p W in omega arith) b c

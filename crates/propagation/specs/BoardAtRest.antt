@@ -12,13 +12,13 @@ use borrow.Author.Tests.{ltb-true}
 use lib.Dec.{ltb}
 use Rattle.rules.specs.Grid.{Edge, Cell, Grid, pads, OnBoard, right, down, blank, clue}
 use Rattle.rules.specs.Drawing.{Placed, num, square-lines, Side, DiagonallyBelow, Corner, IsClue, on-left, on-right}
+use Rattle.rules.specs.Tests.{both, conflict}
 use Rattle.model.specs.Board.{isLine, State, Item, isBlank, has-right, on-board, barred, shape-items, line, none, detour, corner}
-use Rattle.propagation.specs.Tests.{and-off, conflict}
 use Rattle.propagation.specs.Undecided.{num-small}
 use Rattle.propagation.specs.Ends.{Ends}
 use Rattle.propagation.specs.Edges.{is-line, drawing, board-lines}
 use Rattle.propagation.specs.Objects.{AtRest, Achieved, Holds, AllHold, rule, pad, chains, board}
-use Rattle.propagation.specs.Squares.{SquareAt, square-at, lower-right, corner-pad, lower-pad, edge-beside, corner-item, square-items, corner-items-across, upper-edge, right-edge}
+use Rattle.propagation.specs.Squares.{SquareAt, square-at, corner-pad, lower-pad, edge-beside, corner-item, square-items, corner-items-across, upper-edge, right-edge}
 use Rattle.propagation.specs.Bars.{no-barred-corner}
 
 -- A BOARD AT REST
@@ -54,7 +54,7 @@ module _ (g : Grid) (wide : 2 ≤ g .width) (S : State) (holds : AllHold g S) wh
 
   -- its lines are at edges of the board
   pub right-place : (v : ℕ) → lined (right v) ≡ true → (v % W + 1 < W) × (v < pads g)
-  right-place v h = let (r, i) = and-off (has-right g v) (ltb v (pads g)) (on-the-board (right v) (is-line (S .edge (right v)) h)) in
+  right-place v h = let (r, i) = both (has-right g v) (ltb v (pads g)) (on-the-board (right v) (is-line (S .edge (right v)) h)) in
       (ltb-true (v % W + 1) W r, ltb-true v (pads g) i)
 
   pub down-place : (v : ℕ) → lined (down v) ≡ true → v + W < pads g

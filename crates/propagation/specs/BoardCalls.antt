@@ -13,11 +13,11 @@ use lib.IntN.{ℤ}
 use Rattle.rules.specs.Grid.{Edge, field-side, Place, place-at, cell-of, blank-cell, Grid, grid-of, OnBoard, edge, no-edge}
 use Rattle.rules.specs.Record.{line-byte, none-byte}
 use Rattle.rules.specs.Places.{zero≢one, edge-of-place}
+use Rattle.rules.specs.Tests.{both}
 use Rattle.model.specs.Board.{State, line-or-none}
 use Rattle.model.specs.Calls.{Board, fresh-board, blank-board, new, edge-at, decided, decide-at, decide-edge, read-at, read-edge, most-checkpoints, add-checkpoint, undo-to, undo}
 use Rattle.model.specs.Refusals.{grid-refusal}
 use Rattle.model.specs.RefusalLaws.{not-refused}
-use Rattle.propagation.specs.Tests.{and-off}
 use Rattle.propagation.specs.ProperGrid.{Proper, accepted-proper}
 use Rattle.propagation.specs.Decisions.{Decision, Stands, none-yet, one-more}
 
@@ -67,7 +67,7 @@ edge-at-on g wide row column e at = go (ltb row (field-side (g .height)) && ltb 
     go : (b : Bool) → (ltb row (field-side (g .height)) && ltb column (field-side (g .width))) ≡ b → OnBoard g e
     go false h = let k : no-edge ≡ edge e = rw (h, edge-at) at at in zero≢one (cc)
     go true h =
-        let (r, c) = and-off (ltb row (field-side (g .height))) (ltb column (field-side (g .width))) h in
+        let (r, c) = both (ltb row (field-side (g .height))) (ltb column (field-side (g .width))) h in
         let k : place-at (g .width) row column ≡ edge e = rw (h, edge-at) at at in
         edge-of-place g wide row column (ltb-true row (field-side (g .height)) r) (ltb-true column (field-side (g .width)) c) e k .on-board
 

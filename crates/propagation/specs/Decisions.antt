@@ -10,8 +10,8 @@ use borrow.Author.Tests.{lt-ltb}
 use lib.ListN.{set}
 use Rattle.rules.specs.Grid.{Edge, Grid, pads, OnBoard, right, down}
 use Rattle.rules.specs.Drawing.{Drawing, drawn, Listed}
+use Rattle.rules.specs.Tests.{both-on, conflict}
 use Rattle.model.specs.Board.{isLine, State, line-or-none, on-board, decide, enough, fresh}
-use Rattle.propagation.specs.Tests.{and-on, conflict}
 use Rattle.propagation.specs.Undecided.{enough-is-more}
 use Rattle.propagation.specs.Edges.{line-or-none-decided}
 use Rattle.propagation.specs.Objects.{AllHold}
@@ -40,7 +40,7 @@ AgreesWith D decisions = (d : Decision) → List·Memᴰ d decisions → drawn D
 
 on-board-test : (g : Grid) (e : Edge) → OnBoard g e → on-board g e ≡ true
 unfolding OnBoard
-on-board-test g (right v) (below, inside) = and-on (lt-ltb (v % g .width + 1) (g .width) inside) (lt-ltb v (pads g) below)
+on-board-test g (right v) (below, inside) = both-on (lt-ltb (v % g .width + 1) (g .width) inside) (lt-ltb v (pads g) below)
 on-board-test g (down v) below = lt-ltb (v + g .width) (pads g) below
 
 is-way : (way : Bool) → way ≡ isLine (line-or-none way)

@@ -7,8 +7,8 @@ use borrow.Author.Tests.{eq-eqb, eqb-true}
 use Rattle.rules.specs.Grid.{Edge, first, second, Grid, right, down}
 use Rattle.rules.specs.Drawing.{Drawing, Relation, Line, rightward, leftward, downward, upward}
 use Rattle.rules.specs.Places.{zero≢one}
+use Rattle.rules.specs.Tests.{conflict}
 use Rattle.model.specs.Board.{EdgeState, isLine, isUndecided, sameState, sameEdge, State, set-edge, line-or-none, undecided, line, none}
-use Rattle.propagation.specs.Tests.{conflict}
 use Rattle.propagation.specs.Undecided.{DecidedStay}
 use Rattle.rules.specs.Chains.{line-back}
 

@@ -13,8 +13,8 @@ use lib.Dec.{ltb}
 use Rattle.rules.specs.Grid.{Edge, Grid, pads, right, down, blank, clue}
 use Rattle.rules.specs.Drawing.{Drawing, drawn, num, Listed}
 use Rattle.rules.specs.Places.{zero≢one}
+use Rattle.rules.specs.Tests.{both-on, both-off, not-so}
 use Rattle.model.specs.Board.{isLine, isUndecided, isBlank, with-edge, lines, undecideds, has-right, has-left, has-down, has-up, on-board, around, degree, fresh, undecided, line, none, at-pad, at-clue}
-use Rattle.propagation.specs.Tests.{and-on}
 use Rattle.propagation.specs.Storing.{fresh-ends}
 use Rattle.propagation.specs.Edges.{board-lines, edge-of}
 use Rattle.propagation.specs.Objects.{AtRest, Holds, AllHold, rule, pad, chains, board}
@@ -71,37 +71,33 @@ module _ (g : Grid) (tall : 2 ≤ g .height) (big : 2 ≤ g .width) (out : (v : 
 
   across : (v : ℕ) → v < pads g → 1 ≤ num (has-left g v && on-board g (right (v - 1))) + num (has-right g v && on-board g (right v))
   across v o = elim (ℕ-discrete (v % W) 0) [
-    | yes e ↦ let h : has-right g v ≡ true = lt-ltb (v % W + 1) W (omega arith) in let k = ap num (and-on h (right-on g big v o h)) in omega (arith, k)
-    | no n ↦ let h : has-left g v ≡ true = lt-ltb 0 (v % W) (omega arith) in let k = ap num (and-on h (left-on g big v o h)) in omega (arith, k)
+    | yes e ↦ let h : has-right g v ≡ true = lt-ltb (v % W + 1) W (omega arith) in let k = ap num (both-on h (right-on g big v o h)) in omega (arith, k)
+    | no n ↦ let h : has-left g v ≡ true = lt-ltb 0 (v % W) (omega arith) in let k = ap num (both-on h (left-on g big v o h)) in omega (arith, k)
   ]
 
   along : (v : ℕ) → v < pads g → 1 ≤ num (has-up g v && on-board g (down (v - W))) + num (has-down g v && on-board g (down v))
   along v o = elim (decLe W v) [
-    | yes l ↦ let h : has-up g v ≡ true = le-leb W v l in let k = ap num (and-on h (up-on g big v o h)) in omega (arith, k)
-    | no n ↦ let h : has-down g v ≡ true = lt-ltb (v + W) (pads g) (let k = rows in omega arith) in let j = ap num (and-on h h) in omega (arith, j)
+    | yes l ↦ let h : has-up g v ≡ true = le-leb W v l in let k = ap num (both-on h (up-on g big v o h)) in omega (arith, k)
+    | no n ↦ let h : has-down g v ≡ true = lt-ltb (v + W) (pads g) (let k = rows in omega arith) in let j = ap num (both-on h h) in omega (arith, j)
   ]
 
   num-le : (b : Bool) → num b ≤ 1
   num-le true = omega arith
   num-le false = omega arith
 
-  and-no : (a b : Bool) → b ≡ false → (a && b) ≡ false
-  and-no true b h = h
-  and-no false b h = refl
-
   past-left : (v : ℕ) → pads g ≤ v → (has-left g v && on-board g (right (v - 1))) ≡ false
   past-left v o = elim (ℕ-discrete v (pads g)) [
     | yes e ↦ (let k : has-left g v ≡ false = le-ltb 0 (v % W) (let z = ap (λ x. x % W) e ∙ mul-mod-left (g .height) W in omega arith) in rw k refl)
-    | no n ↦ and-no (has-left g v) (on-board g (right (v - 1))) (and-no (has-right g (v - 1)) (ltb (v - 1) (pads g)) (le-ltb (v - 1) (pads g) (omega arith)))
+    | no n ↦ both-off (has-left g v) (on-board g (right (v - 1))) (both-off (has-right g (v - 1)) (ltb (v - 1) (pads g)) (le-ltb (v - 1) (pads g) (omega arith)))
   ]
 
   past-around : (v : ℕ) → pads g ≤ v → undecideds (fresh g) (around g v) ≡ 0
   past-around v o =
       let a = undecided-around v in
       let b = ap num (past-left v o) in
-      let c = ap num (and-no (has-right g v) (on-board g (right v)) (and-no (has-right g v) (ltb v (pads g)) (le-ltb v (pads g) o))) in
-      let d = ap num (and-no (has-up g v) (on-board g (down (v - W))) (le-ltb (v - W + W) (pads g) (omega arith))) in
-      let e = ap num (and-no (has-down g v) (on-board g (down v)) (le-ltb (v + W) (pads g) (omega arith))) in
+      let c = ap num (both-off (has-right g v) (on-board g (right v)) (both-off (has-right g v) (ltb v (pads g)) (le-ltb v (pads g) o))) in
+      let d = ap num (both-off (has-up g v) (on-board g (down (v - W))) (le-ltb (v - W + W) (pads g) (omega arith))) in
+      let e = ap num (both-off (has-down g v) (on-board g (down v)) (le-ltb (v + W) (pads g) (omega arith))) in
       omega (arith, a, b, c, d, e)
 
   quiet : (v : ℕ) → AtRest g (fresh g) v
@@ -131,8 +127,7 @@ module _ (g : Grid) (tall : 2 ≤ g .height) (big : 2 ≤ g .width) (out : (v : 
 
   -- every drawing whose lines are at edges of the board agrees with it
   pub agrees-with-fresh : (D : Drawing) → Listed g D → Agrees D (fresh g)
-  agrees-with-fresh D listed = record { where-line = λ e h. not-lined e h; where-none = λ e h. off e h (drawn D e) refl }
+  agrees-with-fresh D listed = record { where-line = λ e h. not-lined e h; where-none = λ e h. not-so (drawn D e) (off e h) }
     where
-      off : (e : Edge) → (fresh g) .edge e ≡ none → (b : Bool) → drawn D e ≡ b → drawn D e ≡ false
-      off e h false k = k
-      off e h true k = ⊎-elim (λ (b, j). zero≢one (cc)) (λ (b, j). let i = line-on g big D listed e k in zero≢one (cc)) (fresh-edge e (on-board g e) refl)
+      off : (e : Edge) → (fresh g) .edge e ≡ none → drawn D e ≡ true → ⊥
+      off e h k = ⊎-elim (λ (b, j). zero≢one (cc)) (λ (b, j). let i = line-on g big D listed e k in zero≢one (cc)) (fresh-edge e (on-board g e) refl)

@@ -1,5 +1,4 @@
 -- What a decision keeps and makes, and that it loses no listed layout; bottom up.
-pub mod Tests
 pub mod Undecided
 pub mod Ends
 pub mod EndsKept

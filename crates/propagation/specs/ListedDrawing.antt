@@ -10,8 +10,8 @@ use borrow.Author.Tests.{lt-ltb, ltb-true}
 use lib.Dec.{ltb}
 use Rattle.rules.specs.Grid.{Edge, first, second, Cell, Grid, pads, right, down, blank, clue}
 use Rattle.rules.specs.Drawing.{Drawing, drawn, Placed, Line, NoLine, OneLine, TwoLines, Joined, num, square-lines, Side, DiagonallyBelow, Corner, Listed, rightward, downward, here, more, on-left, on-right}
+use Rattle.rules.specs.Tests.{both, both-on, not-so}
 use Rattle.model.specs.Board.{State, isBlank, has-right, has-down, on-board, has-side, barred, shape-items, around, detour, corner, bar}
-use Rattle.propagation.specs.Tests.{and-on, and-off}
 use Rattle.propagation.specs.Edges.{board-lines, edge-of}
 use Rattle.propagation.specs.Squares.{next-in-row, SquareAt, upper-right, lower-right, left-down, right-down, upper-in, lower-in, Role, square-edge, detours-at, corner-pad, lower-pad, edge-beside, Standing, standing, one-of-three, detours-only, detour-parts, corner-parts, bar-parts, detour-no-corner, detour-no-bar, corner-no-bar, Neighbour, neighbour, one-before, row-before, left-on, right-on, up-on, upper-edge, left-edge, right-edge, lower-edge, in-square, corner-across, corner-downward, bar-across, bar-downward, to-left, to-right, to-above, to-below}
 use Rattle.propagation.specs.Counting.{among, none-among, one-to, two-to, some-among, two-among, around-apart, right-column, right-in, down-in, beside, leads}
@@ -34,12 +34,12 @@ module _ (g : Grid) (wide : 2 ≤ g .width) (D : Drawing) (listed : Listed g D) 
   its-line (down v) h = downward refl h
 
   pub line-on : (e : Edge) → drawn D e ≡ true → OnTheBoard e
-  line-on (right v) h = and-on (lt-ltb (v % W + 1) W (right-column g wide D on v h)) (lt-ltb v (pads g) (right-in g wide D on v h))
+  line-on (right v) h = both-on (lt-ltb (v % W + 1) W (right-column g wide D on v h)) (lt-ltb v (pads g) (right-in g wide D on v h))
   line-on (down v) h = lt-ltb (v + W) (pads g) (down-in g wide D on v h)
 
   pub both-pads : (e : Edge) → OnTheBoard e → (first e < pads g) × (second W e < pads g)
   both-pads (right v) h =
-      let (r, i) = and-off (has-right g v) (ltb v (pads g)) h in
+      let (r, i) = both (has-right g v) (ltb v (pads g)) h in
       let k = ltb-true v (pads g) i in
       (k, next-in-row g wide v (ltb-true (v % W + 1) W r) k)
   both-pads (down v) h = let k = ltb-true (v + W) (pads g) h in ((omega arith), k)
@@ -90,8 +90,8 @@ module _ (g : Grid) (wide : 2 ≤ g .width) (D : Drawing) (listed : Listed g D) 
 
   -- STEP d: where two edges of a unit square are lines the other two are none
   square-on : (r : Role g wide) (u : ℕ) → SquareAt g wide u → OnTheBoard (square-edge g wide r u)
-  square-on upper-edge u s = and-on (upper-right g wide s) (upper-in g wide s)
-  square-on lower-edge u s = and-on (lower-right g wide s) (lower-in g wide s)
+  square-on upper-edge u s = both-on (upper-right g wide s) (upper-in g wide s)
+  square-on lower-edge u s = both-on (lower-right g wide s) (lower-in g wide s)
   square-on left-edge u s = left-down g wide s
   square-on right-edge u s = right-down g wide s
 
@@ -168,7 +168,7 @@ module _ (g : Grid) (wide : 2 ≤ g .width) (D : Drawing) (listed : Listed g D) 
       → Forced (has-down g (lower-pad g wide side u) && has-side g side (lower-pad g wide side u)) (edge-beside g wide side (lower-pad g wide side u)) (down (lower-pad g wide side u))
   forced side u t d bl = ⊎-elim (λ (c, e). not-blank g wide D on (listed .corners) e bl)
       (λ (b, l). let (h, k) = line-beside g wide D on (listed .corners) side (lower-pad g wide side u) b in
-      (and-on (line-on (down (lower-pad g wide side u)) l) h, line-on (edge-beside g wide side (lower-pad g wide side u)) k, line-on (down (lower-pad g wide side u)) l, k, l))
+      (both-on (line-on (down (lower-pad g wide side u)) l) h, line-on (edge-beside g wide side (lower-pad g wide side u)) k, line-on (down (lower-pad g wide side u)) l, k, l))
       (listed .corners side (corner-pad g wide side u) (lower-pad g wide side u) (diagonal-of side u) (corner-of side u t d))
 
   pub corners-right : (x : Edge) (q : ℕ) (a : Edge) (ok : Bool) (b c : Edge) → drawn D x ≡ true → List·Memᴰ (corner q a ok b c) (shape-items g x)
@@ -183,13 +183,6 @@ module _ (g : Grid) (wide : 2 ≤ g .width) (D : Drawing) (listed : Listed g D) 
       go (bar-downward side u s e k) bl da = corner-no-bar g wide k
 
   -- A BARRED PAD has no corner
-  no-line : (e : Edge) → (drawn D e ≡ true → ⊥) → drawn D e ≡ false
-  no-line e h = go (drawn D e) refl
-    where
-      go : (b : Bool) → drawn D e ≡ b → drawn D e ≡ false
-      go true k = absurd (h k)
-      go false k = k
-
   corner-on : (side : Side) (u : ℕ) → SquareAt g wide u → OnTheBoard (down (corner-pad g wide side u))
   corner-on on-right u s = square-on left-edge u s
   corner-on on-left u s = square-on right-edge u s
@@ -205,6 +198,6 @@ module _ (g : Grid) (wide : 2 ≤ g .width) (D : Drawing) (listed : Listed g D) 
       go (corner-across side u s e k) h = corner-no-bar g wide (sym k)
       go (corner-downward side u s e k) h = corner-no-bar g wide (sym k)
       go (bar-across side u s e k) h = let (p, q) = bar-parts g wide k in
-          rw q (corner-on side u s, no-line (down (corner-pad g wide side u)) (λ d. none side u (sym p ∙ h) (rw e at dx) d))
+          rw q (corner-on side u s, not-so (D .down (corner-pad g wide side u)) (λ d. none side u (sym p ∙ h) (rw e at dx) d))
       go (bar-downward side u s e k) h = let (p, q) = bar-parts g wide k in
-          rw q (square-on upper-edge u s, no-line (right u) (λ t. none side u (sym p ∙ h) t (rw e at dx)))
+          rw q (square-on upper-edge u s, not-so (D .right u) (λ t. none side u (sym p ∙ h) t (rw e at dx)))

@@ -11,33 +11,33 @@ use borrow.Author.Tests.{eq-eqb, eqb-false, eqb-true, leb-false, leb-true, ltb-f
 use lib.Dec.{eqb, leb, ltb}
 use Rattle.rules.specs.Grid.{Edge, first, second, Grid}
 use Rattle.rules.specs.Places.{zero≢one}
+use Rattle.rules.specs.Tests.{second-off, either, neither}
 use Rattle.model.specs.Board.{EdgeState, isUndecided, State, set-flag, undecideds, Decide, decide-first, line-or-none, around, degree, settled}
-use Rattle.propagation.specs.Tests.{and-false, or-false, or-true}
 use Rattle.propagation.specs.Edges.{line-or-none-decided}
 use Rattle.propagation.specs.Objects.{AtRest, Geometry}
 use Rattle.propagation.specs.Items.{Onward, onward-refl, onward-flag}
 
 one-and-none : (d n : ℕ) → (eqb d 1 && eqb n 0) ≡ false → n ≡ 0 → d ≢ 1
-one-and-none d n h e f = eqb-false n 0 (and-false (eqb d 1) (eqb n 0) h (eq-eqb d 1 f)) e
+one-and-none d n h e f = eqb-false n 0 (second-off (eqb d 1) (eqb n 0) h (eq-eqb d 1 f)) e
 
 -- neither test of the model applies: at rest
 untouched : (d n : ℕ) → (ltb 2 d || (eqb d 1 && eqb n 0)) ≡ false → (eqb n 1 || leb 2 d) ≡ false
     → ((n ≡ 0) × ((d ≡ 0) ⊎ (d ≡ 2))) ⊎ ((2 ≤ n) × (d ≤ 1))
 untouched d n h k =
-    let (k1, k2) = or-false (eqb n 1) (leb 2 d) k in
+    let (k1, k2) = neither (eqb n 1) (leb 2 d) k in
     let n1 : n ≢ 1 = eqb-false n 1 k1 in
     let d2 : d < 2 = leb-false 2 d k2 in
     elim (ℕ-discrete n 0) [
-      | yes e ↦ inl (e, inl (let m = one-and-none d n (or-false (ltb 2 d) (eqb d 1 && eqb n 0) h .1) e in omega arith))
+      | yes e ↦ inl (e, inl (let m = one-and-none d n (neither (ltb 2 d) (eqb d 1 && eqb n 0) h .1) e in omega arith))
       | no ne ↦ inr ((omega arith), (omega arith))
     ]
 
 -- nothing is undecided though the second test applies: the degree is 2
 nothing-left : (d n : ℕ) → (ltb 2 d || (eqb d 1 && eqb n 0)) ≡ false → (eqb n 1 || leb 2 d) ≡ true → n ≡ 0 → d ≡ 2
 nothing-left d n h k e =
-    let h1 : d ≤ 2 = ltb-false 2 d (or-false (ltb 2 d) (eqb d 1 && eqb n 0) h .0) in
+    let h1 : d ≤ 2 = ltb-false 2 d (neither (ltb 2 d) (eqb d 1 && eqb n 0) h .0) in
     ⊎-elim (λ t. let q : n ≡ 1 = eqb-true n 1 t in absurd (omega arith))
-    (λ t. let q : 2 ≤ d = leb-true 2 d t in omega arith) (or-true (eqb n 1) (leb 2 d) k)
+    (λ t. let q : 2 ≤ d = leb-true 2 d t in omega arith) (either (eqb n 1) (leb 2 d) k)
 
 -- THE FIRST UNDECIDED EDGE of a list, if there is one
 pub record FirstUndecided (dec : Decide) (m : EdgeState) (l : List (Edge × ℕ)) (S : State) : Type 0 where

@@ -12,9 +12,8 @@ use lib.Dec.{eqb, leb, ltb}
 use Rattle.rules.specs.Grid.{Edge, first, second, Grid, pads, clue}
 use Rattle.rules.specs.Drawing.{Drawing, drawn, Line, Joined, Wired, Listed, more}
 use Rattle.rules.specs.Places.{zero≢one}
+use Rattle.rules.specs.Tests.{both, either, conflict, not-so}
 use Rattle.model.specs.Board.{EdgeState, isLine, isUndecided, sameState, End, isThrough, unequal-negative, isPad, State, set-edge, Item, isBlank, check-end, other-clue, undecideds, Decide, Check, line-or-none, keep-aparts, on-board, barred, shape-items, around, degree, settled, do-item, do-items, check-items, cannot-join, join-ends, after-store, decide, check, undecided, line, none, through, at-pad, at-clue, detour, corner, bar, check-pad, keep-apart, settle}
-use Rattle.model.specs.Calls.{new}
-use Rattle.propagation.specs.Tests.{and-off, or-true, conflict}
 use Rattle.propagation.specs.Undecided.{undecided-edges, undecided-no-more, undecided-less}
 use Rattle.rules.specs.Chains.{Symmetric, join-trans, join-sym, join-mono, line-back}
 use Rattle.propagation.specs.Ends.{Ends}
@@ -27,7 +26,6 @@ use Rattle.propagation.specs.StoredState.{flag-kept, none-chains, with-l
 use Rattle.propagation.specs.Kept.{calls-keep}
 use Rattle.propagation.specs.Squares.{geometry}
 use Rattle.propagation.specs.Counting.{leads}
-use Rattle.propagation.specs.BoardAtRest.{ends-say}
 use Rattle.propagation.specs.Agreement.{Agrees, drawn-degree, NoneOrTwo, DegreeLeft, degree-left, must-be}
 use Rattle.propagation.specs.ListedDrawing.{its-line, both-pads, reach, around-on, its-degree, detours-right, corners-right, bars-right}
 
@@ -113,13 +111,9 @@ module _ (g : Grid) (wide : 2 ≤ g .width) (D : Drawing) (listed : Listed g D) 
             differ (wired .equal-codes k (o .pad) c x is-clue (o .clue-at)
             (join-trans (join-sym both-ways joined) (more (leads-there d) (join-mono (within S fits) (o .joined)))))
 
-        off : other-clue c (S .end u) ≡ true → (t : Bool) → drawn D e ≡ t → drawn D e ≡ false
-        off h true d = absurd (never h d)
-        off h false d = d
-
         go : (t : Bool) → (isUndecided (S .edge e) && other-clue c (S .end u)) ≡ t → Fits g D ((do-item g dec chk (keep-apart c e u) S) .0) × ((do-item g dec chk (keep-apart c e u) S) .1 ≡ false)
         go false h = rw (h, do-item) (fits, refl)
-        go true h = let T = sound-decide e none S oe refl (off (and-off (isUndecided (S .edge e)) (other-clue c (S .end u)) h .1) (drawn D e) refl) fits (omega arith) in rw (h, do-item) (T, T .clear)
+        go true h = let T = sound-decide e none S oe refl (not-so (drawn D e) (never (both (isUndecided (S .edge e)) (other-clue c (S .end u)) h .1))) fits (omega arith) in rw (h, do-item) (T, T .clear)
 
     sound-settle : (v : ℕ) → v < pads g → SoundItem (settle v)
     unfolding do-item settled
@@ -140,8 +134,8 @@ module _ (g : Grid) (wide : 2 ≤ g .width) (D : Drawing) (listed : Listed g D) 
         no-flag : (ltb 2 d || (eqb d 1 && eqb k 0)) ≡ true → ⊥
         no-flag h = let low = left .no-more in let high = left .no-less in ⊎-elim
             (λ t. let q : 2 < d = ltb-true 2 d t in ⊎-elim (λ y. omega (arith, low, high, y)) (λ y. omega (arith, low, high, y)) degrees)
-            (λ t. let (x, y) = and-off (eqb d 1) (eqb k 0) t in let q : d ≡ 1 = eqb-true d 1 x in let r : k ≡ 0 = eqb-true k 0 y in
-            ⊎-elim (λ y. omega (arith, low, high, y)) (λ y. omega (arith, low, high, y)) degrees) (or-true (ltb 2 d) (eqb d 1 && eqb k 0) h)
+            (λ t. let (x, y) = both (eqb d 1) (eqb k 0) t in let q : d ≡ 1 = eqb-true d 1 x in let r : k ≡ 0 = eqb-true k 0 y in
+            ⊎-elim (λ y. omega (arith, low, high, y)) (λ y. omega (arith, low, high, y)) degrees) (either (ltb 2 d) (eqb d 1 && eqb k 0) h)
 
         is-way : (t : Bool) → t ≡ isLine (line-or-none t)
         is-way true = refl
@@ -154,7 +148,7 @@ module _ (g : Grid) (wide : 2 ≤ g .width) (D : Drawing) (listed : Listed g D) 
             (λ (o : FirstUndecided dec (line-or-none (eqb d 1)) (around g v) S). rw (o .decides-it) (sound-decide (o .at .0) (line-or-none (eqb d 1)) S
             (around-on g wide D listed v (o .at) inside (o .member) .0) (line-or-none-decided (eqb d 1))
             (must-be D g S (fits .agrees) v degrees (o .at) (o .member) (o .undecided-there)
-            (⊎-elim (λ t. inl (eqb-true k 1 t)) (λ t. inr (leb-true 2 d t)) (or-true (eqb k 1) (leb 2 d) w))
+            (⊎-elim (λ t. inl (eqb-true k 1 t)) (λ t. inr (leb-true 2 d t)) (either (eqb k 1) (leb 2 d) w))
             ∙ is-way (eqb d 1)) fits (omega arith)))
             (λ (z, e). rw e fits) (find-first dec (line-or-none (eqb d 1)) (around g v) S)))
 
@@ -219,17 +213,13 @@ module _ (g : Grid) (wide : 2 ≤ g .width) (D : Drawing) (listed : Listed g D) 
     is-through (at-pad a) h = zero≢one (cc)
     is-through (at-clue c) h = zero≢one (cc)
 
-    never-so : (b : Bool) → (b ≡ true → ⊥) → b ≡ false
-    never-so true h = absurd (h refl)
-    never-so false h = refl
-
     can-join : cannot-join g e (set-edge S e line) ≡ false
     unfolding cannot-join set-edge
     can-join = rw (
-      never-so (isThrough A) (λ h. not-through-A (is-through A h)),
-      never-so (isThrough B) (λ h. not-through-B (is-through B h)),
-      never-so (unequal-negative A B) (not-unequal A B refl refl),
-      never-so (isPad A (second (g .width) e)) (not-closing A refl),
+      not-so (isThrough A) (λ h. not-through-A (is-through A h)),
+      not-so (isThrough B) (λ h. not-through-B (is-through B h)),
+      not-so (unequal-negative A B) (not-unequal A B refl refl),
+      not-so (isPad A (second (g .width) e)) (not-closing A refl),
     ) refl
 
   -- THE INDUCTION over the bound

@@ -14,8 +14,8 @@ use lib.Dec.{ltb}
 use Rattle.rules.specs.Grid.{Edge, first, second, Grid, pads, right, down}
 use Rattle.rules.specs.Drawing.{Side, on-left, on-right}
 use Rattle.rules.specs.Places.{zero≢one, edge-of-pads, no-edge-back}
+use Rattle.rules.specs.Tests.{both, both-on}
 use Rattle.model.specs.Board.{Item, detours, when, with-edge, has-right, has-left, has-down, has-up, on-board, has-side, barred, corner-right, corner-left, shape-items, around, detour, corner, bar}
-use Rattle.propagation.specs.Tests.{and-on, and-off}
 use Rattle.propagation.specs.Objects.{Plain, Geometry, is-detour, is-corner, is-bar}
 
 module _ (g : Grid) (wide : 2 ≤ g .width) where
@@ -155,7 +155,7 @@ module _ (g : Grid) (wide : 2 ≤ g .width) where
   unfolding shape-items
   standing (right v) it m =
       let (c, m1) = mem-when _ _ it m in
-      let (r, i) = and-off (has-right g v) (ltb v (pads g)) c in
+      let (r, i) = both (has-right g v) (ltb v (pads g)) c in
       ⊎-elim
       (λ k. let (u, m2) = mem-when _ _ it k in let (s, e) = square-above v r i u in in-square (v - W) lower-edge s (ap right e) m2)
       (λ k. ⊎-elim
@@ -198,16 +198,16 @@ module _ (g : Grid) (wide : 2 ≤ g .width) where
 
   pub square-items : (u : ℕ) (r : Role) (it : Item) → SquareAt u → List·Memᴰ it (detours-at r u) → List·Memᴰ it (shape-items g (square-edge r u))
   unfolding shape-items
-  square-items u upper-edge it s m = when-mem _ _ it (and-on (upper-right s) (upper-in s)) (Memᴰ·append-right (when (has-up g u) _) (Memᴰ·append-left _ (when-mem _ _ it (left-down s) m)))
-  square-items u lower-edge it s m = when-mem _ _ it (and-on (lower-right s) (lower-in s)) (Memᴰ·append-left _ (when-mem _ _ it (lower-up s) (rw (back-up u) m)))
+  square-items u upper-edge it s m = when-mem _ _ it (both-on (upper-right s) (upper-in s)) (Memᴰ·append-right (when (has-up g u) _) (Memᴰ·append-left _ (when-mem _ _ it (left-down s) m)))
+  square-items u lower-edge it s m = when-mem _ _ it (both-on (lower-right s) (lower-in s)) (Memᴰ·append-left _ (when-mem _ _ it (lower-up s) (rw (back-up u) m)))
   square-items u left-edge it s m = when-mem _ _ it (left-down s) (Memᴰ·append-right (when (has-left g u) _) (Memᴰ·append-left _ (when-mem _ _ it (upper-right s) m)))
   square-items u right-edge it s m = when-mem _ _ it (right-down s) (Memᴰ·append-left _ (when-mem _ _ it (right-left s) (rw (back-left u) m)))
 
   pub corner-items-across : (side : Side) (u : ℕ) → SquareAt u → List·Memᴰ (corner-item side u (down (corner-pad side u))) (shape-items g (right u))
   unfolding shape-items
-  corner-items-across on-right u s = when-mem _ _ _ (and-on (upper-right s) (upper-in s))
+  corner-items-across on-right u s = when-mem _ _ _ (both-on (upper-right s) (upper-in s))
       (Memᴰ·append-right (when (has-up g u) _) (Memᴰ·append-right (when (has-down g u) _) (when-mem _ _ _ (left-down s) (List·Memᴰ·head refl))))
-  corner-items-across on-left u s = when-mem _ _ _ (and-on (upper-right s) (upper-in s))
+  corner-items-across on-left u s = when-mem _ _ _ (both-on (upper-right s) (upper-in s))
       (Memᴰ·append-right (when (has-up g u) _) (Memᴰ·append-right (when (has-down g u) _) (when-mem _ _ _ (left-down s) (List·Memᴰ·tail (List·Memᴰ·head refl)))))
 
   corner-items-downward : (side : Side) (u : ℕ) → SquareAt u → List·Memᴰ (corner-item side u (right u)) (shape-items g (down (corner-pad side u)))
@@ -347,10 +347,10 @@ module _ (g : Grid) (wide : 2 ≤ g .width) where
   left-on v o b =
       let h : 0 < v % W = ltb-true 0 (v % W) b in
       let e = one-before v b in
-      and-on (lt-ltb ((v - 1) % W + 1) W (previous-column (v - 1) (rw e at h))) (lt-ltb (v - 1) (pads g) (omega arith))
+      both-on (lt-ltb ((v - 1) % W + 1) W (previous-column (v - 1) (rw e at h))) (lt-ltb (v - 1) (pads g) (omega arith))
 
   pub right-on : (v : ℕ) → v < pads g → has-right g v ≡ true → on-board g (right v) ≡ true
-  right-on v o b = and-on b (lt-ltb v (pads g) o)
+  right-on v o b = both-on b (lt-ltb v (pads g) o)
 
   pub up-on : (v : ℕ) → v < pads g → has-up g v ≡ true → on-board g (down (v - W)) ≡ true
   up-on v o b = let h = row-before v b in lt-ltb (v - W + W) (pads g) (omega arith)

@@ -3,14 +3,13 @@
 use Prim.Native.Nat.{ℕ}
 use mathlib.Core.Path.{_≡_, refl, sym, _∙_, ap}
 use mathlib.Core.Logic.{_≢_, inl, inr, ⊎-elim}
-use mathlib.Core.Bool.{Bool, true, false, not}
-use borrow.Author.Tests.{eqb-false, eqb-true}
+use mathlib.Core.Bool.{true, false, not}
+use borrow.Author.Tests.{eqb-false, eqb-true, not-false}
 use lib.Dec.{eqb}
 use Rattle.rules.specs.Grid.{Edge, first, second, Grid}
 use Rattle.rules.specs.Places.{zero≢one}
+use Rattle.rules.specs.Tests.{neither, conflict}
 use Rattle.model.specs.Board.{EdgeState, isLine, isUndecided, End, isThrough, unequal-negative, isPad, State, set-edge, joined-ends, on-board, cannot-join, join-ends, line, none, through, at-pad, at-clue}
-use Rattle.model.specs.Calls.{undo}
-use Rattle.propagation.specs.Tests.{or-false, conflict}
 use Rattle.propagation.specs.Undecided.{DecidedStay}
 use Rattle.rules.specs.Chains.{line-back}
 use Rattle.propagation.specs.Ends.{Added, same-pad}
@@ -92,7 +91,7 @@ module _ (g : Grid) (S : State) (e : Edge) (undecided-before : isUndecided (S .e
 
     joinable : Joinable
     unfolding cannot-join set-edge
-    joinable = let (a, b) = or-false _ _ can-join in let (c, d) = or-false _ _ b in let (x, y) = or-false _ _ d in
+    joinable = let (a, b) = neither _ _ can-join in let (c, d) = neither _ _ b in let (x, y) = neither _ _ d in
         record { not-through-A = a; not-through-B = c; equal-codes = x; not-closing = y }
 
     not-through : (X : End) → isThrough X ≡ false → X ≢ through
@@ -102,11 +101,7 @@ module _ (g : Grid) (S : State) (e : Edge) (undecided-before : isUndecided (S .e
     not-that-pad X v h p = let k : eqb v v ≡ false = sym (ap (λ Y. isPad Y v) p) ∙ h in eqb-false v v k refl
 
     one-code : (X Y : End) → unequal-negative X Y ≡ false → (c d : ℕ) → X ≡ at-clue c → Y ≡ at-clue d → c ≡ d
-    one-code X Y h c d p q = let k : not (eqb c d) ≡ false = rw (p, q) at h in eqb-true c d (undo (eqb c d) k)
-      where
-        undo : (b : Bool) → not b ≡ false → b ≡ true
-        undo true k = refl
-        undo false k = zero≢one (cc)
+    one-code X Y h c d p q = let k : not (eqb c d) ≡ false = rw (p, q) at h in eqb-true c d (not-false (eqb c d) k)
 
     line-added : Added (board-lines g S) (board-lines g with-line) (first e) (second (g .width) e)
     line-added = record {

@@ -1,7 +1,7 @@
 -- The number of undecided edges of the board: it never grows, it falls with each decision, and `enough` exceeds twice of it. This is
 -- what makes decisions and checks end.
 use Prim.Native.Nat.{ℕ, zero, suc, _+_, _*_, _≤_, _<_}
-use mathlib.Core.Path.{_≡_, refl, ap}
+use mathlib.Core.Path.{_≡_, refl, ap, _∙_}
 use mathlib.Core.Bool.{Bool, true, false}
 use native.Mathlib.Omega.{arith}
 use native.Mathlib.Decide.{ℕ-discrete}
@@ -9,9 +9,8 @@ use borrow.Author.Tests.{ltb-true}
 use lib.Dec.{ltb}
 use Rattle.rules.specs.Grid.{Edge, first, Grid, pads, right, down}
 use Rattle.rules.specs.Drawing.{num, count}
-use Rattle.rules.specs.Places.{zero≢one}
+use Rattle.rules.specs.Tests.{both, conflict, is-so}
 use Rattle.model.specs.Board.{isUndecided, State, has-right, on-board, enough}
-use Rattle.propagation.specs.Tests.{and-off}
 
 pub num-small : (b : Bool) → num b ≤ 1
 num-small true = omega arith
@@ -45,11 +44,7 @@ abbrev pub DecidedStay : State → State → Type 0
 DecidedStay S T = (x : Edge) → isUndecided (S .edge x) ≡ false → T .edge x ≡ S .edge x
 
 still-undecided : (S T : State) → DecidedStay S T → (x : Edge) → isUndecided (T .edge x) ≡ true → isUndecided (S .edge x) ≡ true
-still-undecided S T h x k = go (isUndecided (S .edge x)) refl
-  where
-    go : (b : Bool) → isUndecided (S .edge x) ≡ b → isUndecided (S .edge x) ≡ true
-    go true e = e
-    go false e = let j = ap isUndecided (h x e) in zero≢one (cc)
+still-undecided S T h x k = is-so (isUndecided (S .edge x)) (λ e. conflict k (ap isUndecided (h x e) ∙ e))
 
 module _ (g : Grid) where
   unfoldable pub undecided-edges : State → ℕ
@@ -57,7 +52,7 @@ module _ (g : Grid) where
 
   -- the first pad of an edge of the board is a pad
   first-in : (e : Edge) → on-board g e ≡ true → first e < pads g
-  first-in (right v) h = ltb-true v (pads g) (and-off (has-right g v) (ltb v (pads g)) h .1)
+  first-in (right v) h = ltb-true v (pads g) (both (has-right g v) (ltb v (pads g)) h .1)
   first-in (down v) h = let k = ltb-true (v + g .width) (pads g) h in omega arith
 
   pub undecided-no-more : (S T : State) → DecidedStay S T → undecided-edges T ≤ undecided-edges S

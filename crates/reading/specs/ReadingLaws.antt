@@ -1,8 +1,8 @@
 -- What is known of every reading of a grid file: 256 cells; sizes and cells in range where it is accepted. These are the laws by
 -- which a program hands what it read to a search. They follow a standing that is sound from byte to byte.
 use Rattle.model.specs.Choice.{if_then_else_}
-use mathlib.Core.Path.{_≡_, refl, sym, _∙_}
-use mathlib.Core.Bool.{Bool, true, false, not, _&&_}
+use mathlib.Core.Path.{_≡_, refl, _∙_}
+use mathlib.Core.Bool.{Bool, true, false, not, _&&_, true≢false}
 use mathlib.Core.List.{List, [], _∷_}
 use mathlib.Core.Logic.{inl, inr}
 use Prim.Native.Nat.{ℕ, zero, suc, _+_, _*_, _-_, _≤_}
@@ -12,16 +12,14 @@ use lib.ListN.{length, getD, set, take, length-set, length-replicate, replicate}
 use lib.Seq.{getD-take, length-take-le}
 use lib.IntN.{ℤ, pos}
 use lib.Dec.{eqb, ltb}
-use borrow.Author.Tests.{ltb-false, eqb-true, eqb-false, ne-eqb}
+use borrow.Author.Tests.{ltb-false, eqb-true, eqb-false, not-true, ne-eqb}
 use Rattle.rules.specs.Grid.{Size, largest-code, blank-cell, CellInRange, Accepted}
+use Rattle.rules.specs.Tests.{both, conflict}
 use Rattle.model.specs.Bounds.{is-size, most-digits}
 use Rattle.model.specs.RefusalLaws.{size-of-test}
 use Rattle.model.specs.GridFile.{Standing, Reading, is-digit, is-comma, is-line-end, is-allowed, blank, no-cells, start, in-header, fields-due, is-complete, field-cell, bad-size, refusal, with-digit, begun, after, accepted, declined, read-from, read}
 
 -- ## What an accepted byte says
-
-impossible : {A : Type 0} → true ≡ false → A
-impossible e = let z : _≡_ {A = ℕ} 0 1 = cc in absurd (omega arith)
 
 -- a test that would have given a number has failed
 passed : (test : Bool) (number rest : ℕ) → (if test then suc number else rest) ≡ 0 → (test ≡ false) × (rest ≡ 0)
@@ -64,7 +62,7 @@ kind-of s byte p = go (is-digit byte) (is-comma byte) (is-line-end byte) refl re
     go true c l hd hc hl = a-digit hd (eqb-false (s .digits) 10 (rw hd at (p .ten-digits)))
     go false true l hd hc hl = a-comma hd hc (ltb-false largest-code (s .value) (rw hd at (p .in-range))) (eqb-false (s .field) (fields-due s) (rw hc at (p .no-more-fields)))
     go false false true hd hc hl = a-line-end hd hc (ltb-false largest-code (s .value) (rw hd at (p .in-range))) (ltb-false (s .field) (fields-due s) (rw hl at (p .enough-fields))) (rw hl at (p .sizes))
-    go false false false hd hc hl = impossible (rw (hd, hc, hl) at (p .allowed))
+    go false false false hd hc hl = absurd (true≢false (rw (hd, hc, hl) at (p .allowed)))
 
 -- ## A sound standing
 
@@ -108,7 +106,7 @@ start-sound =
       field-from-1 = omega arith;
       field-due = omega arith;
       digits-due = omega arith;
-      sizes-in-range = λ (h : eqb 1 1 ≡ false). impossible h;
+      sizes-in-range = λ (h : eqb 1 1 ≡ false). absurd (true≢false h);
     }
 
 module _ (s : Standing) (sound : Sound s) where
@@ -178,7 +176,7 @@ module _ (s : Standing) (sound : Sound s) where
         field-from-1 = omega arith;
         field-due = rw h (more (rw h at n));
         digits-due = omega arith;
-        sizes-in-range = λ (e : eqb (s .line) 1 ≡ false). impossible (sym h ∙ e);
+        sizes-in-range = λ (e : eqb (s .line) 1 ≡ false). conflict h e;
       })
     where
       more : (s .field ≡ 2 → ⊥) → s .field + 1 ≤ 2
@@ -198,8 +196,8 @@ module _ (s : Standing) (sound : Sound s) where
     where
       go : (t w : Bool) → is-size (s .height) ≡ t → is-size (s .value) ≡ w → ltb 0 (bad-size s) ≡ false → Size (s .height) × Size (s .value)
       go true true t w k = (size-of-test (s .height) t, size-of-test (s .value) w)
-      go true false t w k = impossible (rw (t, w, bad-size) at k)
-      go false w t u k = impossible (rw (t, bad-size) at k)
+      go true false t w k = absurd (true≢false (rw (t, w, bad-size) at k))
+      go false w t u k = absurd (true≢false (rw (t, bad-size) at k))
 
   header-end : in-header s ≡ true → fields-due s ≤ s .field → in-header s && ltb 0 (bad-size s) ≡ false → Sound (begun s (s .line + 1) 1)
   unfolding fields-due in-header
@@ -265,11 +263,7 @@ unfolding accepted is-complete
 accepted-sound s sound c = record { cell-count = sound .cell-count; in-range = λ e. grid; pads-in-cells = few }
   where
     rows : in-header s ≡ false
-    rows = go (in-header s) refl
-      where
-        go : (h : Bool) → in-header s ≡ h → in-header s ≡ false
-        go true h = impossible (sym (rw (h, is-complete) at c))
-        go false h = h
+    rows = not-true (in-header s) (both (not (in-header s)) _ c .0)
 
     few : s .height * s .width ≤ 256
     few = mul-le-mul (sound .sizes-in-range rows .0 .1) (sound .sizes-in-range rows .1 .1)

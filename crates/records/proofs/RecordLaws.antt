@@ -14,9 +14,7 @@ use Rattle.model.specs.Bounds.{is-size}
 use Rattle.model.specs.RefusalLaws.{size-of-test}
 use Rattle.model.specs.Records.{record-length, has-record, record-at, shorter}
 use Rattle.rules.specs.Record.{record-lines}
-
-never : {A : Type 0} → true ≡ false → A
-never e = let z : _≡_ {A = ℕ} 0 1 = cc in absurd (omega arith)
+use Rattle.rules.specs.Tests.{both}
 
 -- ## The length of a record
 
@@ -70,14 +68,11 @@ module _ (height width count k room : ℕ) where
 
   pub has : has-record height width count k room ≡ true → Has
   unfolding has-record
-  has e = go (is-size height) (is-size width) (ltb k count) (leb (k * record-length height width + record-length height width) room) refl refl refl refl e
-    where
-      go : (a b c d : Bool) → is-size height ≡ a → is-size width ≡ b → ltb k count ≡ c → leb (k * record-length height width + record-length height width) room ≡ d → a && b && c && d ≡ true → Has
-      go true true true true p q r s e = record { tall = p; wide = q; inside = leb-true _ _ s }
-      go true true true false p q r s e = never (sym e)
-      go true true false d p q r s e = never (sym e)
-      go true false c d p q r s e = never (sym e)
-      go false b c d p q r s e = never (sym e)
+  has e =
+      let (abc, d) = both (is-size height && is-size width && ltb k count) _ e in
+      let (ab, c) = both (is-size height && is-size width) (ltb k count) abc in
+      let (a, b) = both (is-size height) (is-size width) ab in
+      record { tall = a; wide = b; inside = leb-true _ _ d }
 
 -- ## Record k
 

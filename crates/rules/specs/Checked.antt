@@ -1,40 +1,21 @@
 -- A drawing checked by computing: where the check says true, the drawing is ordinary. The check is given a number for each pad that
 -- rises along each chain (so no chain closes), and the code of each pad's chain. It is there for the example drawings of Examples.antt;
--- it rests on Drawing.antt.
+-- it rests on Drawing.antt and Tests.antt.
 use Prim.Native.Nat.{ℕ, zero, suc, _+_, _*_, _-_, _%_, _≤_, _<_}
 use mathlib.Core.Path.{_≡_, refl, sym, _∙_, ap}
 use mathlib.Core.Logic.{_≢_, _⊎_, inl, inr, ⊎-elim}
 use mathlib.Core.Bool.{Bool, true, false, _&&_, _||_, not}
 use mathlib.Core.List.{List, [], _∷_, List·Memᴰ, List·Memᴰ·head, List·Memᴰ·tail, List·Memᴰ·cases-cons, List·Memᴰ·not-nil}
 use native.Mathlib.Omega.{arith}
-use native.Mathlib.Decide.{ℕ-discrete, decLt}
+use native.Mathlib.Decide.{decLt}
 use borrow.Author.Tests.{ltb-true, leb-true, eqb-true, eqb-false, not-true, le-leb}
 use lib.Dec.{eqb, ltb, leb}
 use lib.ListN.{getD, length, List·getD-eq-default}
 use lib.IntN.{ℤ}
 use Rattle.rules.specs.Grid.{right, down, Cell, blank, clue, cell-of, blank-cell, Grid, grid-of, OnBoard}
 use Rattle.rules.specs.Drawing.{Drawing, Placed, Line, rightward, leftward, downward, upward, NoLine, OneLine, TwoLines, Joined, here, more, Loop, Ordinary}
+use Rattle.rules.specs.Tests.{both, either, all-below, all-below-at}
 use Rattle.rules.specs.Places.{zero≢one}
-
--- both of two tests
-pub both : (a b : Bool) → a && b ≡ true → (a ≡ true) × (b ≡ true)
-both true b h = (refl, h)
-both false b h = zero≢one (cc)
-
-pub either : (a b : Bool) → a || b ≡ true → (a ≡ true) ⊎ (b ≡ true)
-either true b h = inl refl
-either false b h = inr h
-
--- a test of every number below n
-unfoldable pub all-below : (ℕ → Bool) → ℕ → Bool
-all-below test zero = true
-all-below test (suc n) = all-below test n && test n
-
-pub all-below-at : (test : ℕ → Bool) (n : ℕ) → all-below test n ≡ true → (v : ℕ) → v < n → test v ≡ true
-unfolding all-below
-all-below-at test zero h v l = absurd (omega arith)
-all-below-at test (suc n) h v l = elim (ℕ-discrete v n)
-    [ yes e ↦ rw e (both (all-below test n) (test n) h .1) | no ne ↦ all-below-at test n (both (all-below test n) (test n) h .0) v (omega arith) ]
 
 -- is x in the list, and a test of every member
 unfoldable pub elem : ℕ → List ℕ → Bool

@@ -1,5 +1,5 @@
 -- Two more checks by computing, for the unit squares and for the corners on each side: an ordinary drawing that passes them is listed.
--- They are there for the example drawings of Examples.antt; they rest on Drawing.antt and Checked.antt.
+-- They are there for the example drawings of Examples.antt; they rest on Drawing.antt and Tests.antt.
 use Prim.Native.Nat.{ℕ, _+_, _-_, _<_}
 use mathlib.Core.Path.{_≡_, refl}
 use mathlib.Core.Logic.{_⊎_, inl, inr, ⊎-elim}
@@ -9,8 +9,8 @@ use borrow.Author.Tests.{leb-true, not-true, le-leb}
 use lib.Dec.{leb}
 use Rattle.rules.specs.Grid.{down, Cell, blank, clue, Grid, pads, OnBoard}
 use Rattle.rules.specs.Drawing.{Drawing, Ordinary, Listed, square-lines, Side, on-left, on-right, DiagonallyBelow, Corner, IsClue}
+use Rattle.rules.specs.Tests.{both, either, all-below, all-below-at}
 use Rattle.rules.specs.Places.{zero≢one}
-use Rattle.rules.specs.Checked.{both, either, all-below, all-below-at}
 
 -- has the pad the corner on that side
 unfoldable pub has-corner : Side → Drawing → ℕ → Bool

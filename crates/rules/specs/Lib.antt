@@ -3,6 +3,7 @@ pub mod Grid
 pub mod Drawing
 pub mod Record
 pub mod Chains
+pub mod Tests
 pub mod Places
 pub mod RecordLaws
 pub mod Sums

@@ -1,7 +1,7 @@
 -- Records, drawings and pad codes determine each other: the byte of each edge stands at its place, the drawing that a record shows is the
 -- drawing it was made of, drawings that agree on the board have one record, and equal codes at every pad mean the same drawing. The file
 -- rests on Places.antt.
-use Prim.Native.Nat.{ℕ, zero, suc, _+_, _*_, _-_, _%_, _/_, _≤_, _<_}
+use Prim.Native.Nat.{ℕ, zero, suc, _+_, _*_, _%_, _/_, _≤_, _<_}
 use mathlib.Core.Path.{_≡_, refl, sym, _∙_, ap}
 use mathlib.Core.Bool.{Bool, true, false}
 use native.Mathlib.Omega.{arith}
@@ -13,6 +13,7 @@ use lib.ListN.{getD, length, List·getD-eq-default}
 use Rattle.rules.specs.Grid.{Edge, right, down, Place, edge, no-edge, place-at, places, field-side, row-of, column-of, Grid, pads, OnBoard}
 use Rattle.rules.specs.Drawing.{Drawing, drawn, num, Placed}
 use Rattle.rules.specs.Record.{undecided-byte, line-byte, byte-of, tabulate, byte-at-place, field, record-of, place-number, drawing-of, pad-code, codes}
+use Rattle.rules.specs.Tests.{not-so}
 use Rattle.rules.specs.Places.{zero≢one, place-of-edge, row-in-field, column-in-field, edge-of-place}
 
 -- LISTS MADE BY A FUNCTION
@@ -96,11 +97,7 @@ module _ (g : Grid) (wide : 2 ≤ g .width) where
   past-row row column past = let rows : places (g .height) (g .width) ≤ row * field-side (g .width) = mul-le-mul-right (field-side (g .width)) past in omega arith
 
   pub off-line : (D : Drawing) → Placed g D → (e : Edge) → (OnBoard g e → ⊥) → drawn D e ≡ false
-  off-line D placed e off = go (drawn D e) refl
-    where
-      go : (b : Bool) → drawn D e ≡ b → drawn D e ≡ false
-      go true h = absurd (off (placed e h))
-      go false h = h
+  off-line D placed e off = not-so (drawn D e) (λ h. off (placed e h))
 
   pub is-line-byte : (b : Bool) → eqb (byte-of b) line-byte ≡ b
   is-line-byte true = refl

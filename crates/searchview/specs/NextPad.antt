@@ -10,10 +10,11 @@ use lib.Dec.{eqb, ltb}
 use lib.ListN.{getD}
 use borrow.Author.Tests.{lt-ltb, le-ltb, ltb-true, ltb-false, eqb-true}
 use Rattle.rules.specs.Grid.{right, Grid, pads}
+use Rattle.rules.specs.Tests.{both, both-off, is-so}
 use Rattle.model.specs.Board.{State, isUndecided, has-right, has-down}
 use Rattle.model.specs.Search.{next-pad}
 use Rattle.boardview.specs.View.{slot-on, view}
-use Rattle.boardview.specs.Bytes.{default-free, undecided-byte-test, edge-on, both-true}
+use Rattle.boardview.specs.Bytes.{default-free, undecided-byte-test, edge-on}
 use Rattle.searchview.specs.Shown.{edges-only, EdgesReady, last-row, NextPad}
 
 -- the rows above the last: a pad above it has one below
@@ -46,11 +47,9 @@ module _ (g : Grid) (high : 2 ≤ g .height) (edges : List ℕ) (ready : EdgesRe
 
   -- where the byte is 0 there is an edge to the right
   pub right-there : (v : ℕ) → v < last-row g → getD edges (32 + 2 * v) 0 ≡ 0 → has-right g v ≡ true
-  right-there v h z = test (slot-on g (32 + 2 * v)) refl
-    where
-      test : (b : Bool) → slot-on g (32 + 2 * v) ≡ b → has-right g v ≡ true
-      test true on = both-true (has-right g v) (ltb v (pads g)) (sym (edge-on g (right v)) ∙ on) .0
-      test false off = absurd (let k = ready .rim (32 + 2 * v) (omega arith) off in omega arith)
+  right-there v h z =
+      let on = is-so (slot-on g (32 + 2 * v)) (λ off. let k = ready .rim (32 + 2 * v) (omega arith) off in omega arith) in
+      both (has-right g v) (ltb v (pads g)) (sym (edge-on g (right v)) ∙ on) .0
 
   pub scan-same : (n from r : ℕ) → from ≤ last-row g → last-row g ≤ n + from → NextPad edges (last-row g) from r → next-pad g n from S ≡ r
   unfolding next-pad
@@ -71,15 +70,11 @@ module _ (g : Grid) (high : 2 ≤ g .height) (edges : List ℕ) (ready : EdgesRe
           stay true k z = absurd (next .passed from (omega arith) (ltb-true from r k) z)
           stay false k z = let a = next .later in let b = ltb-false from r k in omega arith
       column above rest false z =
-          let goes : (has-right g from && isUndecided (S .edge (right from))) ≡ false = rw (undecided-here from above ∙ z) (and-false (has-right g from)) in
+          let goes : (has-right g from && isUndecided (S .edge (right from))) ≡ false = both-off (has-right g from) _ (undecided-here from above ∙ z) in
           let there = moved (ltb from r) refl in
           rw (below-some g high from above, next-pad) (rw goes (rest (omega arith) (omega arith)
           (record { above = next .above; later = omega arith; passed = λ k a b. next .passed k (omega arith) b; found = next .found })))
         where
-          and-false : (b : Bool) → (b && false) ≡ false
-          and-false true = refl
-          and-false false = refl
-
           moved : (t : Bool) → ltb from r ≡ t → from < r
           moved true k = ltb-true from r k
           moved false k =
@@ -97,12 +92,8 @@ module _ (g : Grid) (high : 2 ≤ g .height) (edges : List ℕ) (ready : EdgesRe
   unfolding next-pad
   next-same v r above decided next = go (pads g) (let k = all-rows g high in omega arith)
     where
-      and-false : (b : Bool) → (b && false) ≡ false
-      and-false true = refl
-      and-false false = refl
-
       go : (n : ℕ) → last-row g ≤ n → next-pad g n v S ≡ r
       go zero k = absurd (omega arith)
       go (suc n) k =
-          let goes : (has-right g v && isUndecided (S .edge (right v))) ≡ false = rw decided (and-false (has-right g v)) in
+          let goes : (has-right g v && isUndecided (S .edge (right v))) ≡ false = both-off (has-right g v) _ decided in
           rw (below-some g high v above, next-pad) (rw goes (scan-same n (v + 1) r (omega arith) (omega arith) next))

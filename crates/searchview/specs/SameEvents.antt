@@ -3,9 +3,8 @@
 -- board's view.
 use Prim.Native.Nat.{ℕ, zero, suc, _+_, _-_}
 use mathlib.Core.Path.{_≡_, refl, ap, _∙_}
-use mathlib.Core.Bool.{Bool, true, false, _&&_, _||_, not}
+use mathlib.Core.Bool.{Bool, true, false, _&&_, _||_, not, true≢false, false≢true}
 use mathlib.Core.List.{List, _∷_, _++_}
-use native.Mathlib.Omega.{arith}
 use lib.Dec.{eqb}
 use Rattle.rules.specs.Grid.{Edge, right, down, Cell, Grid, pads}
 use Rattle.rules.specs.Drawing.{num}
@@ -17,8 +16,8 @@ if-same : {A : Type 0} (a b : Bool) → a ≡ b → {x y z w : A} → x ≡ y �
     → _≡_ {A = A} (elim a [ true ↦ x | false ↦ z ]) (elim b [ true ↦ y | false ↦ w ])
 if-same true true e p q = p
 if-same false false e p q = q
-if-same true false e p q = absurd (let z : _≡_ {A = ℕ} 0 1 = cc in omega arith)
-if-same false true e p q = absurd (let z : _≡_ {A = ℕ} 0 1 = cc in omega arith)
+if-same true false e p q = absurd (true≢false e)
+if-same false true e p q = absurd (false≢true e)
 
 module _ (height width : ℕ) (cells others : ℕ → Cell) (blanks : (v : ℕ) → isBlank (cells v) ≡ isBlank (others v)) where
   abbrev g : Grid

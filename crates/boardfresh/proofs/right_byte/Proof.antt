@@ -3,8 +3,8 @@ use borrow.Author.Needs.{needs}
 use native.Mathlib.Omega.{arith}
 use native.Mathlib.Nat.{mod-lt}
 use borrow.Author.Tests.{lt-ltb, le-ltb}
+use Rattle.rules.specs.Tests.{both-off}
 use Rattle.boardfresh.specs.FreshArrays.{right-byte}
-use Rattle.boardfresh.specs.EdgeBytes.{and-false}
 use Rattle.boardfresh.proofs.right_byte.Statement.{statement}
 use Rattle.boardfresh.proofs.right_byte.Tie as tie
 
@@ -24,7 +24,7 @@ returns-2 c = rw (le-ltb _ _ (c .if2 .left))
 
 returns-3 : tie.Need-returns-3
 unfolding right-byte
-returns-3 c = rw (and-false _ _ (le-ltb _ _ (c .if1 .left)))
+returns-3 c = rw (both-off _ _ (le-ltb _ _ (c .if1 .left)))
 
 pub right-byte-spec : {M : Type 1} → statement M
 right-byte-spec = tie.close (tie.spec rem-if2 add-if2 returns returns-2 returns-3)
