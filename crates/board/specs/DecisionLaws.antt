@@ -1,7 +1,7 @@
 -- The fresh board, the reading and the decision: why the answers say what the model's do. A decision of the code knows of a grid only its sizes
 -- and which pads are blank, and so does the model's (boardview's SameBlanks.antt); the number of undecided edges keeps it from needing more
 -- than the model's bound (boardview's Undecided.antt).
-use Prim.Native.Nat.{ℕ, _+_, _*_, _-_}
+use Prim.Native.Nat.{ℕ, _+_, _*_}
 use mathlib.Core.Path.{_≡_, refl, sym, ap, _∙_}
 use mathlib.Core.Bool.{true, false}
 use mathlib.Core.List.{List, [], _∷_}

@@ -4,5 +4,6 @@ pub mod PlaceLaws
 pub mod Held
 pub mod CallLaws
 pub mod ShowLaws
+pub mod Sizes
 pub mod DecisionLaws
 pub mod SlotLaws

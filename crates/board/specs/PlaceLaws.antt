@@ -1,6 +1,6 @@
 -- The edge at a place of the field, as a slot of the board's bytes: which slot, that it is on the board, and which byte stands there. It rests
 -- on the rules' Places.antt and boardview's View.antt.
-use Prim.Native.Nat.{ℕ, _+_, _*_, _-_, _%_, _/_, _≤_, _<_}
+use Prim.Native.Nat.{ℕ, _+_, _*_, _%_, _/_, _≤_, _<_}
 use mathlib.Core.Path.{_≡_, refl, sym, ap, _∙_}
 use mathlib.Core.Bool.{Bool, true, false, _&&_}
 use mathlib.Core.List.{List, []}
@@ -10,8 +10,9 @@ use lib.Dec.{ltb}
 use lib.ListN.{getD}
 use borrow.Author.Tests.{lt-ltb, le-ltb, ltb-true}
 use Rattle.rules.specs.Grid.{Edge, right, down, Place, edge, no-edge, place-at, place-by-parity, field-side, Grid, pads, OnBoard}
-use Rattle.rules.specs.Places.{edge-of-place}
+use Rattle.rules.specs.Places.{edge-of-place, zero≢one}
 use Rattle.model.specs.Board.{on-board}
+use Rattle.model.specs.BoardLaws.{on-board-test}
 use Rattle.model.specs.Calls.{edge-at}
 use Rattle.boardview.specs.View.{slot, grid-in, Kinds}
 
@@ -69,13 +70,7 @@ module _ (g : Grid) (y x : ℕ) where
       unfolding place-at place-by-parity slot-of-place
       odd-odd r c = let odd : y % 2 ≡ 1 = omega arith in let odd-column : x % 2 ≡ 1 = omega arith in rw (at-place, odd, odd-column) refl
 
--- ON THE BOARD
-on-board-test : (g : Grid) (e : Edge) → OnBoard g e → on-board g e ≡ true
-unfolding OnBoard
-on-board-test g (right v) (below, inside) = rw (lt-ltb (v % g .width + 1) (g .width) inside, lt-ltb v (pads g) below) refl
-on-board-test g (down v) below = lt-ltb (v + g .width) (pads g) below
-
--- where the slot is no 0 there is an edge, and it is on the board
+-- ON THE BOARD: where the slot is no 0 there is an edge, and it is on the board
 pub record EdgeThere (g : Grid) (y x n : ℕ) : Type 0 where
   pub the-edge : Edge
   pub there : edge-at g y x ≡ edge the-edge
@@ -96,14 +91,8 @@ module _ (g : Grid) (least : 2 ≤ g .width) (few : pads g ≤ 256) (y x : ℕ) 
       test : (a b : Bool) → ltb y (field-side (g .height)) ≡ a → ltb x (field-side (g .width)) ≡ b → elim (a && b) [ true ↦ place-at (g .width) y x | false ↦ no-edge ] ≡ edge e
           → (y < field-side (g .height)) × (x < field-side (g .width)) × (place-at (g .width) y x ≡ edge e)
       test true true p q h = (ltb-true _ _ p, ltb-true _ _ q, h)
-      test true false p q h = absurd (never h)
-        where
-          never : no-edge ≡ edge e → ⊥
-          never same = let z : _≡_ {A = ℕ} 0 1 = cc in omega arith
-      test false b p q h = absurd (never h)
-        where
-          never : no-edge ≡ edge e → ⊥
-          never same = let z : _≡_ {A = ℕ} 0 1 = cc in omega arith
+      test true false p q h = zero≢one (cc)
+      test false b p q h = zero≢one (cc)
 
   pub on-place : (e : Edge) → edge-at g y x ≡ edge e → (on-board g e ≡ true) × (slot e < 1024)
   on-place e at =

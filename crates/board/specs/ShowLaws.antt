@@ -1,19 +1,20 @@
 -- What a board shows: a list laid out element by element, the record of the edges, the ends. It rests on PlaceLaws.antt and Held.antt.
-use Prim.Native.Nat.{ℕ, zero, suc, _+_, _*_, _-_, _%_, _/_, _≤_, _<_}
+use Prim.Native.Nat.{ℕ, zero, suc, _+_, _*_, _%_, _/_, _≤_, _<_}
 use mathlib.Core.Path.{_≡_, refl, sym, ap, _∙_, subst}
 use mathlib.Core.List.{List, [], _∷_, _++_}
 use native.Mathlib.Omega.{arith}
-use native.Mathlib.Nat.{mul-le-mul, div-lt-iff-lt-mul, mod-lt}
+use native.Mathlib.Nat.{div-lt-iff-lt-mul, mod-lt, zero-add}
 use native.Mathlib.Numerals.{add-one}
 use lib.ListN.{getD, length, take, set, length-set}
 use lib.Seq.{take-suc-set, take-take}
-use lib.IntN.{ℤ, pos, negsuc}
+use lib.IntN.{ℤ, pos}
 use Rattle.rules.specs.Grid.{Edge, Place, edge, no-edge, place-at, field-side, places, Grid, pads}
 use Rattle.rules.specs.Record.{field, tabulate, byte-at-place}
 use Rattle.rules.specs.RecordLaws.{tabulate-same}
 use Rattle.model.specs.Board.{end-number}
 use Rattle.model.specs.Calls as model
-use Rattle.boardview.specs.View.{slot, end-of, view, grid-in, flag-in}
+use Rattle.boardview.specs.View.{slot, view, grid-in, flag-in}
+use Rattle.boardview.specs.Ends.{number-of-end}
 use Rattle.boardview.specs.Bytes.{default-free}
 use Rattle.boardview.specs.Places.{byte-back, one-more}
 use Rattle.board.specs.PlaceLaws.{shown-byte, shown-at, at-place, on-place}
@@ -33,13 +34,10 @@ none-laid f size long = record { first = refl; long = long }
 pub one-laid : {A : Type 0} (f : ℕ → A) (size : ℕ) {list : List A} {i : ℕ} {value : A} → value ≡ f i → i < size → Laid f size list i → Laid f size (set list i value) (i + 1)
 one-laid f size {list} {i} {value} is below laid = record {
   first = ap (λ (n : ℕ). take n (set list i value)) (add-one i) ∙ take-suc-set list i value (omega (arith, laid .long))
-      ∙ ap (λ l. l ++ (value ∷ [])) (laid .first) ∙ ap (λ v. tabulate f 0 i ++ (v ∷ [])) (is ∙ ap f (zero-plus i)) ∙ sym (one-more f 0 i)
+      ∙ ap (λ l. l ++ (value ∷ [])) (laid .first) ∙ ap (λ v. tabulate f 0 i ++ (v ∷ [])) (is ∙ ap f (sym (zero-add i))) ∙ sym (one-more f 0 i)
       ∙ ap (λ (n : ℕ). tabulate f 0 n) (sym (add-one i));
   long = length-set list i value ∙ laid .long;
 }
-  where
-    zero-plus : (k : ℕ) → k ≡ 0 + k
-    zero-plus k = omega arith
 
 -- fewer of them
 take-tabulate : {A : Type 0} (f : ℕ → A) (start n m : ℕ) → n ≤ m → take n (tabulate f start m) ≡ tabulate f start n
@@ -64,26 +62,14 @@ pub all-laid : {A : Type 0} (f : ℕ → A) (size : ℕ) (list : List A) (i heig
 all-laid f size list i height width g high wide low reached laid =
     subst (λ (n : ℕ). Laid f size list n) (λ j. field-side (high j) * field-side (wide j)) (laid-all f size list i (field-side height * field-side width) low reached laid)
 
-pub few-places : (height width : ℕ) → height ≤ 16 → width ≤ 16 → field-side height * field-side width ≤ 961
-few-places height width low narrow = mul-le-mul {n₂ = 31} {m₂ = 31} (omega arith) (omega arith)
-
 -- ENDS
 abbrev pub end-at-index : List ℤ → ℕ → ℤ
 end-at-index ends v = getD ends v (pos 0)
-
-end-back : (z : ℤ) → end-number (end-of z) ≡ z
-unfolding end-number end-of
-end-back (pos v) = refl
-end-back (negsuc zero) = refl
-end-back (negsuc (suc code)) = refl
 
 -- EDGES
 module _ (b : Board) (B : model.Board) (held : Held b B) where
   abbrev told : Grid
   told = grid-in (b .kind)
-
-  few-told : pads told ≤ 256
-  few-told = mul-le-mul (held .kinds .largest-height) (held .kinds .largest-width)
 
   abbrev bytes : Edge → ℕ
   bytes e = model.state-byte (view (arrays-of b) .edge e)
@@ -98,7 +84,7 @@ module _ (b : Board) (B : model.Board) (held : Held b B) where
     where
       by-place : (p : Place) → model.edge-at told y x ≡ p → shown-byte (b .edges) (model.edge-at told y x) ≡ byte-at-place bytes (model.edge-at told y x)
       by-place no-edge at = rw at refl
-      by-place (edge e) at = rw at (edge-byte e (on-place told (held .kinds .least-width) few-told y x e at .1))
+      by-place (edge e) at = rw at (edge-byte e (on-place told (held .kinds .least-width) (held .ready .few-pads) y x e at .1))
 
   record-shown : tabulate (shown-at told (b .edges)) 0 (places (told .height) (told .width)) ≡ field (told .height) (told .width) bytes
   unfolding field
@@ -109,7 +95,7 @@ module _ (b : Board) (B : model.Board) (held : Held b B) where
 
   ends-shown : (n : ℕ) → n ≤ 256 → tabulate (end-at-index (b .ends)) 0 n ≡ tabulate (λ v. end-number (view (arrays-of b) .end v)) 0 n
   unfolding view
-  ends-shown n few = tabulate-same (end-at-index (b .ends)) _ 0 n (λ v low below. default-free (b .ends) v (pos 0) (pos v) (omega (arith, held .ready .ends-long)) ∙ sym (end-back (getD (b .ends) v (pos v))))
+  ends-shown n few = tabulate-same (end-at-index (b .ends)) _ 0 n (λ v low below. default-free (b .ends) v (pos 0) (pos v) (omega (arith, held .ready .ends-long)) ∙ sym (number-of-end (getD (b .ends) v (pos v))))
 
   -- THE ANSWER SHOWS THE BOARD
   pub shown-says : (r : Shown) → r .height ≡ told .height → r .width ≡ told .width
@@ -120,7 +106,7 @@ module _ (b : Board) (B : model.Board) (held : Held b B) where
     height = high ∙ held .told .height;
     width = wide ∙ held .told .width;
     edges = rw (high, wide) (edges .first ∙ record-shown ∙ same-field);
-    ends = rw (high, wide) (laid-fewer _ 256 (r .ends) 256 (pads told) few-told ends ∙ ends-shown (pads told) few-told ∙ same-ends);
+    ends = rw (high, wide) (laid-fewer _ 256 (r .ends) 256 (pads told) (held .ready .few-pads) ends ∙ ends-shown (pads told) (held .ready .few-pads) ∙ same-ends);
     flag = flag ∙ ap (λ S. S .flag) (held .shows);
   }
     where

@@ -4,7 +4,6 @@ use Prim.Native.Nat.{ℕ, _+_, _-_, _%_, _/_, _≤_, _<_}
 use mathlib.Core.Path.{_≡_, refl, sym, ap, _∙_}
 use mathlib.Core.Bool.{Bool, true, false}
 use native.Mathlib.Omega.{arith}
-use native.Mathlib.Nat.{mul-le-mul}
 use lib.Dec.{eqb, ltb}
 use lib.ListN.{getD}
 use borrow.Author.Tests.{eq-eqb, ne-eqb, ltb-true, eqb-true, eqb-false}
@@ -50,15 +49,12 @@ module _ (g : Grid) (n : ℕ) (few : pads g ≤ 256) (on : slot-on g n ≡ true)
 
 -- THE CALLS AT A PLACE
 module _ (b : Board) (B : model.Board) (held : Held b B) (y x n : ℕ) (is : n ≡ slot-of-place (model.edge-at (grid-in (b .kind)) y x)) where
-  few : pads (grid-in (b .kind)) ≤ 256
-  few = mul-le-mul (held .kinds .largest-height) (held .kinds .largest-width)
-
   module _ (nothing : n ≡ 0) where
     pub declined-decision : (byte : ℕ) → Says (record { number = 10; answer = 0; board = b }) (model.decide-edge B y x byte)
-    declined-decision byte = no-place-decided b B held y x byte (no-edge-there (grid-in (b .kind)) (held .kinds .least-width) few y x (sym nothing ∙ is))
+    declined-decision byte = no-place-decided b B held y x byte (no-edge-there (grid-in (b .kind)) (held .kinds .least-width) (held .ready .few-pads) y x (sym nothing ∙ is))
 
     pub declined-reading : Says (record { number = 10; answer = 0; board = b }) (model.read-edge B y x)
-    declined-reading = no-place-read b B held y x (no-edge-there (grid-in (b .kind)) (held .kinds .least-width) few y x (sym nothing ∙ is))
+    declined-reading = no-place-read b B held y x (no-edge-there (grid-in (b .kind)) (held .kinds .least-width) (held .ready .few-pads) y x (sym nothing ∙ is))
 
   module _ (some : n ≡ 0 → ⊥) where
     found : EdgeThere (grid-in (b .kind)) y x n

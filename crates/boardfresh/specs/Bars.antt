@@ -13,9 +13,9 @@ use borrow.Author.Tests.{le-ltb, ltb-true, ltb-false}
 use Rattle.rules.specs.Grid.{Grid, pads, grid-of, blank-cell, cell-of}
 use Rattle.rules.specs.Drawing.{Side, on-left, on-right}
 use Rattle.rules.specs.Tests.{both}
+use Rattle.rules.specs.Places.{next-in-row}
 use Rattle.model.specs.Board.{isBlank, has-down, has-side, diagonal, barred}
 use Rattle.boardview.specs.View.{pick, has-bit, clue-bit, corner-bit, bar-bit}
-use Rattle.boardview.specs.Geometry.{next-pad}
 use Rattle.boardfresh.specs.FreshArrays.{Filled, kind-byte, is-clue, corner-test, barred-in, barred-below, bar-test, kind-from, kind-of}
 use Rattle.boardfresh.specs.KindBits.{FiveBits, five-bits}
 
@@ -127,7 +127,7 @@ module _ (height width : ℕ) (cells : List ℤ) (wide : 2 ≤ width) (few : hei
       let b = both _ _ e in
       let below : v + width < height * width = ltb-true _ _ (b .0) in
       let column : v % width + 1 < width = ltb-true _ _ (b .1) in
-      let inside = next-pad height width (v + width) below (rw (add-mod-right v width) column) in
+      let inside = next-in-row width (v + width) height (rw (add-mod-right v width) column) below in
       (omega arith, omega arith)
   diagonal-pad on-left v e = let below : v + width < height * width = ltb-true _ _ (both _ _ e .0) in (omega arith, omega arith)
 

@@ -1,6 +1,6 @@
 -- THE FRESH ARRAYS SHOW THE MODEL'S FRESH BOARD: for an accepted grid, arrays that hold what FreshArrays.antt says are ready, their kinds
 -- tell of a grid of the same sizes and with the same blank pads, and their view is the model's fresh board. It rests on the files beside it.
-use Prim.Native.Nat.{ℕ, zero, suc, _*_, _-_, _≤_, _<_}
+use Prim.Native.Nat.{ℕ, zero, suc, _*_, _≤_, _<_}
 use mathlib.Core.Path.{_≡_, refl, sym, ap, _∙_, subst}
 use mathlib.Core.Bool.{Bool, true, false, _&&_, not}
 use mathlib.Core.List.{List}

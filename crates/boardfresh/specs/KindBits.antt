@@ -1,20 +1,14 @@
 -- The five bits of a pad's kind: each test of the byte gives back its fact. The test of all 32 bytes is computed. It rests on FreshArrays.antt.
-use Prim.Native.Nat.{ℕ, _≤_}
+use Prim.Native.Nat.{ℕ}
 use mathlib.Core.Path.{_≡_, refl, sym}
 use mathlib.Core.Bool.{Bool, true, false, _&&_, not}
-use native.Mathlib.Omega.{arith}
 use lib.Dec.{eqb}
 use lib.Bits.{bitAnd}
 use lib.ListN.{getD}
 use mathlib.Core.List.{List}
-use Rattle.rules.specs.Drawing.{num}
 use Rattle.rules.specs.Tests.{both}
 use Rattle.boardview.specs.View.{has-bit}
 use Rattle.boardfresh.specs.FreshArrays.{kind-byte}
-
-pub number-small : (b : Bool) → num b ≤ 1
-number-small true = omega arith
-number-small false = omega arith
 
 -- a test that holds of both
 abbrev all-bools : (Bool → Bool) → Bool

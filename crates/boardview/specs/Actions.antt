@@ -8,6 +8,7 @@ use native.Mathlib.Omega.{arith}
 use lib.Dec.{eqb, ltb}
 use lib.ListN.{getD}
 use Rattle.rules.specs.Drawing.{num}
+use Rattle.rules.specs.Tests.{num-small}
 use Rattle.boardview.specs.View.{pick, Kinds, has-bit, clue-bit, slot-around, edges-around, degree-around, first-around, action-around, bytes-equal, undecided-side, action-code, action-entry}
 
 -- a code read back: 0, 1, a slot for a line there, 1024 + a slot for none there
@@ -118,15 +119,11 @@ module _ (kind edges : List ℕ) (bytes : (n : ℕ) → getD edges n 2 ≤ 2) (w
   pub byte-low : (n : ℕ) → getD edges n 0 ≤ 2
   byte-low n = low edges n (bytes n)
 
-  clue-low : (b : Bool) → num b ≤ 1
-  clue-low true = omega arith
-  clue-low false = omega arith
-
   pub action-index-small : action-index kind edges width v < 512
-  action-index-small = index-small _ _ _ _ _ (clue-low (has-bit kind v clue-bit)) (byte-low (30 + 2 * v)) (byte-low (32 + 2 * v)) (byte-low (33 + 2 * v - 2 * width)) (byte-low (33 + 2 * v))
+  action-index-small = index-small _ _ _ _ _ (num-small (has-bit kind v clue-bit)) (byte-low (30 + 2 * v)) (byte-low (32 + 2 * v)) (byte-low (33 + 2 * v - 2 * width)) (byte-low (33 + 2 * v))
 
   -- what the table holds there tells what the pad check does last
   pub action-read : Kinds kind → (code : ℕ) → code ≡ getD kind (512 + action-index kind edges width v) 0 → decoded width v code ≡ action-around kind edges width v
   action-read k code e = ap (decoded width v) (e ∙ (k .actions (action-index kind edges width v) action-index-small
-      ∙ entry-at (num (has-bit kind v clue-bit)) _ _ _ _ (clue-low (has-bit kind v clue-bit)) (byte-low (30 + 2 * v)) (byte-low (32 + 2 * v)) (byte-low (33 + 2 * v - 2 * width)) (byte-low (33 + 2 * v))))
+      ∙ entry-at (num (has-bit kind v clue-bit)) _ _ _ _ (num-small (has-bit kind v clue-bit)) (byte-low (30 + 2 * v)) (byte-low (32 + 2 * v)) (byte-low (33 + 2 * v - 2 * width)) (byte-low (33 + 2 * v))))
       ∙ sym (action-is-decoded kind edges width v)

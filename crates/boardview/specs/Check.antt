@@ -14,10 +14,11 @@ use Rattle.rules.specs.Tests.{not-so}
 use Rattle.model.specs.Board.{line, none, isUndecided, End, through, at-pad, at-clue, other-clue, State, Item, check-pad, keep-apart, settle, when, Decide, Check, with-edge, keep-aparts, has-right, has-left, has-down, has-up, around, do-item, do-items, check-items, decide, check}
 use Rattle.boardview.specs.View.{Arrays, flag-in, ended-in, stopped, ended, pick, edge-of, slot-on, view, end-at, grid-in, undecided-in, Ready, Since, Decided, Done, then, in-a-row, shown, check-at, NoneAt, Settled, action-around, code-number, rival, keeps-apart, keep-at}
 use Rattle.boardview.specs.Bytes.{elim-true, elim-false, right-slot, down-slot, on-slot}
+use Rattle.boardview.specs.Geometry.{slot-left, slot-right, slot-up, slot-down, edge-left, edge-up}
 use Rattle.boardview.specs.Unwind.{since-still, since-then}
 use Rattle.boardview.specs.Stores.{flag-of-ended, ended-of-ended, logged-of-ended, recounted}
 use Rattle.boardview.specs.Steps.{row-append, row-ended, row-is, with-count, done-nothing, done-still, done-ended, done-decided, view-stopped, view-recounted, undecided-at, slot-is-on}
-use Rattle.boardview.specs.Settle.{Action, nothing, raise, draw, leave, action-is, slot-left, slot-right, slot-up, slot-down, edge-left, edge-up}
+use Rattle.boardview.specs.Settle.{Action, nothing, raise, draw, leave, action-is}
 
 -- THE LAST PART
 module _ (kind : List ℕ) (s : Arrays) (y : Ready (grid-in kind) s) (v t : ℕ) (inside : v < pads (grid-in kind)) (e : t ≡ action-around kind (s .edges) (grid-in kind .width) v) where

@@ -16,9 +16,9 @@ use Rattle.rules.specs.Drawing.{Side, on-left, on-right}
 use Rattle.rules.specs.Tests.{both, neither, conflict, not-so, is-so}
 use Rattle.model.specs.Board.{line, End, through, at-pad, at-clue, Item, has-right, has-left, has-down, has-up, has-side, on-board, barred, shape-items, keep-aparts, around}
 use Rattle.boardview.specs.View.{Arrays, logged, stopped, ended, going, pick, slot, edge-of, slot-on, state-of, end-at, second-pad, has-bit, grid-in, corner-bit, joined, undecided-in, Kinds, Ready, Decided, Done, NoneAt, Settled, unjoinable, pad-number, detour-at, corner-at, bar-at, check-at, code-number, keeps-apart, some-apart, clue-apart, keep-at, slot-around, past-around, action-around}
-use Rattle.boardview.specs.Bytes.{slot-of-edge, edge-on, on-slot, default-free}
+use Rattle.boardview.specs.Bytes.{slot-of-edge, on-slot, default-free}
 use Rattle.boardview.specs.Unwind.{log-stored, log-joined, LineBegun}
-use Rattle.boardview.specs.Geometry.{column-before, right-on, down-on, beyond-right, upper-left, upper-right, upper, lower-left, lower-right, lower, right-items, left-side, lower-left-side, far-left, right-side, lower-right-side, far-right, down-items}
+use Rattle.boardview.specs.Geometry.{column-before, right-on, down-on, beyond-right, upper-left, upper-right, upper, lower-left, lower-right, lower, right-items, left-side, lower-left-side, far-left, right-side, lower-right-side, far-right, down-items, next-down-on}
 use Rattle.boardview.specs.Stores.{Stored, going-count, few-logged, first-inside, second-inside}
 use Rattle.boardview.specs.Steps.{with-count, done-then, done-as, done-nothing, slot-is-on}
 use Rattle.boardview.specs.Check.{settle-nothing, settle-raise, leave-slot, settle-none, draw-slot, settle-line, keep-rests, keep-step, keeps-is, first-items}
@@ -218,13 +218,7 @@ module _ (kind : List ℕ) (k : Kinds kind) (few : pads (grid-in kind) ≤ 256) 
   right-below = rw ew (lower gr (k .least-width) (k .largest-width) v on)
 
   next-below : has-down gr v ≡ true → v + gr .width + 1 < pads gr
-  next-below h = omega (arith, ltb-true (v + 1 + gr .width) (pads gr) (sym down-next ∙ (right-right ∙ h)))
-    where
-      at : 35 + 2 * v ≡ slot (down (v + 1))
-      at = omega arith
-
-      down-next : slot-on gr (35 + 2 * v) ≡ has-down gr (v + 1)
-      down-next = ap (slot-on gr) at ∙ edge-on gr (down (v + 1))
+  next-below h = omega (arith, ltb-true (v + 1 + gr .width) (pads gr) (sym (next-down-on gr v) ∙ (right-right ∙ h)))
 
   -- the pads below the corners
   pub right-corner : (q : ℕ) → q ≡ v + w + 1 → slot-on gr (33 + 2 * v) ≡ true → q < pads gr
@@ -243,10 +237,7 @@ module _ (kind : List ℕ) (k : Kinds kind) (few : pads (grid-in kind) ≤ 256) 
   right-bar-on h = right-left ∙ both (has-down gr v) (has-right gr v) (both _ (barred gr on-right (gr .height) v) (sym bars-right ∙ h) .0) .0
 
   pub left-bar-on : has-bit kind (v + 1) 4 ≡ true → slot-on gr (35 + 2 * v) ≡ true
-  left-bar-on h = ap (slot-on gr) at ∙ (edge-on gr (down (v + 1)) ∙ both (has-down gr (v + 1)) (has-left gr (v + 1)) (both _ (barred gr on-left (gr .height) (v + 1)) (sym bars-left ∙ h) .0) .0)
-    where
-      at : 35 + 2 * v ≡ slot (down (v + 1))
-      at = omega arith
+  left-bar-on h = next-down-on gr v ∙ both (has-down gr (v + 1)) (has-left gr (v + 1)) (both _ (barred gr on-left (gr .height) (v + 1)) (sym bars-left ∙ h) .0) .0
 
   pub right-done : {s₀ s′ : Arrays} (L : List Item)
       → Done gr 1 s₀ (detour-at gr (33 + 2 * v - 2 * w) (35 + 2 * v - 2 * w) (32 + 2 * v - 2 * w)
@@ -310,13 +301,7 @@ module _ (kind : List ℕ) (k : Kinds kind) (few : pads (grid-in kind) ≤ 256) 
   picked-small false x n e h = omega arith
 
   pub down-right-corner : (q : ℕ) → q ≡ v + w + 1 → slot-on gd (32 + 2 * v) ≡ true → q < pads gd
-  down-right-corner q e h = omega (arith, ew, ltb-true (v + 1 + gd .width) (pads gd) (sym below-next ∙ down-far-right (sym down-right ∙ h)))
-    where
-      at : 35 + 2 * v ≡ slot (down (v + 1))
-      at = omega arith
-
-      below-next : slot-on gd (35 + 2 * v) ≡ has-down gd (v + 1)
-      below-next = ap (slot-on gd) at ∙ edge-on gd (down (v + 1))
+  down-right-corner q e h = omega (arith, ew, ltb-true (v + 1 + gd .width) (pads gd) (sym (next-down-on gd v) ∙ down-far-right (sym down-right ∙ h)))
 
   pub down-left-corner : (q : ℕ) → q ≡ v + w - 1 → q < pads gd
   down-left-corner q e = omega (arith, ew, down-inside)
@@ -368,19 +353,19 @@ module _ (kind : List ℕ) (k : Kinds kind) (q : ℕ) (inside : q < pads (grid-i
   corner-not-first et ht = omega (arith, left-column et ht, mod-le q (gc .width))
 
   pub corner-line-left : t ≡ has-bit kind q 16 → t ≡ true → on-board gc (right (q - 1)) ≡ true
-  corner-line-left et ht = rw (lt-ltb ((q - 1) % gc .width + 1) (gc .width) (column-before (gc .height) (gc .width) q (omega (arith, k .least-width)) (left-column et ht)), lt-ltb (q - 1) (pads gc) (omega arith)) refl
+  corner-line-left et ht = rw (lt-ltb ((q - 1) % gc .width + 1) (gc .width) (column-before (gc .width) q (omega (arith, k .least-width)) (left-column et ht)), lt-ltb (q - 1) (pads gc) (omega arith)) refl
 
 -- the pads beyond, as the code counts them
-beyond-left : (v : ℕ) → 15 + v - 16 ≡ v - 1
+pub beyond-left : (v : ℕ) → 15 + v - 16 ≡ v - 1
 beyond-left v = omega arith
 
-beyond-right-side : (v : ℕ) → 17 + v - 16 ≡ v + 1
+pub beyond-right-side : (v : ℕ) → 17 + v - 16 ≡ v + 1
 beyond-right-side v = omega arith
 
-beyond-up : (v w : ℕ) → w ≤ 16 → 16 + v - w - 16 ≡ v - w
+pub beyond-up : (v w : ℕ) → w ≤ 16 → 16 + v - w - 16 ≡ v - w
 beyond-up v w h = omega arith
 
-beyond-down : (v w : ℕ) → 16 + v + w - 16 ≡ v + w
+pub beyond-down : (v w : ℕ) → 16 + v + w - 16 ≡ v + w
 beyond-down v w = omega arith
 
 -- the sides of a pad, told one after the other: the items of those before a side

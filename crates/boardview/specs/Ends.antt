@@ -2,16 +2,15 @@
 -- undoing a join gives back the list. The laws are proved once for functions from pads to ends and then carried to the list.
 use Prim.Native.Nat.{ℕ, zero, suc, _<_}
 use mathlib.Core.Path.{_≡_, refl, sym, ap, _∙_}
-use mathlib.Core.Logic.{_⊎_, inl, inr}
-use mathlib.Core.Bool.{Bool, true, false}
+use mathlib.Core.Bool.{false}
 use mathlib.Core.List.{List}
 use native.Mathlib.Omega.{arith}
-use lib.Dec.{eqb}
+use native.Mathlib.Decide.{ℕ-discrete}
 use lib.ListN.{getD, set, length, length-set}
 use lib.Seq.{getD-set-same, getD-set-other, ext-getD}
 use lib.IntN.{ℤ, pos, negsuc}
-use borrow.Author.Tests.{eq-eqb, ne-eqb, eqb-true, eqb-false}
 use Rattle.model.specs.Board.{End, through, at-pad, at-clue, end-number, isThrough, put-end, put-end-at, joined-ends}
+use Rattle.model.specs.BoardLaws.{same-pad, is-pad-end, put-same, put-other, put-at-same, put-at-other}
 use Rattle.boardview.specs.View.{end-of, end-at, put-number, joined, unjoined}
 use Rattle.boardview.specs.Bytes.{default-free}
 
@@ -25,46 +24,8 @@ number-of-end (negsuc (suc c)) = refl
 pub same-number : (y z : ℤ) → end-of y ≡ end-of z → y ≡ z
 same-number y z e = sym (number-of-end y) ∙ (ap end-number e ∙ number-of-end z)
 
-same-pad : {a b : ℕ} → at-pad a ≡ at-pad b → a ≡ b
-same-pad e = cc
-
 not-through : {a : ℕ} → through ≡ at-pad a → ⊥
 not-through e = let z : _≡_ {A = ℕ} 0 1 = cc in omega arith
-
--- PUTTING AN END
-put-same : (E : ℕ → End) (p : ℕ) (e : End) (x : ℕ) → x ≡ p → put-end E p e x ≡ e
-unfolding put-end
-put-same E p e x h = rw (eq-eqb x p h) refl
-
-put-other : (E : ℕ → End) (p : ℕ) (e : End) (x : ℕ) → (x ≡ p → ⊥) → put-end E p e x ≡ E x
-unfolding put-end
-put-other E p e x h = rw (ne-eqb x p h) refl
-
-equal-or-not : (x p : ℕ) → (x ≡ p) ⊎ (x ≡ p → ⊥)
-equal-or-not x p = go (eqb x p) refl
-  where
-    go : (b : Bool) → eqb x p ≡ b → (x ≡ p) ⊎ (x ≡ p → ⊥)
-    go true q = inl (eqb-true x p q)
-    go false q = inr (eqb-false x p q)
-
-names : (A : End) (x : ℕ) → (A ≡ at-pad x) ⊎ (A ≡ at-pad x → ⊥)
-names through x = inr (λ e. not-through e)
-names (at-clue c) x = inr (λ e. let z : _≡_ {A = ℕ} 0 1 = cc in omega arith)
-names (at-pad a) x = go (equal-or-not a x)
-  where
-    go : (a ≡ x) ⊎ (a ≡ x → ⊥) → (at-pad a ≡ at-pad x) ⊎ (at-pad a ≡ at-pad x → ⊥)
-    go (inl e) = inl (ap at-pad e)
-    go (inr n) = inr (λ e. n (same-pad e))
-
-put-named : (E : ℕ → End) (A e : End) (x : ℕ) → A ≡ at-pad x → put-end-at E A e x ≡ e
-unfolding put-end-at
-put-named E A e x h = rw h (put-same E x e x refl)
-
-put-unnamed : (E : ℕ → End) (A e : End) (x : ℕ) → (A ≡ at-pad x → ⊥) → put-end-at E A e x ≡ E x
-unfolding put-end-at
-put-unnamed E through e x h = refl
-put-unnamed E (at-clue c) e x h = refl
-put-unnamed E (at-pad a) e x h = put-other E a e x (λ q. h (ap at-pad (sym q)))
 
 -- the end of an end is the pad itself
 abbrev pub Paired : (ℕ → End) → Type 0
@@ -80,15 +41,15 @@ module _ (E : ℕ → End) (v q : ℕ) where
 
   at-B : (x : ℕ) → E q ≡ at-pad x → after x ≡ E v
   unfolding joined-ends
-  at-B x h = put-named (put-end-at passed (E v) (E q)) (E q) (E v) x h
+  at-B x h = put-at-same (put-end-at passed (E v) (E q)) (E q) (E v) x h
 
   at-A : (x : ℕ) → (E q ≡ at-pad x → ⊥) → E v ≡ at-pad x → after x ≡ E q
   unfolding joined-ends
-  at-A x n h = put-unnamed (put-end-at passed (E v) (E q)) (E q) (E v) x n ∙ put-named passed (E v) (E q) x h
+  at-A x n h = put-at-other (put-end-at passed (E v) (E q)) (E q) (E v) x n ∙ put-at-same passed (E v) (E q) x h
 
   at-neither : (x : ℕ) → (E q ≡ at-pad x → ⊥) → (E v ≡ at-pad x → ⊥) → after x ≡ passed x
   unfolding joined-ends
-  at-neither x n m = put-unnamed (put-end-at passed (E v) (E q)) (E q) (E v) x n ∙ put-unnamed passed (E v) (E q) x m
+  at-neither x n m = put-at-other (put-end-at passed (E v) (E q)) (E q) (E v) x n ∙ put-at-other passed (E v) (E q) x m
 
   at-second : (x : ℕ) → x ≡ q → passed x ≡ through
   at-second x h = put-same (put-end E v through) q through x h
@@ -100,66 +61,66 @@ module _ (E : ℕ → End) (v q : ℕ) where
   elsewhere x n m = put-other (put-end E v through) q through x n ∙ put-other E v through x m
 
   pub stay-paired : Paired E → (v ≡ q → ⊥) → Paired after
-  stay-paired P d x y e = go (names (E q) x) (names (E v) x)
+  stay-paired P d x y e = go (is-pad-end (E q) x) (is-pad-end (E v) x)
     where
-      rest : (E q ≡ at-pad x → ⊥) → (E v ≡ at-pad x → ⊥) → (x ≡ q) ⊎ (x ≡ q → ⊥) → (x ≡ v) ⊎ (x ≡ v → ⊥) → after y ≡ at-pad x
-      rest n m (inl h) r = absurd (not-through (sym (at-second x h) ∙ (sym (at-neither x n m) ∙ e)))
-      rest n m (inr k) (inl h) = absurd (not-through (sym (at-first x k h) ∙ (sym (at-neither x n m) ∙ e)))
-      rest n m (inr k) (inr l) =
+      rest : (E q ≡ at-pad x → ⊥) → (E v ≡ at-pad x → ⊥) → Dec (x ≡ q) → Dec (x ≡ v) → after y ≡ at-pad x
+      rest n m (yes h) r = absurd (not-through (sym (at-second x h) ∙ (sym (at-neither x n m) ∙ e)))
+      rest n m (no k) (yes h) = absurd (not-through (sym (at-first x k h) ∙ (sym (at-neither x n m) ∙ e)))
+      rest n m (no k) (no l) =
           let h : E x ≡ at-pad y = sym (elsewhere x k l) ∙ (sym (at-neither x n m) ∙ e) in
           let b : E y ≡ at-pad x = P x y h in
           at-neither y (λ z. k (same-pad (sym b ∙ P q y z))) (λ z. l (same-pad (sym b ∙ P v y z)))
           ∙ (elsewhere y (λ z. n (ap E (sym z) ∙ b)) (λ z. m (ap E (sym z) ∙ b)) ∙ b)
 
-      go : (E q ≡ at-pad x) ⊎ (E q ≡ at-pad x → ⊥) → (E v ≡ at-pad x) ⊎ (E v ≡ at-pad x → ⊥) → after y ≡ at-pad x
-      go (inl h) r =
+      go : Dec (E q ≡ at-pad x) → Dec (E v ≡ at-pad x) → after y ≡ at-pad x
+      go (yes h) r =
           let a : E v ≡ at-pad y = sym (at-B x h) ∙ e in
           at-A y (λ z. d (same-pad (sym (P v y a) ∙ P q y z))) a ∙ h
-      go (inr n) (inl h) =
+      go (no n) (yes h) =
           let b : E q ≡ at-pad y = sym (at-A x n h) ∙ e in
           at-B y b ∙ h
-      go (inr n) (inr m) = rest n m (equal-or-not x q) (equal-or-not x v)
+      go (no n) (no m) = rest n m (ℕ-discrete x q) (ℕ-discrete x v)
 
   pub stay-near : (N : ℕ) → v < N → q < N → ((x w : ℕ) → x < N → E x ≡ at-pad w → w < N) → (x w : ℕ) → x < N → after x ≡ at-pad w → w < N
-  stay-near N hv hq near x w hx e = go (names (E q) x) (names (E v) x)
+  stay-near N hv hq near x w hx e = go (is-pad-end (E q) x) (is-pad-end (E v) x)
     where
-      rest : (E q ≡ at-pad x → ⊥) → (E v ≡ at-pad x → ⊥) → (x ≡ q) ⊎ (x ≡ q → ⊥) → (x ≡ v) ⊎ (x ≡ v → ⊥) → w < N
-      rest n m (inl h) r = absurd (not-through (sym (at-second x h) ∙ (sym (at-neither x n m) ∙ e)))
-      rest n m (inr k) (inl h) = absurd (not-through (sym (at-first x k h) ∙ (sym (at-neither x n m) ∙ e)))
-      rest n m (inr k) (inr l) = near x w hx (sym (elsewhere x k l) ∙ (sym (at-neither x n m) ∙ e))
+      rest : (E q ≡ at-pad x → ⊥) → (E v ≡ at-pad x → ⊥) → Dec (x ≡ q) → Dec (x ≡ v) → w < N
+      rest n m (yes h) r = absurd (not-through (sym (at-second x h) ∙ (sym (at-neither x n m) ∙ e)))
+      rest n m (no k) (yes h) = absurd (not-through (sym (at-first x k h) ∙ (sym (at-neither x n m) ∙ e)))
+      rest n m (no k) (no l) = near x w hx (sym (elsewhere x k l) ∙ (sym (at-neither x n m) ∙ e))
 
-      go : (E q ≡ at-pad x) ⊎ (E q ≡ at-pad x → ⊥) → (E v ≡ at-pad x) ⊎ (E v ≡ at-pad x → ⊥) → w < N
-      go (inl h) r = near v w hv (sym (at-B x h) ∙ e)
-      go (inr n) (inl h) = near q w hq (sym (at-A x n h) ∙ e)
-      go (inr n) (inr m) = rest n m (equal-or-not x q) (equal-or-not x v)
+      go : Dec (E q ≡ at-pad x) → Dec (E v ≡ at-pad x) → w < N
+      go (yes h) r = near v w hv (sym (at-B x h) ∙ e)
+      go (no n) (yes h) = near q w hq (sym (at-A x n h) ∙ e)
+      go (no n) (no m) = rest n m (ℕ-discrete x q) (ℕ-discrete x v)
 
   -- undoing the join
   abbrev undone : ℕ → End
   undone = put-end-at (put-end-at (put-end (put-end after v (E v)) q (E q)) (E v) (at-pad v)) (E q) (at-pad q)
 
   pub undone-is : Paired E → (x : ℕ) → undone x ≡ E x
-  undone-is P x = go (names (E q) x) (names (E v) x) (equal-or-not x q) (equal-or-not x v)
+  undone-is P x = go (is-pad-end (E q) x) (is-pad-end (E v) x) (ℕ-discrete x q) (ℕ-discrete x v)
     where
       inner : ℕ → End
       inner = put-end (put-end after v (E v)) q (E q)
 
-      go : (E q ≡ at-pad x) ⊎ (E q ≡ at-pad x → ⊥) → (E v ≡ at-pad x) ⊎ (E v ≡ at-pad x → ⊥) → (x ≡ q) ⊎ (x ≡ q → ⊥) → (x ≡ v) ⊎ (x ≡ v → ⊥) → undone x ≡ E x
-      go (inl h) r s t = put-named (put-end-at inner (E v) (at-pad v)) (E q) (at-pad q) x h ∙ sym (P q x h)
-      go (inr n) (inl h) s t = put-unnamed (put-end-at inner (E v) (at-pad v)) (E q) (at-pad q) x n ∙ (put-named inner (E v) (at-pad v) x h ∙ sym (P v x h))
-      go (inr n) (inr m) (inl h) t = put-unnamed (put-end-at inner (E v) (at-pad v)) (E q) (at-pad q) x n ∙ (put-unnamed inner (E v) (at-pad v) x m
+      go : Dec (E q ≡ at-pad x) → Dec (E v ≡ at-pad x) → Dec (x ≡ q) → Dec (x ≡ v) → undone x ≡ E x
+      go (yes h) r s t = put-at-same (put-end-at inner (E v) (at-pad v)) (E q) (at-pad q) x h ∙ sym (P q x h)
+      go (no n) (yes h) s t = put-at-other (put-end-at inner (E v) (at-pad v)) (E q) (at-pad q) x n ∙ (put-at-same inner (E v) (at-pad v) x h ∙ sym (P v x h))
+      go (no n) (no m) (yes h) t = put-at-other (put-end-at inner (E v) (at-pad v)) (E q) (at-pad q) x n ∙ (put-at-other inner (E v) (at-pad v) x m
           ∙ (put-same (put-end after v (E v)) q (E q) x h ∙ ap E (sym h)))
-      go (inr n) (inr m) (inr k) (inl h) = put-unnamed (put-end-at inner (E v) (at-pad v)) (E q) (at-pad q) x n ∙ (put-unnamed inner (E v) (at-pad v) x m
+      go (no n) (no m) (no k) (yes h) = put-at-other (put-end-at inner (E v) (at-pad v)) (E q) (at-pad q) x n ∙ (put-at-other inner (E v) (at-pad v) x m
           ∙ (put-other (put-end after v (E v)) q (E q) x k ∙ (put-same after v (E v) x h ∙ ap E (sym h))))
-      go (inr n) (inr m) (inr k) (inr l) = put-unnamed (put-end-at inner (E v) (at-pad v)) (E q) (at-pad q) x n ∙ (put-unnamed inner (E v) (at-pad v) x m
+      go (no n) (no m) (no k) (no l) = put-at-other (put-end-at inner (E v) (at-pad v)) (E q) (at-pad q) x n ∙ (put-at-other inner (E v) (at-pad v) x m
           ∙ (put-other (put-end after v (E v)) q (E q) x k ∙ (put-other after v (E v) x l ∙ (at-neither x n m ∙ elsewhere x k l))))
 
 -- THE LIST
 pub number-stored : (l : List ℤ) (p : ℕ) (z : ℤ) (x : ℕ) → p < length l → end-at (set l p z) x ≡ put-end (λ u. end-at l u) p (end-of z) x
-number-stored l p z x h = go (equal-or-not x p)
+number-stored l p z x h = go (ℕ-discrete x p)
   where
-    go : (x ≡ p) ⊎ (x ≡ p → ⊥) → end-at (set l p z) x ≡ put-end (λ u. end-at l u) p (end-of z) x
-    go (inl e) = rw e (ap end-of (getD-set-same l p z (pos p) h)) ∙ sym (put-same (λ u. end-at l u) p (end-of z) x e)
-    go (inr n) = ap end-of (getD-set-other l p x z (pos x) n) ∙ sym (put-other (λ u. end-at l u) p (end-of z) x n)
+    go : Dec (x ≡ p) → end-at (set l p z) x ≡ put-end (λ u. end-at l u) p (end-of z) x
+    go (yes e) = rw e (ap end-of (getD-set-same l p z (pos p) h)) ∙ sym (put-same (λ u. end-at l u) p (end-of z) x e)
+    go (no n) = ap end-of (getD-set-other l p x z (pos x) n) ∙ sym (put-other (λ u. end-at l u) p (end-of z) x n)
 
 pub number-put : (A : End) (z : ℤ) (l : List ℤ) (x : ℕ) → ((a : ℕ) → A ≡ at-pad a → a < length l) → end-at (put-number A z l) x ≡ put-end-at (λ u. end-at l u) A (end-of z) x
 unfolding put-number put-end-at

@@ -5,53 +5,38 @@ use mathlib.Core.Path.{_≡_, refl, sym, ap, _∙_}
 use mathlib.Core.Bool.{Bool, true, false, _&&_, and-true}
 use mathlib.Core.List.{List, [], _∷_, _++_, append-assoc}
 use native.Mathlib.Omega.{arith}
-use native.Mathlib.Nat.{add-mod-right, mod-add-mod, mod-eq-of-lt, mod-le, mod-lt, mod-self, mul-mod-left}
+use native.Mathlib.Nat.{add-mod-right, mod-eq-of-lt, mod-le}
 use lib.Dec.{eqb, ltb}
 use borrow.Author.Tests.{lt-ltb, le-ltb, ltb-true, ltb-false, lt-leb, leb-true, leb-false}
 use Rattle.rules.specs.Grid.{Edge, right, down, Grid, pads}
 use Rattle.rules.specs.Drawing.{on-left, on-right}
 use Rattle.rules.specs.Tests.{both}
+use Rattle.rules.specs.Places.{next-column, next-in-row, previous-column}
 use Rattle.model.specs.Board.{Item, bar, detours, when, has-right, has-left, has-down, has-up, on-board, has-side, barred, corner-right, corner-left, shape-items}
+use Rattle.model.specs.BoardLaws.{left-of-next}
 use Rattle.boardview.specs.View.{pick, slot, edge-of, second-pad, slot-on, detour-at, corner-at, bar-at}
 use Rattle.boardview.specs.Bytes.{right-slot, down-slot, edge-on, on-slot}
 
 -- COLUMNS
-module _ (H W v : ℕ) where
-  pub next-column : v % W + 1 < W → (v + 1) % W ≡ v % W + 1
-  next-column h = sym (mod-add-mod v W 1) ∙ mod-eq-of-lt h
-
-  -- the next pad of a row is a pad
-  pub next-pad : v < H * W → v % W + 1 < W → v + 1 < H * W
-  next-pad h k = go (ltb (v + 1) (H * W)) refl
-    where
-      go : (b : Bool) → ltb (v + 1) (H * W) ≡ b → v + 1 < H * W
-      go true e = ltb-true (v + 1) (H * W) e
-      go false e = absurd (omega (arith, sym (next-column k) ∙ ap (λ (x : ℕ). x % W) last ∙ mul-mod-left H W))
-        where
-          last : v + 1 ≡ H * W
-          last = omega (arith, ltb-false (v + 1) (H * W) e)
-
+module _ (W v : ℕ) where
   pub column-before : 0 < W → 0 < v % W → (v - 1) % W + 1 < W
-  column-before p h = go (ltb ((v - 1) % W + 1) W) refl
-    where
-      one : v - 1 + 1 ≡ v
-      one = omega (arith, mod-le v W)
-
-      go : (b : Bool) → ltb ((v - 1) % W + 1) W ≡ b → (v - 1) % W + 1 < W
-      go true e = ltb-true _ _ e
-      go false e = absurd (omega (arith, sym (ap (λ (x : ℕ). x % W) top ∙ mod-self W) ∙ (mod-add-mod (v - 1) W 1 ∙ ap (λ (x : ℕ). x % W) one)))
-        where
-          top : (v - 1) % W + 1 ≡ W
-          top = omega (arith, mod-lt (v - 1) p, ltb-false ((v - 1) % W + 1) W e)
+  column-before p h = let one : v - 1 + 1 ≡ v = omega (arith, mod-le v W) in previous-column W (v - 1) p (rw one h)
 
   -- the pad before the first pad of a row is the last of another
   pub last-before : 0 < v → v % W ≡ 0 → (v - 1) % W + 1 < W → ⊥
-  last-before p z h = omega (arith, sym (mod-eq-of-lt h) ∙ (mod-add-mod (v - 1) W 1 ∙ ap (λ (x : ℕ). x % W) one))
-    where
-      one : v - 1 + 1 ≡ v
-      one = omega arith
+  last-before p z h = let one : v - 1 + 1 ≡ v = omega arith in omega (arith, sym (next-column W (v - 1) h) ∙ ap (λ (x : ℕ). x % W) one)
 
--- THE SLOTS AROUND AN EDGE TO THE RIGHT
+-- the slot of the edge down from the next pad, and of the edge to the right one row below
+next-down : (v : ℕ) → 35 + 2 * v ≡ slot (down (v + 1))
+next-down v = omega arith
+
+pub next-down-on : (g : Grid) (v : ℕ) → slot-on g (35 + 2 * v) ≡ has-down g (v + 1)
+next-down-on g v = ap (slot-on g) (next-down v) ∙ edge-on g (down (v + 1))
+
+right-below : (W v : ℕ) → 32 + 2 * v + 2 * W ≡ slot (right (v + W))
+right-below W v = omega arith
+
+-- SLOTS ON THE BOARD AND OFF IT
 module _ (g : Grid) (p : 2 ≤ g .width) (q : g .width ≤ 16) where
   abbrev W : ℕ
   W = g .width
@@ -63,7 +48,7 @@ module _ (g : Grid) (p : 2 ≤ g .width) (q : g .width ≤ 16) where
   down-on v h = ltb-true _ _ h
 
   pub beyond-right : (v : ℕ) → on-board g (right v) ≡ true → v + 1 < pads g
-  beyond-right v h = let b = right-on v h in next-pad (g .height) W v (b .1) (b .0)
+  beyond-right v h = let b = right-on v h in next-in-row W v (g .height) (b .0) (b .1)
 
   below-column : (v : ℕ) → has-right g (v + W) ≡ has-right g v
   below-column v = rw (add-mod-right v W) refl
@@ -82,6 +67,54 @@ module _ (g : Grid) (p : 2 ≤ g .width) (q : g .width ≤ 16) where
   right-false : (v : ℕ) → (v % W + 1 < W → ⊥) → on-board g (right v) ≡ false
   right-false v n = rw (le-ltb (v % W + 1) W (omega arith)) refl
 
+  is-right : (s u : ℕ) → s ≡ slot (right u) → edge-of s ≡ right u
+  is-right s u h = ap edge-of h ∙ right-slot u
+
+  is-down : (s u : ℕ) → s ≡ slot (down u) → edge-of s ≡ down u
+  is-down s u h = ap edge-of h ∙ down-slot u
+
+  -- THE FOUR SLOTS AT A PAD
+  module _ (v : ℕ) (below : v < pads g) where
+    before : 0 < v → 30 + 2 * v ≡ slot (right (v - 1))
+    before h = omega arith
+
+    above : W ≤ v → 33 + 2 * v - 2 * W ≡ slot (down (v - W))
+    above h = omega arith
+
+    after-first : has-left g v ≡ true → 0 < v
+    after-first e = omega (arith, ltb-true 0 (v % W) e, mod-le v W)
+
+    pub slot-left : slot-on g (30 + 2 * v) ≡ has-left g v
+    slot-left = go (has-left g v) refl
+      where
+        go : (b : Bool) → has-left g v ≡ b → slot-on g (30 + 2 * v) ≡ b
+        go true e = slot-is _ (right (v - 1)) (before (after-first e)) ∙ right-true (v - 1) (column-before W v (omega arith) (ltb-true 0 (v % W) e)) (omega arith)
+        go false e = start (ltb 0 v) refl
+          where
+            start : (t : Bool) → ltb 0 v ≡ t → slot-on g (30 + 2 * v) ≡ false
+            start true f = slot-is _ (right (v - 1)) (before (ltb-true 0 v f)) ∙ right-false (v - 1) (last-before W v (ltb-true 0 v f) (omega (arith, ltb-false 0 (v % W) e)))
+            start false f = low-off _ (omega (arith, ltb-false 0 v f))
+
+    pub slot-right : slot-on g (32 + 2 * v) ≡ has-right g v
+    slot-right = edge-on g (right v) ∙ rw (lt-ltb v (pads g) below) (and-true (has-right g v))
+
+    pub slot-up : slot-on g (33 + 2 * v - 2 * W) ≡ has-up g v
+    slot-up = go (has-up g v) refl
+      where
+        go : (b : Bool) → has-up g v ≡ b → slot-on g (33 + 2 * v - 2 * W) ≡ b
+        go true e = slot-is _ (down (v - W)) (above (leb-true W v e)) ∙ lt-ltb (v - W + W) (pads g) (omega (arith, leb-true W v e))
+        go false e = low-off _ (omega (arith, leb-false W v e))
+
+    pub slot-down : slot-on g (33 + 2 * v) ≡ has-down g v
+    slot-down = edge-on g (down v)
+
+    pub edge-left : has-left g v ≡ true → edge-of (30 + 2 * v) ≡ right (v - 1)
+    edge-left e = is-right _ (v - 1) (before (after-first e))
+
+    pub edge-up : has-up g v ≡ true → edge-of (33 + 2 * v - 2 * W) ≡ down (v - W)
+    edge-up e = is-down _ (v - W) (above (leb-true W v e))
+
+  -- THE SLOTS AROUND AN EDGE TO THE RIGHT
   module _ (v : ℕ) (on : on-board g (right v) ≡ true) where
     column : v % W + 1 < W
     column = right-on v on .0
@@ -94,17 +127,11 @@ module _ (g : Grid) (p : 2 ≤ g .width) (q : g .width ≤ 16) where
     first-row h = omega (arith, mod-eq-of-lt h, column)
 
     module _ (h : W ≤ v) where
-      at-upper-left : 33 + 2 * v - 2 * W ≡ slot (down (v - W))
-      at-upper-left = omega arith
-
       at-upper-right : 35 + 2 * v - 2 * W ≡ slot (down (v - W + 1))
       at-upper-right = omega arith
 
       at-upper : 32 + 2 * v - 2 * W ≡ slot (right (v - W))
       at-upper = omega arith
-
-      on-upper-left : on-board g (down (v - W)) ≡ true
-      on-upper-left = lt-ltb (v - W + W) (pads g) (omega (arith, inside))
 
       on-upper-right : on-board g (down (v - W + 1)) ≡ true
       on-upper-right = lt-ltb (v - W + 1 + W) (pads g) (omega (arith, beyond-right v on))
@@ -116,11 +143,7 @@ module _ (g : Grid) (p : 2 ≤ g .width) (q : g .width ≤ 16) where
           back = omega arith
 
     pub upper-left : slot-on g (33 + 2 * v - 2 * W) ≡ has-up g v
-    upper-left = go (has-up g v) refl
-      where
-        go : (b : Bool) → has-up g v ≡ b → slot-on g (33 + 2 * v - 2 * W) ≡ b
-        go true e = slot-is _ (down (v - W)) (at-upper-left (leb-true W v e)) ∙ on-upper-left (leb-true W v e)
-        go false e = low-off _ (omega (arith, leb-false W v e))
+    upper-left = slot-up v inside
 
     pub upper-right : slot-on g (35 + 2 * v - 2 * W) ≡ has-up g v
     upper-right = go (has-up g v) refl
@@ -137,26 +160,20 @@ module _ (g : Grid) (p : 2 ≤ g .width) (q : g .width ≤ 16) where
         go false e = low-off _ (omega (arith, leb-false W v e))
 
     pub lower-left : slot-on g (33 + 2 * v) ≡ has-down g v
-    lower-left = edge-on g (down v)
-
-    at-lower-right : 35 + 2 * v ≡ slot (down (v + 1))
-    at-lower-right = omega arith
-
-    at-lower : 32 + 2 * v + 2 * W ≡ slot (right (v + W))
-    at-lower = omega arith
+    lower-left = slot-down v inside
 
     both-below : has-down g (v + 1) ≡ has-down g v
     both-below = go (has-down g v) refl
       where
         go : (b : Bool) → has-down g v ≡ b → has-down g (v + 1) ≡ b
-        go true e = lt-ltb (v + 1 + W) (pads g) (omega (arith, next-pad (g .height) W (v + W) (ltb-true _ _ e) (rw (add-mod-right v W) column)))
+        go true e = lt-ltb (v + 1 + W) (pads g) (omega (arith, next-in-row W (v + W) (g .height) (rw (add-mod-right v W) column) (ltb-true _ _ e)))
         go false e = le-ltb (v + 1 + W) (pads g) (omega (arith, ltb-false (v + W) (pads g) e))
 
     pub lower-right : slot-on g (35 + 2 * v) ≡ has-down g v
-    lower-right = slot-is _ (down (v + 1)) at-lower-right ∙ both-below
+    lower-right = next-down-on g v ∙ both-below
 
     pub lower : slot-on g (32 + 2 * v + 2 * W) ≡ has-down g v
-    lower = slot-is _ (right (v + W)) at-lower ∙ rw (below-column v, lt-ltb (v % W + 1) W column) refl
+    lower = slot-is _ (right (v + W)) (right-below W v) ∙ rw (below-column v, lt-ltb (v % W + 1) W column) refl
 
     -- STEPS D AND E by slots are the model's items
     abbrev right-upper : List Item → List Item
@@ -169,19 +186,13 @@ module _ (g : Grid) (p : 2 ≤ g .width) (q : g .width ≤ 16) where
         ++ (detour-at g (35 + 2 * v) (33 + 2 * v) (32 + 2 * v + 2 * W)
         ++ (detour-at g (32 + 2 * v + 2 * W) (33 + 2 * v) (35 + 2 * v) ++ L))
 
-    is-right : (s u : ℕ) → s ≡ slot (right u) → edge-of s ≡ right u
-    is-right s u h = ap edge-of h ∙ right-slot u
-
-    is-down : (s u : ℕ) → s ≡ slot (down u) → edge-of s ≡ down u
-    is-down s u h = ap edge-of h ∙ down-slot u
-
     right-upper-is : (L : List Item) → right-upper L ≡ when (has-up g v) (detours (down (v - W)) (down (v - W + 1)) (right (v - W))) ++ L
     unfolding detour-at
     right-upper-is L = go (has-up g v) refl
       where
         go : (b : Bool) → has-up g v ≡ b → right-upper L ≡ when b (detours (down (v - W)) (down (v - W + 1)) (right (v - W))) ++ L
         go true e = let h = leb-true W v e in
-            rw (upper-left ∙ e, upper-right ∙ e, upper ∙ e, is-down _ (v - W) (at-upper-left h), is-down _ (v - W + 1) (at-upper-right h), is-right _ (v - W) (at-upper h)) refl
+            rw (upper-left ∙ e, upper-right ∙ e, upper ∙ e, edge-up v inside e, is-down _ (v - W + 1) (at-upper-right h), is-right _ (v - W) (at-upper h)) refl
         go false e = rw (upper-left ∙ e, upper-right ∙ e, upper ∙ e) refl
 
     right-lower-is : (L : List Item) → right-lower L ≡ when (has-down g v) (detours (down v) (down (v + 1)) (right (v + W))) ++ L
@@ -189,11 +200,8 @@ module _ (g : Grid) (p : 2 ≤ g .width) (q : g .width ≤ 16) where
     right-lower-is L = go (has-down g v) refl
       where
         go : (b : Bool) → has-down g v ≡ b → right-lower L ≡ when b (detours (down v) (down (v + 1)) (right (v + W))) ++ L
-        go true e = rw (lower-left ∙ e, lower-right ∙ e, lower ∙ e, down-slot v, is-down _ (v + 1) at-lower-right, is-right _ (v + W) at-lower) refl
+        go true e = rw (lower-left ∙ e, lower-right ∙ e, lower ∙ e, down-slot v, is-down _ (v + 1) (next-down v), is-right _ (v + W) (right-below W v)) refl
         go false e = rw (lower-left ∙ e, lower-right ∙ e, lower ∙ e) refl
-
-    left-of-next : has-left g (v + 1) ≡ true
-    left-of-next = lt-ltb 0 ((v + 1) % W) (omega (arith, next-column (g .height) W v column))
 
     right-corners-is : (b c : Bool) → b ≡ ((has-down g v && has-side g on-right v) && barred g on-right (g .height) v)
         → c ≡ ((has-down g (v + 1) && has-side g on-left (v + 1)) && barred g on-left (g .height) (v + 1)) → (L : List Item)
@@ -205,7 +213,7 @@ module _ (g : Grid) (p : 2 ≤ g .width) (q : g .width ≤ 16) where
         go : (d : Bool) → has-down g v ≡ d
             → corner-at g on-right (v + W + 1) (33 + 2 * v) ++ (corner-at g on-left (v + W) (35 + 2 * v) ++ (bar-at g b (33 + 2 * v) ++ (bar-at g c (35 + 2 * v) ++ L)))
             ≡ when d (corner-right g v (down v) ∷ corner-left g v (down (v + 1)) ∷ bar (barred g on-right (g .height) v) (down v) ∷ bar (barred g on-left (g .height) (v + 1)) (down (v + 1)) ∷ []) ++ L
-        go true e = rw (lower-left ∙ e, lower-right ∙ e, down-slot v, is-down _ (v + 1) at-lower-right, eb, ec, e, both-below ∙ e, lt-ltb (v % W + 1) W column, left-of-next) refl
+        go true e = rw (lower-left ∙ e, lower-right ∙ e, down-slot v, is-down _ (v + 1) (next-down v), eb, ec, e, both-below ∙ e, lt-ltb (v % W + 1) W column, left-of-next g v column) refl
         go false e = rw (lower-left ∙ e, lower-right ∙ e) refl
 
     -- all items of steps d and e for a line to the right, and what comes after them
@@ -223,6 +231,9 @@ module _ (g : Grid) (p : 2 ≤ g .width) (q : g .width ≤ 16) where
     below : v + W < pads g
     below = down-on v on
 
+    inside-above : v < pads g
+    inside-above = omega (arith, below)
+
     some-column : 0 < W
     some-column = omega arith
 
@@ -230,47 +241,27 @@ module _ (g : Grid) (p : 2 ≤ g .width) (q : g .width ≤ 16) where
       not-first : 0 < v
       not-first = omega (arith, mod-le v W)
 
-      at-left : 30 + 2 * v ≡ slot (right (v - 1))
-      at-left = omega (arith, not-first)
-
       at-lower-left : 30 + 2 * v + 2 * W ≡ slot (right (v - 1 + W))
       at-lower-left = omega (arith, not-first)
 
       at-far-left : 31 + 2 * v ≡ slot (down (v - 1))
       at-far-left = omega (arith, not-first)
 
-      on-left-edge : on-board g (right (v - 1)) ≡ true
-      on-left-edge = right-true (v - 1) (column-before (g .height) W v some-column h) (omega (arith, below))
-
       on-lower-left : on-board g (right (v - 1 + W)) ≡ true
-      on-lower-left = right-true (v - 1 + W) (rw (add-mod-right (v - 1) W) (column-before (g .height) W v some-column h)) (omega (arith, below, not-first))
+      on-lower-left = right-true (v - 1 + W) (rw (add-mod-right (v - 1) W) (column-before W v some-column h)) (omega (arith, below, not-first))
 
       on-far-left : on-board g (down (v - 1)) ≡ true
       on-far-left = lt-ltb (v - 1 + W) (pads g) (omega (arith, below, not-first))
 
     pub left-side : slot-on g (30 + 2 * v) ≡ has-left g v
-    left-side = go (has-left g v) refl
-      where
-        go : (b : Bool) → has-left g v ≡ b → slot-on g (30 + 2 * v) ≡ b
-        go true e = let h = ltb-true 0 (v % W) e in slot-is _ (right (v - 1)) (at-left h) ∙ on-left-edge h
-        go false e = start (ltb 0 v) refl
-          where
-            zero-column : v % W ≡ 0
-            zero-column = omega (arith, ltb-false 0 (v % W) e)
-
-            start : (t : Bool) → ltb 0 v ≡ t → slot-on g (30 + 2 * v) ≡ false
-            start true f = slot-is _ (right (v - 1)) at ∙ right-false (v - 1) (last-before (g .height) W v (ltb-true 0 v f) zero-column)
-              where
-                at : 30 + 2 * v ≡ slot (right (v - 1))
-                at = omega (arith, ltb-true 0 v f)
-            start false f = low-off _ (omega (arith, ltb-false 0 v f))
+    left-side = slot-left v inside-above
 
     pub lower-left-side : slot-on g (30 + 2 * v + 2 * W) ≡ has-left g v
     lower-left-side = go (has-left g v) refl
       where
         go : (b : Bool) → has-left g v ≡ b → slot-on g (30 + 2 * v + 2 * W) ≡ b
         go true e = let h = ltb-true 0 (v % W) e in slot-is _ (right (v - 1 + W)) (at-lower-left h) ∙ on-lower-left h
-        go false e = slot-is _ (right (v + W - 1)) at ∙ right-false (v + W - 1) (last-before (g .height) W (v + W) (omega arith) (add-mod-right v W ∙ zero-column))
+        go false e = slot-is _ (right (v + W - 1)) at ∙ right-false (v + W - 1) (last-before W (v + W) (omega arith) (add-mod-right v W ∙ zero-column))
           where
             zero-column : v % W ≡ 0
             zero-column = omega (arith, ltb-false 0 (v % W) e)
@@ -286,29 +277,17 @@ module _ (g : Grid) (p : 2 ≤ g .width) (q : g .width ≤ 16) where
         go false e = rw (eb, on, e) (low-off 0 (omega arith))
 
     pub right-side : slot-on g (32 + 2 * v) ≡ has-right g v
-    right-side = edge-on g (right v) ∙ rw (lt-ltb v (pads g) (omega (arith, below))) (and-true (has-right g v))
+    right-side = slot-right v inside-above
 
     pub lower-right-side : slot-on g (32 + 2 * v + 2 * W) ≡ has-right g v
-    lower-right-side = slot-is _ (right (v + W)) at ∙ (ap (λ (x : Bool). x && ltb (v + W) (pads g)) (below-column v) ∙ rw on (and-true (has-right g v)))
-      where
-        at : 32 + 2 * v + 2 * W ≡ slot (right (v + W))
-        at = omega arith
+    lower-right-side = slot-is _ (right (v + W)) (right-below W v) ∙ (ap (λ (x : Bool). x && ltb (v + W) (pads g)) (below-column v) ∙ rw on (and-true (has-right g v)))
 
     pub far-right : (b : Bool) → b ≡ (has-down g v && has-side g on-right v) → slot-on g (pick b (35 + 2 * v) 0) ≡ has-right g v
     far-right b eb = go (has-right g v) refl
       where
-        at : 35 + 2 * v ≡ slot (down (v + 1))
-        at = omega arith
-
         go : (t : Bool) → has-right g v ≡ t → slot-on g (pick b (35 + 2 * v) 0) ≡ t
-        go true e = rw (eb, on, e) (slot-is _ (down (v + 1)) at ∙ lt-ltb (v + 1 + W) (pads g) (omega (arith, next-pad (g .height) W (v + W) below (rw (add-mod-right v W) (ltb-true (v % W + 1) W e)))))
+        go true e = rw (eb, on, e) (next-down-on g v ∙ lt-ltb (v + 1 + W) (pads g) (omega (arith, next-in-row W (v + W) (g .height) (rw (add-mod-right v W) (ltb-true (v % W + 1) W e)) below)))
         go false e = rw (eb, on, e) (low-off 0 (omega arith))
-
-    edge-right-is : (s u : ℕ) → s ≡ slot (right u) → edge-of s ≡ right u
-    edge-right-is s u h = ap edge-of h ∙ right-slot u
-
-    edge-down-is : (s u : ℕ) → s ≡ slot (down u) → edge-of s ≡ down u
-    edge-down-is s u h = ap edge-of h ∙ down-slot u
 
     down-left-is : (b : Bool) → b ≡ (has-down g v && has-side g on-left v) → (L : List Item)
         → detour-at g (30 + 2 * v) (30 + 2 * v + 2 * W) (31 + 2 * v)
@@ -324,7 +303,7 @@ module _ (g : Grid) (p : 2 ≤ g .width) (q : g .width ≤ 16) where
             ≡ when t (detours (right (v - 1)) (right (v - 1 + W)) (down (v - 1))) ++ L
         go true e = let h = ltb-true 0 (v % W) e in
             let picked : pick b (31 + 2 * v) 0 ≡ 31 + 2 * v = rw (eb, on, e) refl in
-            rw (left-side ∙ e, lower-left-side ∙ e, far-left b eb ∙ e, picked, edge-right-is _ (v - 1) (at-left h), edge-right-is _ (v - 1 + W) (at-lower-left h), edge-down-is _ (v - 1) (at-far-left h)) refl
+            rw (left-side ∙ e, lower-left-side ∙ e, far-left b eb ∙ e, picked, edge-left v inside-above e, is-right _ (v - 1 + W) (at-lower-left h), is-down _ (v - 1) (at-far-left h)) refl
         go false e = rw (left-side ∙ e, lower-left-side ∙ e, far-left b eb ∙ e) refl
 
     down-right-is : (b : Bool) → b ≡ (has-down g v && has-side g on-right v) → (L : List Item)
@@ -335,19 +314,13 @@ module _ (g : Grid) (p : 2 ≤ g .width) (q : g .width ≤ 16) where
     unfolding detour-at
     down-right-is b eb L = go (has-right g v) refl
       where
-        at : 32 + 2 * v + 2 * W ≡ slot (right (v + W))
-        at = omega arith
-
-        at-next : 35 + 2 * v ≡ slot (down (v + 1))
-        at-next = omega arith
-
         go : (t : Bool) → has-right g v ≡ t → detour-at g (32 + 2 * v) (32 + 2 * v + 2 * W) (35 + 2 * v)
             ++ (detour-at g (32 + 2 * v + 2 * W) (32 + 2 * v) (35 + 2 * v)
             ++ (detour-at g (pick b (35 + 2 * v) 0) (32 + 2 * v) (32 + 2 * v + 2 * W) ++ L))
             ≡ when t (detours (right v) (right (v + W)) (down (v + 1))) ++ L
         go true e =
             let picked : pick b (35 + 2 * v) 0 ≡ 35 + 2 * v = rw (eb, on, e) refl in
-            rw (right-side ∙ e, lower-right-side ∙ e, far-right b eb ∙ e, picked, right-slot v, edge-right-is _ (v + W) at, edge-down-is _ (v + 1) at-next) refl
+            rw (right-side ∙ e, lower-right-side ∙ e, far-right b eb ∙ e, picked, right-slot v, is-right _ (v + W) (right-below W v), is-down _ (v + 1) (next-down v)) refl
         go false e = rw (right-side ∙ e, lower-right-side ∙ e, far-right b eb ∙ e) refl
 
     down-left-corner-is : (L : List Item) → corner-at g on-left (v + W - 1) (30 + 2 * v) ++ L ≡ when (has-left g v) (corner-left g (v - 1) (right (v - 1)) ∷ []) ++ L
@@ -356,7 +329,7 @@ module _ (g : Grid) (p : 2 ≤ g .width) (q : g .width ≤ 16) where
       where
         go : (t : Bool) → has-left g v ≡ t → corner-at g on-left (v + W - 1) (30 + 2 * v) ++ L ≡ when t (corner-left g (v - 1) (right (v - 1)) ∷ []) ++ L
         go true e = let h = ltb-true 0 (v % W) e in let same : v + W - 1 ≡ v - 1 + W = omega (arith, not-first h) in
-            rw (left-side ∙ e, same, edge-right-is _ (v - 1) (at-left h)) refl
+            rw (left-side ∙ e, same, edge-left v inside-above e) refl
         go false e = rw (left-side ∙ e) refl
 
     down-right-corner-is : (L : List Item) → corner-at g on-right (v + W + 1) (32 + 2 * v) ++ L ≡ when (has-right g v) (corner-right g v (right v) ∷ []) ++ L
@@ -373,7 +346,7 @@ module _ (g : Grid) (p : 2 ≤ g .width) (q : g .width ≤ 16) where
     down-left-bar-is b eb L = go (has-left g v) refl
       where
         go : (t : Bool) → has-left g v ≡ t → bar-at g b (30 + 2 * v) ++ L ≡ when t (bar (barred g on-left (g .height) v) (right (v - 1)) ∷ []) ++ L
-        go true e = let h = ltb-true 0 (v % W) e in rw (left-side ∙ e, eb, on, e, edge-right-is _ (v - 1) (at-left h)) refl
+        go true e = rw (left-side ∙ e, eb, on, e, edge-left v inside-above e) refl
         go false e = rw (left-side ∙ e) refl
 
     down-right-bar-is : (b : Bool) → b ≡ ((has-down g v && has-side g on-right v) && barred g on-right (g .height) v) → (L : List Item)

@@ -15,10 +15,10 @@ use Rattle.rules.specs.Drawing.{Side}
 use Rattle.rules.specs.Tests.{both-off, neither}
 use Rattle.model.specs.Board.{EdgeState, line, none, isLine, isUndecided, isBlank, sameState, End, through, at-pad, at-clue, isThrough, State, set-edge, set-flag, Item, corner, bar, check-pad, check-end, when, on-board, has-down, has-side, shape-items, do-items, cannot-join, join-ends, after-store, decide, check}
 use Rattle.boardview.specs.View.{Arrays, logged, flag-in, stopped, ended, going, slot, edge-of, slot-on, state-of, view, end-at, has-bit, clue-bit, cell-in, grid-in, joined, undecided-in, Ready, Decided, Done, then, in-a-row, shown, corner-at, bar-at, check-at, beside, unjoinable, pad-number}
-use Rattle.boardview.specs.Bytes.{default-free, elim-true, elim-false, undecided-byte-test, on-slot, view-stored}
+use Rattle.boardview.specs.Bytes.{default-free, elim-true, elim-false, undecided-byte-test, view-stored}
 use Rattle.boardview.specs.Unwind.{since-still, since-then, log-stored, log-joined}
 use Rattle.boardview.specs.Stores.{flag-of-ended, ended-of-ended, logged-of-ended, going-count, next-count, recounted, Stored, slot-inside, few-logged, first-inside, second-inside, edge-is-stored, line-is-joined, joined-view}
-use Rattle.boardview.specs.Steps.{row-is, with-count, done-nothing, done-still, done-stopped, done-decided, view-stopped, view-recounted, line-at, slot-is-on, corner-no, corner-two, corner-stops, bar-no, bar-acts}
+use Rattle.boardview.specs.Steps.{row-is, with-count, done-nothing, done-still, done-stopped, done-decided, view-stopped, view-recounted, slot-is-on, corner-no, corner-two, corner-stops, bar-no, bar-acts, line-test, line-there}
 
 -- a decision hands its arrays on with another count
 pub recount-decided : {g : Grid} {s s′ : Arrays} {e : Edge} {m : EdgeState} → Decided g s e m s′ → Ready g (with-count s′ (going (s′ .count)))
@@ -37,9 +37,6 @@ module _ (kind : List ℕ) (side : Side) (s : Arrays) (y : Ready (grid-in kind) 
   abbrev g : Grid
   g = grid-in kind
 
-  line-test : slot-on g a ≡ true → isLine (view s .edge (edge-of a)) ≡ eqb (getD (s .edges) a 0) 1
-  line-test e = line-at s a (on-slot g a e .0) (omega (arith, y .edges-long))
-
   pub corner-off : (getD (s .edges) a 0 ≡ 1 → ⊥) → Done g 1 s (corner-at g side q a) s
   unfolding corner-at
   corner-off n = go (slot-on g a) refl
@@ -47,14 +44,11 @@ module _ (kind : List ℕ) (side : Side) (s : Arrays) (y : Ready (grid-in kind) 
       go : (t : Bool) → slot-on g a ≡ t → Done g 1 s (when t (corner q (edge-of a) (has-down g q && has-side g side q) (beside side q) (down q) ∷ [])) s
       go false e = done-nothing g 1 s y
       go true e = done-still g 1 s _ y going-on
-          (λ f. corner-no g (decide g f) (check g f) (view s) q _ _ _ _ (both-off (isBlank (g .cell q)) _ (line-test e ∙ ne-eqb (getD (s .edges) a 0) 1 n)))
+          (λ f. corner-no g (decide g f) (check g f) (view s) q _ _ _ _ (both-off (isBlank (g .cell q)) _ (line-test g s y a h e ∙ ne-eqb (getD (s .edges) a 0) 1 n)))
 
   module _ (l : getD (s .edges) a 0 ≡ 1) where
     corner-on : slot-on g a ≡ true
     corner-on = slot-is-on g s y a h (omega arith)
-
-    is-line : isLine (view s .edge (edge-of a)) ≡ true
-    is-line = line-test corner-on ∙ eq-eqb (getD (s .edges) a 0) 1 l
 
     module _ (b : q < 256) where
       pub corner-clue : has-bit kind q clue-bit ≡ true → Done g 1 s (corner-at g side q a) s
@@ -64,7 +58,7 @@ module _ (kind : List ℕ) (side : Side) (s : Arrays) (y : Ready (grid-in kind) 
 
       module _ (t : has-bit kind q clue-bit ≡ false) where
         acts : (isBlank (g .cell q) && isLine (view s .edge (edge-of a))) ≡ true
-        acts = rw (clue-test kind q b, t, is-line) refl
+        acts = rw (clue-test kind q b, t, line-there g s y a h l) refl
 
         pub corner-ends : (has-down g q && has-side g side q) ≡ false → Done g 1 s (corner-at g side q a) (with-count s (stopped (s .count)))
         unfolding corner-at

@@ -1,6 +1,6 @@
 -- A decision asks of a grid only its sizes and which pads are blank: two grids that agree in these decide alike. So the grid that the
 -- kinds tell of (View.antt, grid-in) stands for the grid of the file. It rests on the model alone.
-use Prim.Native.Nat.{ℕ, zero, suc, _+_, _-_}
+use Prim.Native.Nat.{ℕ, zero, suc, _+_}
 use mathlib.Core.Path.{_≡_, refl, sym, ap, _∙_}
 use mathlib.Core.Bool.{Bool, true, false, _&&_, _||_, not}
 use mathlib.Core.List.{List, [], _∷_, _++_}

@@ -1,78 +1,21 @@
 -- The last part of the pad check: counting by bytes is counting by the model's list of edges at a pad, and each of the five actions is
 -- what the model does. It rests on Geometry.antt and Steps.antt.
-use Prim.Native.Nat.{ℕ, _+_, _*_, _-_, _%_, _≤_, _<_}
+use Prim.Native.Nat.{ℕ, _+_, _*_, _-_, _<_}
 use mathlib.Core.Path.{_≡_, refl, sym, ap, _∙_}
-use mathlib.Core.Bool.{Bool, true, false, _&&_, _||_, and-true, and-false, or-true, Bool·not-not}
+use mathlib.Core.Bool.{Bool, true, false, _&&_, _||_, and-false, or-true, Bool·not-not}
 use mathlib.Core.List.{List, []}
 use native.Mathlib.Omega.{arith}
-use native.Mathlib.Nat.{mod-le}
 use lib.Dec.{eqb, ltb, leb}
 use lib.ListN.{getD, length}
-use borrow.Author.Tests.{eqb-true, eqb-false, eq-eqb, ne-eqb, lt-leb, le-leb, lt-ltb, le-ltb, ltb-true, ltb-false, leb-true, leb-false}
+use borrow.Author.Tests.{eqb-true, eqb-false, eq-eqb, ne-eqb, lt-leb, le-leb, ltb-false}
 use Rattle.rules.specs.Grid.{Edge, right, down, Grid, pads}
 use Rattle.rules.specs.Drawing.{num}
-use Rattle.model.specs.Board.{EdgeState, line, none, isUndecided, State, set-flag, Decide, with-edge, has-right, has-left, has-down, has-up, on-board, lines, undecideds, decide-first, line-or-none, around, degree, settled}
-use Rattle.boardview.specs.View.{Arrays, pick, slot, edge-of, slot-on, view, has-bit, clue-bit, grid-in, Ready, edges-around, undecided-around, degree-around, first-around, action-around}
-use Rattle.boardview.specs.Bytes.{elim-true, elim-false, edge-on, right-slot, down-slot, on-slot}
-use Rattle.boardview.specs.Geometry.{column-before, last-before, low-off, slot-is}
+use Rattle.model.specs.Board.{EdgeState, line, none, isUndecided, State, set-flag, Decide, with-edge, has-right, has-left, has-down, has-up, lines, undecideds, decide-first, line-or-none, around, degree, settled}
+use Rattle.boardview.specs.View.{Arrays, pick, edge-of, slot-on, view, has-bit, clue-bit, grid-in, Ready, edges-around, undecided-around, degree-around, first-around, action-around}
+use Rattle.boardview.specs.Bytes.{elim-true, elim-false, right-slot, down-slot, on-slot}
+use Rattle.boardview.specs.Geometry.{slot-left, slot-right, slot-up, slot-down, edge-left, edge-up}
 use Rattle.boardview.specs.Steps.{line-at, undecided-at}
 use Rattle.boardview.specs.Items.{clue-test}
-
--- THE FOUR SLOTS AT A PAD
-module _ (g : Grid) (p : 2 ≤ g .width) (q : g .width ≤ 16) (v : ℕ) (inside : v < pads g) where
-  abbrev W : ℕ
-  W = g .width
-
-  right-true : (u : ℕ) → u % W + 1 < W → u < pads g → on-board g (right u) ≡ true
-  right-true u h k = rw (lt-ltb (u % W + 1) W h, lt-ltb u (pads g) k) refl
-
-  pub slot-left : slot-on g (30 + 2 * v) ≡ has-left g v
-  slot-left = go (has-left g v) refl
-    where
-      go : (b : Bool) → has-left g v ≡ b → slot-on g (30 + 2 * v) ≡ b
-      go true e = slot-is g p q _ (right (v - 1)) at ∙ right-true (v - 1) (column-before (g .height) W v (omega arith) (ltb-true 0 (v % W) e)) (omega arith)
-        where
-          at : 30 + 2 * v ≡ slot (right (v - 1))
-          at = omega (arith, ltb-true 0 (v % W) e, mod-le v W)
-      go false e = start (ltb 0 v) refl
-        where
-          start : (t : Bool) → ltb 0 v ≡ t → slot-on g (30 + 2 * v) ≡ false
-          start true f = slot-is g p q _ (right (v - 1)) at ∙ rw (le-ltb ((v - 1) % W + 1) W off) refl
-            where
-              at : 30 + 2 * v ≡ slot (right (v - 1))
-              at = omega (arith, ltb-true 0 v f)
-
-              off : W ≤ (v - 1) % W + 1
-              off = omega (arith, last-before (g .height) W v (ltb-true 0 v f) (omega (arith, ltb-false 0 (v % W) e)))
-          start false f = low-off g p q _ (omega (arith, ltb-false 0 v f))
-
-  pub slot-right : slot-on g (32 + 2 * v) ≡ has-right g v
-  slot-right = edge-on g (right v) ∙ rw (lt-ltb v (pads g) inside) (and-true (has-right g v))
-
-  pub slot-up : slot-on g (33 + 2 * v - 2 * W) ≡ has-up g v
-  slot-up = go (has-up g v) refl
-    where
-      go : (b : Bool) → has-up g v ≡ b → slot-on g (33 + 2 * v - 2 * W) ≡ b
-      go true e = slot-is g p q _ (down (v - W)) at ∙ lt-ltb (v - W + W) (pads g) (omega (arith, leb-true W v e))
-        where
-          at : 33 + 2 * v - 2 * W ≡ slot (down (v - W))
-          at = omega (arith, leb-true W v e)
-      go false e = low-off g p q _ (omega (arith, leb-false W v e))
-
-  pub slot-down : slot-on g (33 + 2 * v) ≡ has-down g v
-  slot-down = edge-on g (down v)
-
-  pub edge-left : has-left g v ≡ true → edge-of (30 + 2 * v) ≡ right (v - 1)
-  edge-left e = ap edge-of at ∙ right-slot (v - 1)
-    where
-      at : 30 + 2 * v ≡ slot (right (v - 1))
-      at = omega (arith, ltb-true 0 (v % W) e, mod-le v W)
-
-  pub edge-up : has-up g v ≡ true → edge-of (33 + 2 * v - 2 * W) ≡ down (v - W)
-  edge-up e = ap edge-of at ∙ down-slot (v - W)
-    where
-      at : 33 + 2 * v - 2 * W ≡ slot (down (v - W))
-      at = omega (arith, leb-true W v e)
 
 -- COUNTING: one edge that may be there
 module _ (g : Grid) (s : Arrays) (y : Ready g s) (n : ℕ) (h : n < 1024) (b : Bool) (eb : slot-on g n ≡ b) (e : Edge) (ee : b ≡ true → edge-of n ≡ e) (u : ℕ) (l : List (Edge × ℕ)) where

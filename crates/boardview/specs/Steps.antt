@@ -131,9 +131,15 @@ pub undecided-at : (s : Arrays) (n : ℕ) → 32 ≤ n → n < length (s .edges)
 undecided-at s n h k = ap isUndecided (state-at s n h k) ∙ undecided-byte-test (getD (s .edges) n 0)
 
 -- a slot with a line, or undecided, is on the board
-module _ (g : Grid) (s : Arrays) (y : Ready g s) (n : ℕ) (h : n < 1024) (k : getD (s .edges) n 0 < 2) where
-  pub slot-is-on : slot-on g n ≡ true
-  slot-is-on = is-so (slot-on g n) (λ e. omega (arith, y .rim n h e))
+module _ (g : Grid) (s : Arrays) (y : Ready g s) (n : ℕ) (h : n < 1024) where
+  pub slot-is-on : getD (s .edges) n 0 < 2 → slot-on g n ≡ true
+  slot-is-on k = is-so (slot-on g n) (λ e. omega (arith, y .rim n h e))
+
+  pub line-test : slot-on g n ≡ true → isLine (view s .edge (edge-of n)) ≡ eqb (getD (s .edges) n 0) 1
+  line-test e = line-at s n (on-slot g n e .0) (omega (arith, y .edges-long))
+
+  pub line-there : getD (s .edges) n 0 ≡ 1 → isLine (view s .edge (edge-of n)) ≡ true
+  line-there l = line-test (slot-is-on (omega arith)) ∙ eq-eqb (getD (s .edges) n 0) 1 l
 
 -- WHAT THE MODEL'S ITEMS DO, by their tests
 module _ (g : Grid) (dec : Decide) (chk : Check) (S : State) where
@@ -180,9 +186,6 @@ module _ (g : Grid) (dec : Decide) (chk : Check) (S : State) where
 
 -- DETOUR
 module _ (g : Grid) (s : Arrays) (y : Ready g s) (a b c : ℕ) (h : a < 1024) (going-on : s .count < 2048) where
-  line-test : slot-on g a ≡ true → isLine (view s .edge (edge-of a)) ≡ eqb (getD (s .edges) a 0) 1
-  line-test e = line-at s a (on-slot g a e .0) (omega (arith, y .edges-long))
-
   pub detour-off : (getD (s .edges) a 0 ≡ 1 → ⊥) → Done g 1 s (detour-at g a b c) s
   unfolding detour-at
   detour-off n = go (slot-on g a) refl
@@ -190,14 +193,11 @@ module _ (g : Grid) (s : Arrays) (y : Ready g s) (a b c : ℕ) (h : a < 1024) (g
       go : (t : Bool) → slot-on g a ≡ t → Done g 1 s (when t (detour (edge-of a) (edge-of b) (edge-of c) ∷ [])) s
       go false e = done-nothing g 1 s y
       go true e = done-still g 1 s (detour (edge-of a) (edge-of b) (edge-of c)) y going-on
-          (λ f. detour-no g (decide g f) (check g f) (view s) _ _ _ (line-test e ∙ ne-eqb (getD (s .edges) a 0) 1 n))
+          (λ f. detour-no g (decide g f) (check g f) (view s) _ _ _ (line-test g s y a h e ∙ ne-eqb (getD (s .edges) a 0) 1 n))
 
   module _ (l : getD (s .edges) a 0 ≡ 1) where
     detour-on : slot-on g a ≡ true
     detour-on = slot-is-on g s y a h (omega arith)
-
-    is-line : isLine (view s .edge (edge-of a)) ≡ true
-    is-line = line-test detour-on ∙ eq-eqb (getD (s .edges) a 0) 1 l
 
     flag-after : (s₁ : Arrays) → Decided g s (edge-of b) none s₁ → (f : ℕ) → 2 * undecided-in (s .edges) < f → decide g f (edge-of b) none (view s) .flag ≡ ended-in (s₁ .count)
     unfolding view
@@ -209,7 +209,7 @@ module _ (g : Grid) (s : Arrays) (y : Ready g s) (a b c : ℕ) (h : a < 1024) (g
       where
         same : (f : ℕ) → 2 * undecided-in (s .edges) + 1 < f → shown s₁ ≡ in-a-row g (decide g f) (check g f) (detour (edge-of a) (edge-of b) (edge-of c) ∷ []) (shown s)
         same f k = rw (lt-leb 2048 (s .count) going-on) ((λ i. (d .same f (omega arith) i, le-leb 2048 (s₁ .count) e i))
-            ∙ sym (detour-first-only g (decide g f) (check g f) (view s) _ _ _ is-line (flag-after s₁ d f (omega arith) ∙ le-leb 2048 (s₁ .count) e)))
+            ∙ sym (detour-first-only g (decide g f) (check g f) (view s) _ _ _ (line-there g s y a h l) (flag-after s₁ d f (omega arith) ∙ le-leb 2048 (s₁ .count) e)))
 
     pub detour-both : (s₁ s₂ : Arrays) → Decided g s (edge-of b) none s₁ → s₁ .count < 2048 → Decided g s₁ (edge-of c) none s₂ → Done g 1 s (detour-at g a b c) s₂
     unfolding detour-at in-a-row then
@@ -218,4 +218,4 @@ module _ (g : Grid) (s : Arrays) (y : Ready g s) (a b c : ℕ) (h : a < 1024) (g
         same : (f : ℕ) → 2 * undecided-in (s .edges) + 1 < f → shown s₂ ≡ in-a-row g (decide g f) (check g f) (detour (edge-of a) (edge-of b) (edge-of c) ∷ []) (shown s)
         same f k = rw (lt-leb 2048 (s .count) going-on) (decided-shown g d₂ f (omega (arith, d .fewer))
             ∙ (ap (λ (S : State). (decide g f (edge-of c) none S, decide g f (edge-of c) none S .flag)) (d .same f (omega arith))
-            ∙ sym (detour-two g (decide g f) (check g f) (view s) _ _ _ is-line (flag-after s₁ d f (omega arith) ∙ lt-leb 2048 (s₁ .count) e))))
+            ∙ sym (detour-two g (decide g f) (check g f) (view s) _ _ _ (line-there g s y a h l) (flag-after s₁ d f (omega arith) ∙ lt-leb 2048 (s₁ .count) e))))

@@ -81,12 +81,12 @@ module _ (log : List ℤ) (n s : ℕ) (h : 4 * n + 3 < length log) where
   stored-kept i k = getD-set-other (set log (4 * n) (pos s)) (4 * n + 1) i (negsuc 0) (pos 0) (omega arith) ∙ getD-set-other log (4 * n) i (pos s) (pos 0) (omega arith)
 
   -- undoing a stored edge
+  edges-back : (b : ℕ) (edges : List ℕ) → getD edges s 0 ≡ 0 → set (set edges s b) s 0 ≡ edges
+  edges-back b edges z = set-set edges s b 0 ∙ (ap (λ (x : ℕ). set edges s x) (sym z) ∙ set-getD edges s 0)
+
   pub stored-back : (w b : ℕ) (edges : List ℕ) (ends : List ℤ) → getD edges s 0 ≡ 0 → undone-one w (log-stored log n s) n (set edges s b, ends) ≡ (edges, ends)
   unfolding undone-one unjoined end-of
-  stored-back w b edges ends z = rw (slot-stored, mark-stored) (λ i. (edges-back i, ends))
-    where
-      edges-back : set (set edges s b) s 0 ≡ edges
-      edges-back = set-set edges s b 0 ∙ (ap (λ (x : ℕ). set edges s x) (sym z) ∙ set-getD edges s 0)
+  stored-back w b edges ends z = rw (slot-stored, mark-stored) (λ i. (edges-back b edges z i, ends))
 
   module _ (A B : ℤ) where
     pub slot-joined : getD (log-joined log n s A B) (4 * n) (pos 0) ≡ pos s
@@ -109,10 +109,7 @@ module _ (log : List ℤ) (n s : ℕ) (h : 4 * n + 3 < length log) where
     pub joined-back : (w b : ℕ) (edges : List ℕ) (ends ends′ : List ℤ) → getD edges s 0 ≡ 0 → unjoined (s / 2 - 16) (second-pad w s) A B ends′ ≡ ends
         → undone-one w (log-joined log n s A B) n (set edges s b, ends′) ≡ (edges, ends)
     unfolding undone-one
-    joined-back w b edges ends ends′ z e = rw (slot-joined, first-joined, second-joined) (λ i. (edges-back i, e i))
-      where
-        edges-back : set (set edges s b) s 0 ≡ edges
-        edges-back = set-set edges s b 0 ∙ (ap (λ (x : ℕ). set edges s x) (sym z) ∙ set-getD edges s 0)
+    joined-back w b edges ends ends′ z e = rw (slot-joined, first-joined, second-joined) (λ i. (edges-back b edges z i, e i))
 
 -- one entry more
 pub since-one : (w : ℕ) (s s′ : Arrays) → logged s′ ≡ logged s + 1 → ((i : ℕ) → i < 4 * logged s → getD (s′ .log) i (pos 0) ≡ getD (s .log) i (pos 0))

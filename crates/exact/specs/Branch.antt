@@ -1,14 +1,15 @@
 -- One branch of the search, one m: it lists exactly the listed drawings that agree with the board and have m's two edges at the pad. Where
 -- the degree test fails or a decision sets the flag there is no such drawing; else the branch goes on from the next pad.
 use Prim.Native.Nat.{ℕ, _+_, _-_, _%_, _≤_, _<_}
-use mathlib.Core.Path.{_≡_, refl, _∙_, ap}
+use mathlib.Core.Path.{_≡_, refl, sym, _∙_, ap}
 use mathlib.Core.Logic.{⊎-map}
 use mathlib.Core.Bool.{Bool, true, false, _&&_, _||_}
 use mathlib.Core.List.{List, [], List·Memᴰ, List·Memᴰ·not-nil, map}
 use native.Mathlib.Omega.{arith}
+use native.Mathlib.Nat.{zero-add}
 use borrow.Author.Tests.{eq-eqb, ltb-true}
 use lib.Dec.{eqb}
-use Rattle.rules.specs.Grid.{Edge, first, Grid, pads, OnBoard, right, down}
+use Rattle.rules.specs.Grid.{Edge, Grid, pads, OnBoard, right, down}
 use Rattle.rules.specs.Drawing.{Drawing, drawn, num, Listed}
 use Rattle.rules.specs.Record.{record-of, Ascending}
 use Rattle.rules.specs.Tests.{either-on, conflict}
@@ -52,10 +53,7 @@ module _ (g : Grid) (proper : Proper g) where
   among-with : (has : Edge → Bool) (b : Bool) (e : Edge) (u : ℕ) (l : List (Edge × ℕ)) → among has (with-edge b e u l) ≡ num (b && has e) + among has l
   unfolding among
   among-with has true e u l = refl
-  among-with has false e u l = zero-plus (among has l)
-    where
-      zero-plus : (n : ℕ) → n ≡ 0 + n
-      zero-plus n = omega arith
+  among-with has false e u l = sym (zero-add (among has l))
 
   module _ (S : State) (v : ℕ) (at : StandsAt g proper S v) (above-last : has-down g v ≡ true) (r d : Bool) where
     -- the states after the right edge and after both

@@ -6,13 +6,15 @@ use mathlib.Core.Logic.{⊎-elim}
 use mathlib.Core.Bool.{Bool, true, false}
 use mathlib.Core.List.{List·Memᴰ}
 use native.Mathlib.Omega.{arith}
+use native.Mathlib.Nat.{add-zero, add-suc}
 use native.Mathlib.Decide.{ℕ-discrete}
 use borrow.Author.Tests.{lt-ltb, ltb-true}
 use Rattle.rules.specs.Grid.{Edge, first, Grid, pads, OnBoard, right, down}
 use Rattle.rules.specs.Tests.{conflict, not-so}
+use Rattle.rules.specs.Places.{previous-column}
 use Rattle.model.specs.Board.{isUndecided, State, undecideds, has-right, has-left, has-down, has-up, around}
 use Rattle.propagation.specs.Objects.{AtRest}
-use Rattle.propagation.specs.Squares.{previous-column, Neighbour, neighbour, one-before, row-before, to-left, to-right, to-above, to-below}
+use Rattle.propagation.specs.Squares.{Neighbour, neighbour, one-before, row-before, to-left, to-right, to-above, to-below}
 use Rattle.propagation.specs.Counting.{undecideds-among, one-to, some-among, right-around, down-around, around-apart}
 
 module _ (g : Grid) (wide : 2 ≤ g .width) (S : State) where
@@ -48,7 +50,7 @@ module _ (g : Grid) (wide : 2 ≤ g .width) (S : State) where
   left-decided v b h =
       let j : 0 < v % W = ltb-true 0 (v % W) h in
       let e = one-before g wide v h in
-      b .right (v - 1) (omega arith) (lt-ltb ((v - 1) % W + 1) W (previous-column g wide (v - 1) (rw e at j)))
+      b .right (v - 1) (omega arith) (lt-ltb ((v - 1) % W + 1) W (previous-column W (v - 1) (omega arith) (rw e at j)))
 
   pub up-decided : (v : ℕ) → v < pads g → Passed v → has-up g v ≡ true → undecided-at (down (v - W)) ≡ false
   up-decided v o b h = let j = row-before g wide v h in b .down (v - W) (omega arith) (lt-ltb (v - W + W) (pads g) (omega arith))
@@ -98,12 +100,6 @@ module _ (g : Grid) (wide : 2 ≤ g .width) (S : State) where
       fit : (n v : ℕ) → v < n → v + (n - v) ≡ n
       fit n v l = omega arith
 
-      plus-zero : (n : ℕ) → n + 0 ≡ n
-      plus-zero n = omega arith
-
-      plus-suc : (n m : ℕ) → n + suc m ≡ suc (n + m)
-      plus-suc n m = omega arith
-
       go : (k : ℕ) → v + k ≤ pads g → Passed (v + k)
-      go zero l = rw (plus-zero v) b
-      go (suc k) l = rw (plus-suc v k) (pass (v + k) (omega arith) (rest (v + k)) (go k (omega arith)) (λ r d. conflict d (no-down v (v + k) h (omega arith))))
+      go zero l = rw (add-zero v) b
+      go (suc k) l = rw (add-suc v k) (pass (v + k) (omega arith) (rest (v + k)) (go k (omega arith)) (λ r d. conflict d (no-down v (v + k) h (omega arith))))

@@ -6,10 +6,12 @@ use mathlib.Core.Logic.{_↔_, _≢_, _⊎_, inl, inr, ⊎-elim}
 use mathlib.Core.Bool.{Bool, true, false}
 use mathlib.Core.List.{List, [], _∷_, _++_, List·Memᴰ, List·Memᴰ·cases-cons, List·Memᴰ·head, List·Memᴰ·not-nil, List·Memᴰ·tail, append-nil}
 use native.Mathlib.Omega.{arith}
+use native.Mathlib.Nat.{add-zero, zero-add}
 use borrow.Author.Tests.{le-ltb, leb-false, leb-true, lt-ltb, ltb-false, ltb-true}
 use lib.Dec.{leb, ltb}
 use lib.ListN.{length}
 use Rattle.rules.specs.Record.{record-lines}
+use Rattle.rules.specs.RecordLaws.{plus-suc}
 use Rattle.model.specs.Search.{Event, Run, with-record, scan, no-fewest, least, fewest, visit, layout}
 use Rattle.exact.specs.Events.{layouts-of, visits-of}
 
@@ -45,10 +47,7 @@ module _ (limit size : ℕ) where
   after-visit : (visited room : ℕ) (events : List Event) (run : Run) → visited < limit → Stop (visited + 1) room events run → Stop visited room (visit ∷ events) run
   unfolding layouts-of visits-of
   after-visit visited room events run below (complete o p v r) =
-      complete o (record { within-limit = (let k = p .within-limit in omega arith); within-room = p .within-room }) (v ∙ plus visited (visits-of events)) r
-    where
-      plus : (a b : ℕ) → a + 1 + b ≡ a + suc b
-      plus a b = omega arith
+      complete o (record { within-limit = (let k = p .within-limit in omega arith); within-room = p .within-room }) (v ∙ plus-suc visited (visits-of events)) r
   after-visit visited room events run below (spent o s v r) = spent o (record {
     done = visit ∷ s .done;
     rest = s .rest;
@@ -63,10 +62,7 @@ module _ (limit size : ℕ) where
     parted = ap (λ l. visit ∷ l) (s .parted);
     passes = record { within-limit = (let k = s .passes .within-limit in omega arith); within-room = s .passes .within-room };
     no-room = s .no-room;
-  }) (v ∙ plus visited (visits-of (s .done))) r
-    where
-      plus : (a b : ℕ) → a + 1 + b ≡ a + suc b
-      plus a b = omega arith
+  }) (v ∙ plus-suc visited (visits-of (s .done))) r
 
   after-layout : (visited room : ℕ) (bytes : List ℕ) (events : List Event) (run : Run) → size ≤ room → Stop visited (room - size) events run
       → Stop visited room (layout bytes ∷ events) (with-record bytes run)
@@ -94,13 +90,10 @@ module _ (limit size : ℕ) where
   unfolding layouts-of visits-of
   nothing-yet visited room low = record { within-limit = omega arith; within-room = omega arith }
 
-  no-more : (n : ℕ) → n ≡ n + 0
-  no-more n = omega arith
-
   -- EVERY RUN STOPS in one of the three ways
   pub stops : (events : List Event) (visited room : ℕ) → visited ≤ limit → Stop visited room events (scan limit size visited room events)
   unfolding scan layouts-of visits-of
-  stops [] visited room low = complete refl (nothing-yet visited room low) (no-more visited) refl
+  stops [] visited room low = complete refl (nothing-yet visited room low) (sym (add-zero visited)) refl
   stops (visit ∷ events) visited room low = go (ltb visited limit) refl (λ below. stops events (visited + 1) room below)
     where
       go : (b : Bool) → ltb visited limit ≡ b → (visited + 1 ≤ limit → Stop (visited + 1) room events (scan limit size (visited + 1) room events))
@@ -116,24 +109,21 @@ module _ (limit size : ℕ) where
       go false h rest = let fits : size ≤ room = ltb-false room size h in
           rw (h, scan) (after-layout visited room bytes events (scan limit size visited (room - size) events) fits rest)
       go true h rest = let short : room < size = ltb-true room size h in
-          rw (h, scan) (full refl (record { done = []; due = bytes; rest = events; parted = refl; passes = nothing-yet visited room low; no-room = omega arith }) (no-more visited) refl)
+          rw (h, scan) (full refl (record { done = []; due = bytes; rest = events; parted = refl; passes = nothing-yet visited room low; no-room = omega arith }) (sym (add-zero visited)) refl)
 
   -- a run gets through what passes, and its outcome is that of what follows
   through-events : (done rest : List Event) (visited room : ℕ) → Passes visited room done
       → (scan limit size visited room (done ++ rest)) .outcome ≡ (scan limit size (visited + visits-of done) (room - length (layouts-of done) * size) rest) .outcome
   unfolding scan layouts-of visits-of
   through-events [] rest visited room p =
-      ap (λ n. (scan limit size n room rest) .outcome) (no-more visited) ∙ ap (λ n. (scan limit size (visited + 0) n rest) .outcome) (untouched room)
+      ap (λ n. (scan limit size n room rest) .outcome) (sym (add-zero visited)) ∙ ap (λ n. (scan limit size (visited + 0) n rest) .outcome) (untouched room)
     where
       untouched : (r : ℕ) → r ≡ r - 0 * size
       untouched r = omega arith
   through-events (visit ∷ done) rest visited room p =
       rw (lt-ltb visited limit (let k = p .within-limit in omega arith), scan) (through-events done rest (visited + 1) room
       (record { within-limit = (let k = p .within-limit in omega arith); within-room = p .within-room })
-      ∙ ap (λ n. (scan limit size n (room - length (layouts-of done) * size) rest) .outcome) (plus visited (visits-of done)))
-    where
-      plus : (a b : ℕ) → a + 1 + b ≡ a + suc b
-      plus a b = omega arith
+      ∙ ap (λ n. (scan limit size n (room - length (layouts-of done) * size) rest) .outcome) (plus-suc visited (visits-of done)))
   through-events (layout bytes ∷ done) rest visited room p =
       rw (le-ltb room size (let k = p .within-room in omega arith), scan) (through-events done rest visited (room - size)
       (record { within-limit = p .within-limit; within-room = (let k = p .within-room in omega arith) })
@@ -183,9 +173,6 @@ module _ (limit size : ℕ) where
       run : Run
       run = scan limit size 0 room events
 
-      from-zero : (n : ℕ) → 0 + n ≡ n
-      from-zero n = omega arith
-
       is-not : {A : Type 0} {a b : ℕ} → run .outcome ≡ a → run .outcome ≡ b → a ≢ b → A
       is-not h k n = absurd (n (sym h ∙ k))
 
@@ -195,7 +182,7 @@ module _ (limit size : ℕ) where
         rest = [];
         beginning = sym (append-nil events);
         records-are = r;
-        visited-is = v ∙ from-zero (visits-of events);
+        visited-is = v ∙ zero-add (visits-of events);
         complete-where = ((λ h. p), (λ h. o));
         complete-whole = λ h. refl;
         spent-where = ((λ h. is-not o h (omega arith)), spent-outcome events room);
@@ -207,7 +194,7 @@ module _ (limit size : ℕ) where
         rest = visit ∷ s .rest;
         beginning = s .parted;
         records-are = r;
-        visited-is = v ∙ sym (s .at-limit) ∙ from-zero (visits-of (s .done));
+        visited-is = v ∙ sym (s .at-limit) ∙ zero-add (visits-of (s .done));
         complete-where = ((λ h. is-not o h (omega arith)), complete-outcome events room);
         complete-whole = λ h. is-not o h (omega arith);
         spent-where = ((λ h. s), (λ h. o));
@@ -219,7 +206,7 @@ module _ (limit size : ℕ) where
         rest = layout (s .due) ∷ s .rest;
         beginning = s .parted;
         records-are = r;
-        visited-is = v ∙ from-zero (visits-of (s .done));
+        visited-is = v ∙ zero-add (visits-of (s .done));
         complete-where = ((λ h. is-not o h (omega arith)), complete-outcome events room);
         complete-whole = λ h. is-not o h (omega arith);
         spent-where = ((λ h. is-not o h (omega arith)), spent-outcome events room);

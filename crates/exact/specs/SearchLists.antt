@@ -10,11 +10,12 @@ use native.Mathlib.Omega.{arith}
 use native.Mathlib.Decide.{ℕ-discrete}
 use native.Mathlib.Nat.{mod-eq-of-lt, mul-le-mul-right}
 use borrow.Author.Tests.{lt-ltb}
-use Rattle.rules.specs.Grid.{Edge, first, Grid, pads, OnBoard, right, down}
+use Rattle.rules.specs.Grid.{Edge, Grid, pads, OnBoard, right, down}
 use Rattle.rules.specs.Drawing.{Drawing, drawn, num, Listed}
 use Rattle.rules.specs.Record.{byte-of, tabulate, record-of, pad-code, codes, Before, Ascending, lower, later}
 use Rattle.rules.specs.RecordLaws.{field-same}
 use Rattle.rules.specs.Tests.{conflict}
+use Rattle.rules.specs.Places.{first-inside}
 use Rattle.model.specs.Board.{EdgeState, isLine, isUndecided, State, has-down, fresh, undecided, line, none}
 use Rattle.model.specs.Calls.{state-byte}
 use Rattle.model.specs.Search.{Event, board-record, backtrack, search, visit, layout}
@@ -60,17 +61,13 @@ module _ (g : Grid) (proper : Proper g) where
   unfolding board-record record-of
   whole-record S D a passed = field-same g wide (λ e. state-byte (S .edge e)) (λ e. byte-of (drawn D e)) at
     where
-      first-in : (e : Edge) → OnBoard g e → first e < pads g
-      first-in (right v) on = unfold OnBoard in (on .0)
-      first-in (down v) on = let k : v + g .width < pads g = (unfold OnBoard in on) in omega arith
-
       at : (e : Edge) → OnBoard g e → state-byte (S .edge e) ≡ byte-of (drawn D e)
       at e on = go (S .edge e) refl
         where
           go : (m : EdgeState) → S .edge e ≡ m → state-byte (S .edge e) ≡ byte-of (drawn D e)
           go line h = rw (h, a .where-line e h)
           go none h = rw (h, a .where-none e h)
-          go undecided h = conflict {b = isUndecided (S .edge e)} (ap isUndecided h) (passed-edge g wide S (pads g) passed e (first-in e on) on)
+          go undecided h = conflict {b = isUndecided (S .edge e)} (ap isUndecided h) (passed-edge g wide S (pads g) passed e (first-inside g e on) on)
 
   last-row-lists : (S : State) (v : ℕ) → StandsAt g proper S v → has-down g v ≡ false → Lists g proper S (visit ∷ layout (board-record g S) ∷ [])
   unfolding layouts-of

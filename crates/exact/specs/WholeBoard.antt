@@ -7,16 +7,17 @@ use mathlib.Core.Bool.{Bool, true, false, not}
 use mathlib.Core.List.{List·Memᴰ}
 use native.Mathlib.Omega.{arith}
 use native.Mathlib.Decide.{decLt}
+use borrow.Author.Tests.{not-false}
 use Rattle.rules.specs.Grid.{Edge, first, second, Cell, Grid, pads, right, down, blank, clue}
 use Rattle.rules.specs.Drawing.{drawn, NoLine, num, Listed}
-use Rattle.rules.specs.Places.{zero≢one}
-use Rattle.rules.specs.Tests.{conflict}
+use Rattle.rules.specs.Places.{zero≢one, next-in-row}
+use Rattle.rules.specs.Tests.{conflict, num-none}
 use Rattle.model.specs.Board.{isLine, isUndecided, End, State, isBlank, undecideds, around, degree, line, through, at-pad, at-clue}
 use Rattle.propagation.specs.Ends.{Room, blank-room, clue-room}
 use Rattle.propagation.specs.Refutation.{finished-wired}
 use Rattle.propagation.specs.Edges.{drawing, board-lines, edge-of}
 use Rattle.propagation.specs.Objects.{AtRest, AllHold}
-use Rattle.propagation.specs.Squares.{next-in-row, Neighbour, neighbour, to-left, to-right, to-above, to-below}
+use Rattle.propagation.specs.Squares.{Neighbour, neighbour, to-left, to-right, to-above, to-below}
 use Rattle.propagation.specs.Counting.{among, lines-among, undecideds-among, none-among, one-among, some-among, around-apart, beside, leads}
 use Rattle.propagation.specs.BoardAtRest.{ends-say, pad-at-rest, right-place, down-place, board-placed, at-most-two, board-corners}
 use Rattle.exact.specs.Passed.{Passed, left-decided, up-decided}
@@ -53,10 +54,6 @@ module _ (g : Grid) (wide : 2 ≤ g .width) (S : State) (past : (v : ℕ) → pa
   nothing-undecided : (v : ℕ) → v < pads g → undecideds S (around g v) ≡ 0
   nothing-undecided v o = rw (undecideds-among S (around g v)) (none-among (λ e. isUndecided (S .edge e)) (around g v) (λ p m h. conflict h (decided-around v o p m)))
 
-  num-zero : (b : Bool) → num (not b) ≡ 0 → b ≡ true
-  num-zero true h = refl
-  num-zero false h = absurd (omega arith)
-
   blank-of : (C : Cell) → isBlank C ≡ true → C ≡ blank
   blank-of blank h = refl
   blank-of (clue c) h = conflict h refl
@@ -67,7 +64,7 @@ module _ (g : Grid) (wide : 2 ≤ g .width) (S : State) (past : (v : ℕ) → pa
   rest-cases v q = q
 
   off-the-board : (v : ℕ) → ¬ (v < pads g) → (e : Edge) → S .edge e ≡ line → (v ≡ first e) ⊎ (v ≡ second W e) → ⊥
-  off-the-board v n (right u) h w = let (c, i) = right-place g wide S holds u (ap isLine h) in let k = next-in-row g wide u c i in ⊎-elim (λ p. n (omega arith)) (λ p. n (omega arith)) w
+  off-the-board v n (right u) h w = let (c, i) = right-place g wide S holds u (ap isLine h) in let k = next-in-row W u (g .height) c i in ⊎-elim (λ p. n (omega arith)) (λ p. n (omega arith)) w
   off-the-board v n (down u) h w = let i = down-place g wide S holds u (ap isLine h) in ⊎-elim (λ p. n (omega arith)) (λ p. n (omega arith)) w
 
   finished : (v : ℕ) → (S .end v ≡ through) ⊎ ((g .cell v ≡ blank) × NoLine (board-lines g S) v)
@@ -101,7 +98,7 @@ module _ (g : Grid) (wide : 2 ≤ g .width) (S : State) (past : (v : ℕ) → pa
 
       bare : its-degree ≡ 0 → (g .cell v ≡ blank) × NoLine (board-lines g S) v
       bare d = (
-        blank-of (g .cell v) (num-zero (isBlank (g .cell v)) (omega arith)),
+        blank-of (g .cell v) (not-false (isBlank (g .cell v)) (num-none _ (omega arith))),
         λ y l. let b = beside g wide (drawing S) (board-placed g wide S holds) v y l in let k = some-among lined (around g v) (b .at) (b .member) (sym (drawn-lined (b .at .0)) ∙ b .lined) in omega arith,
       )
 

@@ -7,14 +7,12 @@ use native.Mathlib.Omega.{arith}
 use lib.ListN.{length, take, drop, length-append, length-map}
 use lib.Seq.{paste, length-paste, take-paste, drop-paste, take-length, drop-drop}
 use lib.IntN.{ℤ, pos}
-use native.Mathlib.Nat.{mul-le-mul}
 use Rattle.rules.specs.Grid.{places, pads}
 use Rattle.rules.specs.Drawing.{num}
 use Rattle.rules.specs.RecordLaws.{length-field, length-tabulate}
 use Rattle.model.specs.Calls as model
 use Rattle.model.specs.Calls.{Board, Answer}
-use Rattle.board.specs.Held.{Held, Shows}
-use Rattle.board.specs.declared.Board as code
+use Rattle.board.specs.Held.{Shows}
 use Rattle.board.specs.declared.Shown as shown
 use Rattle.hunekowha.specs.Replay.{block, block-size}
 
@@ -38,27 +36,6 @@ put-then {A} old place a b fits =
 
 pub length-put : {A : Type 0} (old : List A) (place : ℕ) (new : List A) → place + length new ≤ length old → length (put-at old place new) ≡ length old
 length-put old place new fits = length-paste old place new (length new) fits (omega arith)
-
--- SIZES
-pub record InRange (height width : ℕ) : Type 0 where
-  pub least-height : 2 ≤ height
-  pub largest-height : height ≤ 16
-  pub least-width : 2 ≤ width
-  pub largest-width : width ≤ 16
-
-pub in-range : {b : code.Board} {B : Board} {r : shown.Shown} → Held b B → Shows r B → InRange (r .height) (r .width)
-in-range held shows = record {
-  least-height = omega (arith, shows .height, held .told .height, held .kinds .least-height);
-  largest-height = omega (arith, shows .height, held .told .height, held .kinds .largest-height);
-  least-width = omega (arith, shows .width, held .told .width, held .kinds .least-width);
-  largest-width = omega (arith, shows .width, held .told .width, held .kinds .largest-width);
-}
-
-pub few-places : {height width : ℕ} → InRange height width → (2 * height - 1) * (2 * width - 1) ≤ 961
-few-places {height} {width} sizes = mul-le-mul {n₂ = 31} {m₂ = 31} (omega (arith, sizes .largest-height)) (omega (arith, sizes .largest-width))
-
-pub few-pads : {height width : ℕ} → InRange height width → height * width ≤ 256
-few-pads sizes = mul-le-mul (sizes .largest-height) (sizes .largest-width)
 
 -- the size that the code finds
 pub size-shown : {B : Board} {r : shown.Shown} → Shows r B → 3 + (2 * r .height - 1) * (2 * r .width - 1) + r .height * r .width ≡ block-size B

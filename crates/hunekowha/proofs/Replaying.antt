@@ -13,8 +13,7 @@ use lib.Seq.{paste-zero, drop-cons}
 use lib.IntN.{ℤ}
 use borrow.Author.Tests.{eqb-true, ltb-true}
 use Rattle.rules.specs.Grid.{places, pads, Place, edge, no-edge, Grid}
-use Rattle.rules.specs.Drawing.{num}
-use Rattle.rules.specs.Tests.{both}
+use Rattle.rules.specs.Tests.{both, num-small}
 use Rattle.model.specs.Bounds.{is-size}
 use Rattle.model.specs.Board.{EdgeState, undecided, line, none, State, decide, enough}
 use Rattle.model.specs.Refusals.{first-bad-cell, grid-refusal}
@@ -72,10 +71,6 @@ called-grid g b kind row column state same = by-kind (λ A. A .board .grid ≡ f
     (decided-grid b (edge-at (b .grid) row column) state ∙ same) (read-grid b (edge-at (b .grid) row column) ∙ same) (checkpoint-grid b ∙ same) (undo-grid (b .grid) (b .standing) ∙ same) refl
 
 -- AN ANSWER IS SMALL
-num-small : (t : Bool) → num t ≤ 255
-num-small true = omega arith
-num-small false = omega arith
-
 byte-small : (m : EdgeState) → state-byte m ≤ 255
 byte-small undecided = omega arith
 byte-small line = omega arith
@@ -86,8 +81,8 @@ decided-small b no-edge byte = omega arith
 decided-small b (edge e) byte = go (eqb byte 1) (eqb byte 2) refl refl
   where
     go : (a c : Bool) → eqb byte 1 ≡ a → eqb byte 2 ≡ c → decide-at b (edge e) byte .answer ≤ 255
-    go true c h1 h2 = rw (h1, decide-at) (num-small (decide (b .grid) (enough (b .grid)) e line (b .state) .flag))
-    go false true h1 h2 = rw (h1, h2, decide-at) (num-small (decide (b .grid) (enough (b .grid)) e none (b .state) .flag))
+    go true c h1 h2 = rw (h1, decide-at) (omega (arith, num-small (decide (b .grid) (enough (b .grid)) e line (b .state) .flag)))
+    go false true h1 h2 = rw (h1, h2, decide-at) (omega (arith, num-small (decide (b .grid) (enough (b .grid)) e none (b .state) .flag)))
     go false false h1 h2 = rw (h1, h2, decide-at) (omega arith)
 
 read-small : (b : Board) (p : Place) → read-at b p .answer ≤ 255

@@ -1,7 +1,7 @@
 -- What each function for other languages returns and leaves in the slices that were lent to it. It rests on the model's definitions of the
 -- same calls; the numbers stand in the order that hunekowha.h gives them. A slice that is too short is left as it was, and so is every other.
 use Rattle.model.specs.Choice.{if_then_else_}
-use Prim.Native.Nat.{ℕ, _+_, _*_}
+use Prim.Native.Nat.{ℕ, _*_}
 use mathlib.Core.Bool.{_&&_}
 use mathlib.Core.List.{List, [], _∷_, _++_}
 use lib.Dec.{leb}

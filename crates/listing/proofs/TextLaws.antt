@@ -50,8 +50,5 @@ refusal-written {text} {line} {bytes} {long} w size same =
 
 -- ## A layout's line
 
-pub nothing-written : (text : List ℕ) → text ≡ [] → Written 299 text (zeros 299) 0
-nothing-written text e = rw e (record { all-bytes = refl; its-length = refl; fits = omega arith })
-
 pub layout-written : {text other bytes : List ℕ} {long : ℕ} → text ≡ other → Written 299 text bytes long → Written 299 other bytes long
 layout-written e w = rw e at w

@@ -1,53 +1,24 @@
--- Record k of a buffer: when there is one, and what its line is then. And the records that were put into a buffer one after the other, each
+-- Record k of a buffer: what its line is where there is one. And the records that were put into a buffer one after the other, each
 -- as long as the field has places, are found there again: their lines are the lines of the records. It rests on Listing.antt.
 use Prim.Native.Nat.{ℕ, zero, suc, _+_, _*_, _-_, _≤_, _<_}
 use mathlib.Core.Path.{_≡_, refl, sym, ap, _∙_}
-use mathlib.Core.Bool.{Bool, true, false, _&&_}
+use mathlib.Core.Bool.{Bool, true, false}
 use mathlib.Core.List.{List, [], _∷_, _++_, append-assoc}
-use native.Mathlib.Nat.{mul-pos}
 use native.Mathlib.Omega.{arith}
-use borrow.Author.Tests.{ltb-true, leb-true, lt-ltb, le-leb}
-use lib.Dec.{ltb, leb}
+use lib.Dec.{ltb}
 use lib.ListN.{length, take, drop, length-append, length-drop}
 use lib.Seq.{length-take-le, take-at, drop-at}
 use Rattle.rules.specs.Grid.{places}
-use Rattle.rules.specs.Tests.{both}
+use Rattle.rules.specs.Places.{some-places}
 use Rattle.model.specs.Bounds.{is-size}
 use Rattle.model.specs.RefusalLaws.{size-of-test}
 use Rattle.model.specs.Records.{record-length, has-record, record-at}
+use Rattle.model.specs.HasRecord.{HasRecord, what-a-record-has, record-is-there}
 use Rattle.model.specs.Search.{Event, visit, layout, scan, concat}
 use Rattle.model.specs.Printed.{layout-line, layout-lines}
 use Rattle.printed.specs.Written.{layout-text}
 use Rattle.searchview.specs.Progress.{Sized}
 use Rattle.listing.specs.Listing.{line-text}
-
--- ## Whether there is a record k
-
-module _ (height width count k room : ℕ) where
-  -- sound sizes, k below the count, and the record ends in time
-  pub record HasRecord : Type 0 where
-    pub tall : is-size height ≡ true
-    pub wide : is-size width ≡ true
-    pub counted : k < count
-    pub inside : k * places height width + places height width ≤ room
-
-  pub what-a-record-has : has-record height width count k room ≡ true → HasRecord
-  unfolding has-record record-length
-  what-a-record-has e =
-      let (abc, d) = both (is-size height && is-size width && ltb k count) (leb (k * places height width + places height width) room) e in
-      let (ab, c) = both (is-size height && is-size width) (ltb k count) abc in
-      let (a, b) = both (is-size height) (is-size width) ab in
-      record { tall = a; wide = b; counted = ltb-true _ _ c; inside = leb-true _ _ d }
-
-  pub record-is-there : HasRecord → has-record height width count k room ≡ true
-  unfolding has-record record-length
-  record-is-there t = rw (t .tall, t .wide, lt-ltb _ _ (t .counted), le-leb _ _ (t .inside)) refl
-
-pub some-places : (height width : ℕ) → is-size height ≡ true → is-size width ≡ true → 0 < places height width
-some-places height width h w =
-    let a : 0 < 2 * height - 1 = omega (arith, size-of-test height h .0) in
-    let b : 0 < 2 * width - 1 = omega (arith, size-of-test width w .0) in
-    mul-pos a b
 
 -- ## The line of record k
 
@@ -73,7 +44,7 @@ module _ (height width count k : ℕ) (buffer : List ℕ) where
       go false h = rw h refl
       go true h =
           let t = what-a-record-has _ _ _ _ _ h in
-          absurd (omega (arith, part-length t, some-places height width (t .tall) (t .wide)))
+          absurd (omega (arith, part-length t, some-places height width (size-of-test height (t .tall) .0) (size-of-test width (t .wide) .0)))
 
   -- any other part is record k
   pub some-line : (length (record-at height width count k buffer) ≡ 0 → ⊥) → HasRecord height width count k (length buffer)

@@ -5,9 +5,11 @@ pub mod Bounds
 pub mod Refusals
 pub mod RefusalLaws
 pub mod Board
+pub mod BoardLaws
 pub mod Calls
 pub mod Search
 pub mod Records
+pub mod HasRecord
 pub mod GridFile
 pub mod Printed
 pub mod Routes

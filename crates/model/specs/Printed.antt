@@ -1,7 +1,7 @@
 -- What the program `routes` prints, as bytes: decimal numbers in shortest digits, the summary line, a layout's line, the
 -- line of a refused file, and the whole of it for a reading and what a search found. Assumes nothing.
 use Rattle.model.specs.Choice.{if_then_else_}
-use Prim.Native.Nat.{ℕ, zero, suc, _+_, _*_, _-_, _/_, _%_}
+use Prim.Native.Nat.{ℕ, zero, suc, _+_, _*_, _/_, _%_}
 use mathlib.Core.Bool.{true, false}
 use mathlib.Core.List.{List, [], _∷_, _++_}
 use lib.ListN.{take, getD}

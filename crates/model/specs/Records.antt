@@ -1,6 +1,6 @@
 -- The records of an answer buffer: how long one is, record k, and the shorter of two. It rests on the rules' Record.antt.
 use Rattle.model.specs.Choice.{if_then_else_}
-use Prim.Native.Nat.{ℕ, _+_, _*_, _-_}
+use Prim.Native.Nat.{ℕ, _+_, _*_}
 use mathlib.Core.Bool.{Bool, not, _&&_}
 use mathlib.Core.List.{List, []}
 use lib.ListN.{length, take, drop}

@@ -1,6 +1,6 @@
 -- Laws of whole lines: an array of zeros that is filled part by part, how long the parts are at most, and that the parts make
 -- the lines of the model. Assumes nothing.
-use mathlib.Core.Path.{_≡_, refl}
+use mathlib.Core.Path.{_≡_}
 use mathlib.Core.Bool.{true, false}
 use mathlib.Core.List.{List, [], _∷_, _++_, append-assoc}
 use Prim.Native.Nat.{ℕ, _+_, _*_, _≤_}
@@ -76,6 +76,3 @@ module _ (height width number : ℕ) (layout : List ℕ) where
   pub no-width : is-size height ≡ true → is-size width ≡ false → layout-text height width number layout ≡ []
   unfolding layout-text
   no-width h w = simp (h, w)
-
-pub nothing-written : (text : List ℕ) → text ≡ [] → Written 299 text (zeros 299) 0
-nothing-written text e = rw e (record { all-bytes = refl; its-length = refl; fits = omega arith })

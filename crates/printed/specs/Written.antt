@@ -1,9 +1,10 @@
--- What it means that a text was put into a buffer, and that an array holds a text and nothing else. Assumes nothing.
+-- What it means that a text was put into a buffer, and that an array holds a text and nothing else, or nothing at all. Assumes nothing.
 use Rattle.model.specs.Choice.{if_then_else_}
 use Prim.Native.Nat.{ℕ, _+_, _-_, _≤_}
-use mathlib.Core.Path.{_≡_}
+use mathlib.Core.Path.{_≡_, refl}
 use mathlib.Core.Bool.{_&&_}
 use mathlib.Core.List.{List, [], _++_}
+use native.Mathlib.Omega.{arith}
 use lib.ListN.{length, replicate}
 use lib.Seq.{sets}
 use Rattle.model.specs.Bounds.{is-size}
@@ -22,6 +23,9 @@ pub record Written (size : ℕ) (text bytes : List ℕ) (long : ℕ) : Type 0 wh
   pub all-bytes : bytes ≡ text ++ zeros (size - length text)
   pub its-length : long ≡ length text
   pub fits : long ≤ length bytes
+
+pub nothing-written : (text : List ℕ) → text ≡ [] → Written 299 text (zeros 299) 0
+nothing-written text e = rw e (record { all-bytes = refl; its-length = refl; fits = omega arith })
 
 -- a layout's line; nothing where H or W is out of bounds
 unfoldable pub layout-text : ℕ → ℕ → ℕ → List ℕ → List ℕ

@@ -1,7 +1,7 @@
 -- WHAT A SEARCH PROMISES, demands 2 and 3 in one record that can be read beside the owner's words. It speaks of a run of the search of an
 -- accepted grid, with any limit and any room; nothing here speaks of how the search is made. The proofs cite exactness (crate exact) and
 -- that nobody draws better than the listed layouts (crate shortest).
-use Prim.Native.Nat.{ℕ, _+_}
+use Prim.Native.Nat.{ℕ}
 use mathlib.Core.Path.{_≡_, sym, _∙_, ap}
 use mathlib.Core.Logic.{_≢_, _⊎_, ⊎-elim, ⊎-map}
 use mathlib.Core.List.{List, [], _++_, List·Memᴰ}

@@ -6,12 +6,13 @@ use mathlib.Core.Logic.{_≢_, _⊎_, ⊎-elim}
 use mathlib.Core.Bool.{Bool, true, false, _&&_, not}
 use mathlib.Core.List.{List, [], _∷_, List·Memᴰ, List·Memᴰ·cases-cons}
 use native.Mathlib.Omega.{arith}
+use native.Mathlib.Nat.{zero-add}
 use borrow.Author.Tests.{eqb-false, eqb-true}
 use lib.Dec.{eqb}
 use Rattle.rules.specs.Grid.{Edge, Grid}
 use Rattle.rules.specs.Drawing.{Drawing, drawn, num}
+use Rattle.rules.specs.Tests.{num-small, num-none}
 use Rattle.model.specs.Board.{EdgeState, isLine, isUndecided, State, isBlank, lines, undecideds, around, degree, undecided, line, none}
-use Rattle.propagation.specs.Undecided.{num-small}
 use Rattle.propagation.specs.Counting.{among, undecideds-among, some-among}
 
 pub record Agrees (D : Drawing) (S : State) : Type 0 where
@@ -27,13 +28,10 @@ module _ (D : Drawing) where
   at-edge : (S : State) → Agrees D S → (e : Edge) → num (drawn D e) ≡ num (isLine (S .edge e)) + num (isUndecided (S .edge e) && drawn D e)
   at-edge S a e = go (S .edge e) refl
     where
-      zero-plus : (n : ℕ) → n ≡ 0 + n
-      zero-plus n = omega arith
-
       go : (m : EdgeState) → S .edge e ≡ m → num (drawn D e) ≡ num (isLine (S .edge e)) + num (isUndecided (S .edge e) && drawn D e)
       go line h = rw (h, a .where-line e h)
       go none h = rw (h, a .where-none e h)
-      go undecided h = rw h (zero-plus (num (drawn D e)))
+      go undecided h = rw h (sym (zero-add (num (drawn D e))))
 
   lines-and-hidden : (S : State) → Agrees D S → (l : List (Edge × ℕ)) → among (drawn D) l ≡ lines S l + hidden S l
   unfolding among hidden lines
@@ -77,10 +75,6 @@ module _ (D : Drawing) where
   num-line : (b : Bool) → num b ≡ 1 → b ≡ true
   num-line true h = refl
   num-line false h = absurd (omega arith)
-
-  num-none : (b : Bool) → num b ≡ 0 → b ≡ false
-  num-none false h = refl
-  num-none true h = absurd (omega arith)
 
   -- THE DEGREE OF THE DRAWING at a pad: its lines, plus 1 for a clue
   abbrev pub drawn-degree : Grid → ℕ → ℕ

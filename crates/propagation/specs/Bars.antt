@@ -9,10 +9,10 @@ use native.Mathlib.Nat.{add-mod-right, mod-le}
 use borrow.Author.Tests.{lt-ltb}
 use Rattle.rules.specs.Grid.{Grid, pads, clue}
 use Rattle.rules.specs.Drawing.{Drawing, drawn, Placed, Side, LineBeside, DiagonallyBelow, Corner, IsClue, on-left, on-right}
-use Rattle.rules.specs.Places.{zero≢one}
+use Rattle.rules.specs.Places.{zero≢one, next-column}
 use Rattle.rules.specs.Tests.{both, both-on}
 use Rattle.model.specs.Board.{isBlank, has-side, diagonal, barred}
-use Rattle.propagation.specs.Squares.{next-column, edge-beside}
+use Rattle.propagation.specs.Squares.{edge-beside}
 use Rattle.propagation.specs.Counting.{right-column, down-in}
 
 module _ (g : Grid) (wide : 2 ≤ g .width) (D : Drawing) (placed : Placed g D)
@@ -27,7 +27,7 @@ module _ (g : Grid) (wide : 2 ≤ g .width) (D : Drawing) (placed : Placed g D)
   pub line-beside : (side : Side) (q : ℕ) → LineBeside side D q → (has-side g side q ≡ true) × (drawn D (edge-beside g wide side q) ≡ true)
   line-beside on-right q h = (lt-ltb (q % W + 1) W (right-column g wide D placed q h), h)
   line-beside on-left q (w, e, h) =
-      (lt-ltb 0 (q % W) (rw (← e, next-column g wide w (right-column g wide D placed w h)) (omega arith)), (let k : q - 1 ≡ w = omega arith in ap (D .right) k ∙ h))
+      (lt-ltb 0 (q % W) (rw (← e, next-column W w (right-column g wide D placed w h)) (omega arith)), (let k : q - 1 ≡ w = omega arith in ap (D .right) k ∙ h))
 
   -- the pad diagonally below: one row lower, and one column further on that side
   diagonal-below : (side : Side) (p : ℕ) → LineBeside side D p → DiagonallyBelow side W p (diagonal g side p)
@@ -36,13 +36,13 @@ module _ (g : Grid) (wide : 2 ≤ g .width) (D : Drawing) (placed : Placed g D)
 
   one-row-lower : (side : Side) (p : ℕ) → LineBeside side D p → diagonal g side p + p % W ≡ p + W + diagonal g side p % W
   one-row-lower on-right p h =
-      let next : (p + W + 1) % W ≡ p % W + 1 = ap (λ x. x % W) (swap p) ∙ add-mod-right (p + 1) W ∙ next-column g wide p (right-column g wide D placed p h) in
+      let next : (p + W + 1) % W ≡ p % W + 1 = ap (λ x. x % W) (swap p) ∙ add-mod-right (p + 1) W ∙ next-column W p (right-column g wide D placed p h) in
       omega (arith, next)
     where
       swap : (n : ℕ) → n + W + 1 ≡ n + 1 + W
       swap n = omega arith
   one-row-lower on-left p (w, e, h) =
-      let here : p % W ≡ w % W + 1 = ap (λ x. x % W) (sym e) ∙ next-column g wide w (right-column g wide D placed w h) in
+      let here : p % W ≡ w % W + 1 = ap (λ x. x % W) (sym e) ∙ next-column W w (right-column g wide D placed w h) in
       let same : p + W - 1 ≡ w + W = omega arith in
       let there : (p + W - 1) % W ≡ w % W = ap (λ x. x % W) same ∙ add-mod-right w W in
       omega (arith, here, same, there)

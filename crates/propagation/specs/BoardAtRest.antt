@@ -12,9 +12,8 @@ use borrow.Author.Tests.{ltb-true}
 use lib.Dec.{ltb}
 use Rattle.rules.specs.Grid.{Edge, Cell, Grid, pads, OnBoard, right, down, blank, clue}
 use Rattle.rules.specs.Drawing.{Placed, num, square-lines, Side, DiagonallyBelow, Corner, IsClue, on-left, on-right}
-use Rattle.rules.specs.Tests.{both, conflict}
+use Rattle.rules.specs.Tests.{both, conflict, num-small}
 use Rattle.model.specs.Board.{isLine, State, Item, isBlank, has-right, on-board, barred, shape-items, line, none, detour, corner}
-use Rattle.propagation.specs.Undecided.{num-small}
 use Rattle.propagation.specs.Ends.{Ends}
 use Rattle.propagation.specs.Edges.{is-line, drawing, board-lines}
 use Rattle.propagation.specs.Objects.{AtRest, Achieved, Holds, AllHold, rule, pad, chains, board}

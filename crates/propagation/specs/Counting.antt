@@ -9,8 +9,9 @@ use native.Mathlib.Omega.{arith}
 use borrow.Author.Tests.{le-leb, lt-ltb}
 use Rattle.rules.specs.Grid.{Edge, Grid, pads, OnBoard, right, down}
 use Rattle.rules.specs.Drawing.{Drawing, drawn, Placed, Line, num, rightward, leftward, downward, upward}
+use Rattle.rules.specs.Places.{next-column}
 use Rattle.model.specs.Board.{isLine, isUndecided, State, with-edge, lines, undecideds, has-right, has-left, has-down, has-up, around}
-use Rattle.propagation.specs.Squares.{next-column, mem-with-edge, Neighbour, neighbour, one-before, row-before, to-left, to-right, to-above, to-below}
+use Rattle.propagation.specs.Squares.{mem-with-edge, Neighbour, neighbour, one-before, row-before, to-left, to-right, to-above, to-below}
 
 -- how many edges of the list have the property
 unfoldable pub among : (Edge → Bool) → List (Edge × ℕ) → ℕ
@@ -168,7 +169,7 @@ module _ (g : Grid) (wide : 2 ≤ g .width) where
 
     pub beside : (v y : ℕ) → Line W D v y → Beside v y
     beside v y (leftward e h) = let q : v - 1 ≡ y = omega arith in
-        record { at = (right (v - 1), v - 1); member = left-around v (lt-ltb 0 (v % W) (rw (e, next-column g wide y (right-column y h)) (omega arith))); leads-to = q; lined = ap (D .right) q ∙ h }
+        record { at = (right (v - 1), v - 1); member = left-around v (lt-ltb 0 (v % W) (rw (e, next-column W y (right-column y h)) (omega arith))); leads-to = q; lined = ap (D .right) q ∙ h }
     beside v y (rightward e h) =
         record { at = (right v, v + 1); member = right-around v (lt-ltb (v % W + 1) W (right-column v h)); leads-to = sym e; lined = h }
     beside v y (upward e h) = let q : v - W ≡ y = omega arith in

@@ -6,7 +6,6 @@ use mathlib.Core.Logic.{_≢_, _⊎_, inl, inr, ⊎-elim}
 use mathlib.Core.Bool.{Bool, true, false}
 use mathlib.Core.List.{List, [], _∷_, _++_, List·Memᴰ, List·Memᴰ·append-cases, List·Memᴰ·cases-cons, List·Memᴰ·head, List·Memᴰ·tail, Memᴰ·append-left, Memᴰ·append-right}
 use native.Mathlib.Decide.{ℕ-discrete}
-use lib.ListN.{set}
 use Rattle.rules.specs.Grid.{Edge, first, second, Grid}
 use Rattle.rules.specs.Places.{zero≢one}
 use Rattle.model.specs.Board.{EdgeState, isUndecided, End, State, set-edge, set-flag, Item, check-end, Decide, Check, on-board, shape-items, do-items, cannot-join, after-store, line, none, through, at-pad, at-clue, detour, corner, bar, check-pad}

@@ -1,19 +1,17 @@
 -- For any caller's decisions: a board with a clear flag is at rest; a listed drawing that agrees with the decisions standing agrees with
 -- every decided edge of the board; and a set flag means that no listed drawing agrees with them. A decision stands from its accepted call
 -- until it is undone, also where it only set the flag; BoardCalls.antt ties the calls to this.
-use Prim.Native.Nat.{_+_, _%_}
 use mathlib.Core.Path.{_≡_, refl, _∙_}
 use mathlib.Core.Bool.{Bool, true, false}
 use mathlib.Core.List.{List, [], _∷_, List·Memᴰ, List·Memᴰ·head, List·Memᴰ·tail}
 use native.Mathlib.Omega.{arith}
-use borrow.Author.Tests.{lt-ltb}
-use lib.ListN.{set}
-use Rattle.rules.specs.Grid.{Edge, Grid, pads, OnBoard, right, down}
+use Rattle.rules.specs.Grid.{Edge, Grid, OnBoard}
 use Rattle.rules.specs.Drawing.{Drawing, drawn, Listed}
-use Rattle.rules.specs.Tests.{both-on, conflict}
-use Rattle.model.specs.Board.{isLine, State, line-or-none, on-board, decide, enough, fresh}
+use Rattle.rules.specs.Tests.{conflict}
+use Rattle.model.specs.Board.{State, line-or-none, decide, enough, fresh}
+use Rattle.model.specs.BoardLaws.{on-board-test}
 use Rattle.propagation.specs.Undecided.{enough-is-more}
-use Rattle.propagation.specs.Edges.{line-or-none-decided}
+use Rattle.propagation.specs.Edges.{line-or-none-decided, is-way}
 use Rattle.propagation.specs.Objects.{AllHold}
 use Rattle.propagation.specs.Items.{Onward}
 use Rattle.propagation.specs.Kept.{calls-keep}
@@ -37,15 +35,6 @@ pub data Stands (g : Grid) : State → List Decision → Type 0 where
 -- a drawing agrees with decisions: a line where a line was decided, none where none was
 abbrev pub AgreesWith : Drawing → List Decision → Type 0
 AgreesWith D decisions = (d : Decision) → List·Memᴰ d decisions → drawn D (d .0) ≡ d .1
-
-on-board-test : (g : Grid) (e : Edge) → OnBoard g e → on-board g e ≡ true
-unfolding OnBoard
-on-board-test g (right v) (below, inside) = both-on (lt-ltb (v % g .width + 1) (g .width) inside) (lt-ltb v (pads g) below)
-on-board-test g (down v) below = lt-ltb (v + g .width) (pads g) below
-
-is-way : (way : Bool) → way ≡ isLine (line-or-none way)
-is-way true = refl
-is-way false = refl
 
 module _ (g : Grid) (proper : Proper g) where
   -- ONE DECISION: what held before holds after, if the flag is clear

@@ -71,6 +71,10 @@ pub line-or-none-decided : (way : Bool) → isUndecided (line-or-none way) ≡ f
 line-or-none-decided true = refl
 line-or-none-decided false = refl
 
+pub is-way : (way : Bool) → way ≡ isLine (line-or-none way)
+is-way true = refl
+is-way false = refl
+
 -- THE LINES OF A STATE as a drawing, and between pads
 unfoldable pub drawing : State → Drawing
 drawing S = record { right = λ v. isLine (S .edge (right v)); down = λ v. isLine (S .edge (down v)) }

@@ -2,12 +2,10 @@
 -- line more; an end at a pad or at a clue tells where the chain ends on the other side; every chain has a pad with at most one line, so
 -- none is closed; and clues in one chain have equal codes. Refutation.antt shows what this rules out, EndsKept.antt that step c keeps it.
 use Prim.Native.Nat.{ℕ}
-use mathlib.Core.Path.{_≡_, refl, ap}
+use mathlib.Core.Path.{_≡_, refl}
 use mathlib.Core.Logic.{_≢_, _⊎_, inl, inr}
-use native.Mathlib.Decide.{ℕ-discrete}
 use Rattle.rules.specs.Grid.{Cell, blank, clue}
 use Rattle.rules.specs.Drawing.{Relation, NoLine, OneLine, TwoLines, Joined}
-use Rattle.rules.specs.Places.{zero≢one}
 use Rattle.model.specs.Board.{End, through, at-pad, at-clue}
 use Rattle.rules.specs.Chains.{Symmetric}
 
@@ -88,11 +86,3 @@ pub pad-or-clue : (A : End) → A ≢ through → ((a : ℕ) × (A ≡ at-pad a)
 pad-or-clue through n = absurd (n refl)
 pad-or-clue (at-pad a) n = inl (a, refl)
 pad-or-clue (at-clue c) n = inr (c, refl)
-
-pub same-pad : {a b : ℕ} → at-pad a ≡ at-pad b → a ≡ b
-same-pad e = cc
-
-pub is-pad-end : (A : End) (x : ℕ) → Dec (A ≡ at-pad x)
-is-pad-end through x = no (λ e. zero≢one (cc))
-is-pad-end (at-clue c) x = no (λ e. zero≢one (cc))
-is-pad-end (at-pad a) x = elim (ℕ-discrete a x) [ yes e ↦ yes (ap at-pad e) | no n ↦ no (λ e. n (cc)) ]

@@ -2,15 +2,16 @@
 -- the ends are joined, then the new ends say the same of the new lines. Everything is shown for the side of u; the side of v is the same
 -- step with u and v exchanged.
 use Prim.Native.Nat.{ℕ}
-use mathlib.Core.Path.{_≡_, refl, sym, _∙_, ap}
+use mathlib.Core.Path.{_≡_, sym, _∙_, ap}
 use mathlib.Core.Logic.{_≢_, _⊎_, inl, inr, ⊎-elim, ⊎-map, ⊎-swap}
 use native.Mathlib.Decide.{ℕ-discrete}
 use Rattle.rules.specs.Grid.{Cell, blank, clue}
 use Rattle.rules.specs.Drawing.{Relation, NoLine, OneLine, TwoLines, Joined, here, more}
 use Rattle.rules.specs.Places.{zero≢one}
 use Rattle.model.specs.Board.{End, through, at-pad, at-clue}
-use Rattle.rules.specs.Chains.{join-trans, join-sym, join-mono}
-use Rattle.propagation.specs.Ends.{Short, Full, Room, PadEnd, ClueEnd, LoosePad, Ends, Added, Stored, Step, pad-or-clue, same-pad, is-pad-end, two-lines, one-line, blank-room, clue-room}
+use Rattle.model.specs.BoardLaws.{same-pad, is-pad-end}
+use Rattle.rules.specs.Chains.{join-trans, join-sym, join-mono, first-line, by-pad}
+use Rattle.propagation.specs.Ends.{Short, Full, Room, PadEnd, ClueEnd, LoosePad, Ends, Added, Stored, Step, pad-or-clue, two-lines, one-line, blank-room, clue-room}
 
 pub added-swap : {L M : Relation} {u v : ℕ} → Added L M u v → Added L M v u
 added-swap a = record {
@@ -157,17 +158,13 @@ module _ {cell : ℕ → Cell} {L M : Relation} {end end′ : ℕ → End} where
       only = λ c m. ⊎-map (λ k. h c y k l) (λ e. e) (line-at-u c m);
     }
 
-    first-step : (x : ℕ) → x ≢ u → Joined L u x → (y : ℕ) × L u y
-    first-step x n here = absurd (n refl)
-    first-step x n (more {b = b} l p) = (b, l)
-
     full-new : A ≢ at-pad u → Full cell M u
     full-new n = go room-at-u
       where
         first : cell u ≡ blank → (y : ℕ) × L u y
         first e = ⊎-elim
-            (λ (a, f). first-step a (λ g. n (f ∙ ap at-pad g)) (pad-end-u a f .joined))
-            (λ (c, f). let o = clue-end-u c f in first-step (o .pad) (λ g. zero≢one (cc (o .clue-at))) (o .joined))
+            (λ (a, f). first-line a (λ g. n (f ∙ ap at-pad g)) (pad-end-u a f .joined))
+            (λ (c, f). let o = clue-end-u c f in first-line (o .pad) (λ g. zero≢one (cc (o .clue-at))) (o .joined))
             (pad-or-clue A (s .A-not-through))
 
         go : Room cell L u → Full cell M u
@@ -325,9 +322,6 @@ module _ {cell : ℕ → Cell} {L M : Relation} {end end′ : ℕ → End} where
     cases : {X : Type 0} (x : ℕ) → (A ≡ at-pad x → X) → (B ≡ at-pad x → X) → (A ≢ at-pad x → B ≢ at-pad x → X) → X
     cases x f g h = elim (is-pad-end A x) [ yes a ↦ f a | no n ↦ elim (is-pad-end B x) [ yes b ↦ g b | no m ↦ h n m ] ]
 
-    at-pads : {X : Type 0} (x : ℕ) → (x ≡ u → X) → (x ≡ v → X) → (x ≢ u → x ≢ v → X) → X
-    at-pads x f g h = elim (ℕ-discrete x u) [ yes a ↦ f a | no n ↦ elim (ℕ-discrete x v) [ yes b ↦ g b | no m ↦ h n m ] ]
-
     both : (x : ℕ) → A ≡ at-pad x → B ≡ at-pad x → ⊥
     both x a b = s .apart (same-pad (sym (other-end-back s x a) ∙ other-end-back (swap s) x b))
 
@@ -345,11 +339,11 @@ module _ {cell : ℕ → Cell} {L M : Relation} {end end′ : ℕ → End} where
 
   pub stored-ends : {u v : ℕ} {A B : End} → Step cell L M end end′ u v A B → Ends cell M end′
   stored-ends {u} {v} {A} {B} s = record {
-    through-full = λ x t. at-pads s x (λ e. full-at-u s x e t) (λ e. full-at-u (swap s) x e t)
+    through-full = λ x t. by-pad u v x (λ e. full-at-u s x e t) (λ e. full-at-u (swap s) x e t)
         (λ p q. cases s x
         (λ a. absurd (s .B-not-through (sym (s .stored .pad-A x a) ∙ t))) (λ b. absurd (s .A-not-through (sym (s .stored .pad-B x b) ∙ t)))
         (λ f g. full-keep s x p q (s .ends .through-full x (sym (s .stored .others x p q f g) ∙ t))));
-    else-room = λ x n. at-pads s x (λ e. room-u-after s x e n) (λ e. room-u-after (swap s) x e n)
+    else-room = λ x n. by-pad u v x (λ e. room-u-after s x e n) (λ e. room-u-after (swap s) x e n)
         (λ p q. room-keep s x p q (s .ends .else-room x (λ t. n (stays-passed s x t))));
     alone = λ x e. cases s x
         (λ a. absurd (both s x a (sym (s .stored .pad-A x a) ∙ e))) (λ b. absurd (both s x (sym (s .stored .pad-B x b) ∙ e) b))
@@ -363,7 +357,7 @@ module _ {cell : ℕ → Cell} {L M : Relation} {end end′ : ℕ → End} where
         (λ a. clue-end-new (swap s) x c a (sym (s .stored .pad-A x a) ∙ e))
         (λ b. clue-end-new s x c b (sym (s .stored .pad-B x b) ∙ e))
         (λ p q. clue-end-old s x c p q e);
-    loose-pad = λ x. let o = s .ends .loose-pad x in at-pads s (o .pad)
+    loose-pad = λ x. let o = s .ends .loose-pad x in by-pad u v (o .pad)
         (loose-u s x (o .pad) (o .joined)) (loose-u (swap s) x (o .pad) (o .joined))
         (λ p q. record { pad = o .pad; joined = keep-joined s (o .joined); short = short-keep s (o .pad) p q (o .short) });
     equal-codes = λ x y c d e f j. ⊎-elim (s .ends .equal-codes x y c d e f)

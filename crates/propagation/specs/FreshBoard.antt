@@ -1,19 +1,19 @@
 -- The fresh board is at rest: nothing is decided on it, every rule holds, and each listed drawing agrees with it. Its
 -- pads have at least two undecided edges, since a grid has at least two rows and two columns.
 use Prim.Native.Nat.{ℕ, _+_, _*_, _-_, _%_, _≤_, _<_}
-use mathlib.Core.Path.{_≡_, refl, _∙_, ap}
+use mathlib.Core.Path.{_≡_, refl, sym, _∙_, ap}
 use mathlib.Core.Logic.{_⊎_, inl, inr, ⊎-elim}
 use mathlib.Core.Bool.{Bool, true, false, _&&_, not}
 use mathlib.Core.List.{List, [], _∷_}
 use native.Mathlib.Omega.{arith}
 use native.Mathlib.Decide.{decLe, decLt, ℕ-discrete}
-use native.Mathlib.Nat.{mul-le-mul-right, mul-mod-left}
+use native.Mathlib.Nat.{mul-le-mul-right, mul-mod-left, zero-add}
 use borrow.Author.Tests.{le-leb, le-ltb, lt-ltb}
 use lib.Dec.{ltb}
 use Rattle.rules.specs.Grid.{Edge, Grid, pads, right, down, blank, clue}
 use Rattle.rules.specs.Drawing.{Drawing, drawn, num, Listed}
 use Rattle.rules.specs.Places.{zero≢one}
-use Rattle.rules.specs.Tests.{both-on, both-off, not-so}
+use Rattle.rules.specs.Tests.{both-on, both-off, not-so, num-small}
 use Rattle.model.specs.Board.{isLine, isUndecided, isBlank, with-edge, lines, undecideds, has-right, has-left, has-down, has-up, on-board, around, degree, fresh, undecided, line, none, at-pad, at-clue}
 use Rattle.propagation.specs.Storing.{fresh-ends}
 use Rattle.propagation.specs.Edges.{board-lines, edge-of}
@@ -49,10 +49,7 @@ module _ (g : Grid) (tall : 2 ≤ g .height) (big : 2 ≤ g .width) (out : (v : 
   undecided-with : (b : Bool) (e : Edge) (u : ℕ) (l : List (Edge × ℕ)) → undecideds (fresh g) (with-edge b e u l) ≡ num (b && on-board g e) + undecideds (fresh g) l
   unfolding undecideds
   undecided-with true e u l = rw (fresh-undecided e) refl
-  undecided-with false e u l = zero-plus _
-    where
-      zero-plus : (n : ℕ) → n ≡ 0 + n
-      zero-plus n = omega arith
+  undecided-with false e u l = sym (zero-add _)
 
   undecided-around : (v : ℕ) → undecideds (fresh g) (around g v) ≡ num (has-left g v && on-board g (right (v - 1))) + num (has-right g v && on-board g (right v))
       + num (has-up g v && on-board g (down (v - W))) + num (has-down g v && on-board g (down v))
@@ -81,10 +78,6 @@ module _ (g : Grid) (tall : 2 ≤ g .height) (big : 2 ≤ g .width) (out : (v : 
     | no n ↦ let h : has-down g v ≡ true = lt-ltb (v + W) (pads g) (let k = rows in omega arith) in let j = ap num (both-on h h) in omega (arith, j)
   ]
 
-  num-le : (b : Bool) → num b ≤ 1
-  num-le true = omega arith
-  num-le false = omega arith
-
   past-left : (v : ℕ) → pads g ≤ v → (has-left g v && on-board g (right (v - 1))) ≡ false
   past-left v o = elim (ℕ-discrete v (pads g)) [
     | yes e ↦ (let k : has-left g v ≡ false = le-ltb 0 (v % W) (let z = ap (λ x. x % W) e ∙ mul-mod-left (g .height) W in omega arith) in rw k refl)
@@ -103,7 +96,7 @@ module _ (g : Grid) (tall : 2 ≤ g .height) (big : 2 ≤ g .width) (out : (v : 
   quiet : (v : ℕ) → AtRest g (fresh g) v
   unfolding AtRest degree
   quiet v = elim (decLt v (pads g)) [
-    | yes o ↦ inr ((let a = undecided-around v in let x = across v o in let y = along v o in omega arith), (rw (no-lines (around g v)) (let k = num-le (not (isBlank (g .cell v))) in omega arith)))
+    | yes o ↦ inr ((let a = undecided-around v in let x = across v o in let y = along v o in omega arith), (rw (no-lines (around g v)) (let k = num-small (not (isBlank (g .cell v))) in omega arith)))
     | no n ↦ inl (past-around v (omega arith), inl (rw (no-lines (around g v), out v (omega arith)) refl))
   ]
 

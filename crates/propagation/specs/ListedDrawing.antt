@@ -10,10 +10,11 @@ use borrow.Author.Tests.{lt-ltb, ltb-true}
 use lib.Dec.{ltb}
 use Rattle.rules.specs.Grid.{Edge, first, second, Cell, Grid, pads, right, down, blank, clue}
 use Rattle.rules.specs.Drawing.{Drawing, drawn, Placed, Line, NoLine, OneLine, TwoLines, Joined, num, square-lines, Side, DiagonallyBelow, Corner, Listed, rightward, downward, here, more, on-left, on-right}
-use Rattle.rules.specs.Tests.{both, both-on, not-so}
+use Rattle.rules.specs.Places.{next-in-row}
+use Rattle.rules.specs.Tests.{both, both-on, not-so, num-none}
 use Rattle.model.specs.Board.{State, isBlank, has-right, has-down, on-board, has-side, barred, shape-items, around, detour, corner, bar}
 use Rattle.propagation.specs.Edges.{board-lines, edge-of}
-use Rattle.propagation.specs.Squares.{next-in-row, SquareAt, upper-right, lower-right, left-down, right-down, upper-in, lower-in, Role, square-edge, detours-at, corner-pad, lower-pad, edge-beside, Standing, standing, one-of-three, detours-only, detour-parts, corner-parts, bar-parts, detour-no-corner, detour-no-bar, corner-no-bar, Neighbour, neighbour, one-before, row-before, left-on, right-on, up-on, upper-edge, left-edge, right-edge, lower-edge, in-square, corner-across, corner-downward, bar-across, bar-downward, to-left, to-right, to-above, to-below}
+use Rattle.propagation.specs.Squares.{SquareAt, upper-right, lower-right, left-down, right-down, upper-in, lower-in, Role, square-edge, detours-at, corner-pad, lower-pad, edge-beside, Standing, standing, one-of-three, detours-only, detour-parts, corner-parts, bar-parts, detour-no-corner, detour-no-bar, corner-no-bar, Neighbour, neighbour, one-before, row-before, left-on, right-on, up-on, upper-edge, left-edge, right-edge, lower-edge, in-square, corner-across, corner-downward, bar-across, bar-downward, to-left, to-right, to-above, to-below}
 use Rattle.propagation.specs.Counting.{among, none-among, one-to, two-to, some-among, two-among, around-apart, right-column, right-in, down-in, beside, leads}
 use Rattle.propagation.specs.Bars.{not-blank, line-beside, no-barred-corner}
 use Rattle.propagation.specs.Agreement.{Agrees, drawn-degree, NoneOrTwo}
@@ -41,7 +42,7 @@ module _ (g : Grid) (wide : 2 ≤ g .width) (D : Drawing) (listed : Listed g D) 
   both-pads (right v) h =
       let (r, i) = both (has-right g v) (ltb v (pads g)) h in
       let k = ltb-true v (pads g) i in
-      (k, next-in-row g wide v (ltb-true (v % W + 1) W r) k)
+      (k, next-in-row W v (g .height) (ltb-true (v % W + 1) W r) k)
   both-pads (down v) h = let k = ltb-true (v + W) (pads g) h in ((omega arith), k)
 
   -- a chain of the board's lines stays among the pads
@@ -58,7 +59,7 @@ module _ (g : Grid) (wide : 2 ≤ g .width) (D : Drawing) (listed : Listed g D) 
     where
       go : Neighbour g wide v p → OnTheBoard (p .0) × (p .1 < pads g)
       go (to-left b e) = rw e (left-on g wide v o b, (let k = one-before g wide v b in omega arith))
-      go (to-right b e) = rw e (right-on g wide v o b, next-in-row g wide v (ltb-true (v % W + 1) W b) o)
+      go (to-right b e) = rw e (right-on g wide v o b, next-in-row W v (g .height) (ltb-true (v % W + 1) W b) o)
       go (to-above b e) = rw e (up-on g wide v o b, (let k = row-before g wide v b in omega arith))
       go (to-below b e) = rw e (b, ltb-true (v + W) (pads g) b)
 
@@ -104,10 +105,6 @@ module _ (g : Grid) (wide : 2 ≤ g .width) (D : Drawing) (listed : Listed g D) 
 
   num-line : (b : Bool) → b ≡ true → num b ≡ 1
   num-line b h = rw h refl
-
-  num-none : (b : Bool) → num b ≡ 0 → b ≡ false
-  num-none false h = refl
-  num-none true h = absurd (omega arith)
 
   no-third : (r q t : Role g wide) → Three r q t → (u : ℕ) → SquareAt g wide u
       → drawn D (square-edge g wide r u) ≡ true → drawn D (square-edge g wide q u) ≡ true → drawn D (square-edge g wide t u) ≡ false

@@ -1,14 +1,14 @@
 -- What the ends rule out, for a drawing wired by the ordinary rules that has all the board's lines: where step c would set the flag, the
 -- drawing does not have the line. And what they give where every pad is finished: the lines are wired by the ordinary rules.
 use Prim.Native.Nat.{ℕ}
-use mathlib.Core.Path.{_≡_, refl, sym, _∙_}
+use mathlib.Core.Path.{_≡_, sym, _∙_}
 use mathlib.Core.Logic.{_≢_, _⊎_, inl, inr, ⊎-elim, ⊎-map}
 use native.Mathlib.Decide.{ℕ-discrete}
 use Rattle.rules.specs.Grid.{Cell, blank, clue}
 use Rattle.rules.specs.Drawing.{Relation, NoLine, OneLine, TwoLines, Joined, Loop, Wired, here, more}
 use Rattle.rules.specs.Places.{zero≢one}
 use Rattle.model.specs.Board.{End, through, at-pad, at-clue}
-use Rattle.rules.specs.Chains.{Symmetric, join-trans, join-sym, join-mono}
+use Rattle.rules.specs.Chains.{Symmetric, join-trans, join-sym, join-mono, first-line}
 use Rattle.propagation.specs.Ends.{Full, PadEnd, Ends, two-lines, one-line}
 
 -- three pads of two are not distinct
@@ -19,10 +19,6 @@ two-of-three (inl x) (inr y) (inl z) n m k = m (z ∙ sym x)
 two-of-three (inl x) (inr y) (inr z) n m k = k (z ∙ sym y)
 two-of-three (inr x) (inl y) (inl z) n m k = k (z ∙ sym y)
 two-of-three (inr x) (inl y) (inr z) n m k = m (z ∙ sym x)
-
-pub first-line : {L : Relation} {u : ℕ} (x : ℕ) → x ≢ u → Joined L u x → (y : ℕ) × L u y
-first-line x n here = absurd (n refl)
-first-line x n (more {b = b} l p) = (b, l)
 
 module _ {cell : ℕ → Cell} {L D : Relation} {end : ℕ → End}
     (symm : Symmetric L) (ends : Ends cell L end) (ord : Wired cell D) (sub : (x y : ℕ) → L x y → D x y) (symD : Symmetric D) where

@@ -13,16 +13,16 @@ use Rattle.rules.specs.Grid.{Edge, first, second, Grid, pads, clue}
 use Rattle.rules.specs.Drawing.{Drawing, drawn, Line, Joined, Wired, Listed, more}
 use Rattle.rules.specs.Places.{zero≢one}
 use Rattle.rules.specs.Tests.{both, either, conflict, not-so}
-use Rattle.model.specs.Board.{EdgeState, isLine, isUndecided, sameState, End, isThrough, unequal-negative, isPad, State, set-edge, Item, isBlank, check-end, other-clue, undecideds, Decide, Check, line-or-none, keep-aparts, on-board, barred, shape-items, around, degree, settled, do-item, do-items, check-items, cannot-join, join-ends, after-store, decide, check, undecided, line, none, through, at-pad, at-clue, detour, corner, bar, check-pad, keep-apart, settle}
+use Rattle.model.specs.Board.{EdgeState, isLine, isUndecided, sameState, End, isThrough, unequal-negative, isPad, State, set-edge, Item, isBlank, check-end, other-clue, undecideds, Decide, Check, line-or-none, keep-aparts, on-board, shape-items, around, degree, settled, do-item, do-items, check-items, cannot-join, join-ends, after-store, decide, check, undecided, line, none, through, at-pad, at-clue, detour, corner, bar, check-pad, keep-apart, settle}
 use Rattle.propagation.specs.Undecided.{undecided-edges, undecided-no-more, undecided-less}
 use Rattle.rules.specs.Chains.{Symmetric, join-trans, join-sym, join-mono, line-back}
 use Rattle.propagation.specs.Ends.{Ends}
 use Rattle.propagation.specs.Refutation.{no-third, no-clash, no-ring}
-use Rattle.propagation.specs.Edges.{same-or-not, set-here, set-elsewhere, set-stays, is-line, line-or-none-decided, drawing, board-lines, Along, edge-of}
+use Rattle.propagation.specs.Edges.{same-or-not, set-here, set-elsewhere, set-stays, is-line, line-or-none-decided, drawing, board-lines, Along, edge-of, is-way}
 use Rattle.propagation.specs.Objects.{Holds, Plain, is-detour, is-corner, is-bar}
 use Rattle.propagation.specs.Items.{Onward, CallsKeep, item-done, goes-on}
 use Rattle.propagation.specs.Settling.{FirstUndecided, find-first}
-use Rattle.propagation.specs.StoredState.{flag-kept, none-chains, with-line, line-here, line-flag, line-stays, line-chains}
+use Rattle.propagation.specs.StoredState.{flag-kept, none-chains, with-line, line-here, line-flag, line-stays, line-chains, no-line-before}
 use Rattle.propagation.specs.Kept.{calls-keep}
 use Rattle.propagation.specs.Squares.{geometry}
 use Rattle.propagation.specs.Counting.{leads}
@@ -137,10 +137,6 @@ module _ (g : Grid) (wide : 2 ≤ g .width) (D : Drawing) (listed : Listed g D) 
             (λ t. let (x, y) = both (eqb d 1) (eqb k 0) t in let q : d ≡ 1 = eqb-true d 1 x in let r : k ≡ 0 = eqb-true k 0 y in
             ⊎-elim (λ y. omega (arith, low, high, y)) (λ y. omega (arith, low, high, y)) degrees) (either (ltb 2 d) (eqb d 1 && eqb k 0) h)
 
-        is-way : (t : Bool) → t ≡ isLine (line-or-none t)
-        is-way true = refl
-        is-way false = refl
-
         go : (a : Bool) → (ltb 2 d || (eqb d 1 && eqb k 0)) ≡ a → (c : Bool) → (eqb k 1 || leb 2 d) ≡ c → Fits g D (settled g dec v S)
         go true h c w = absurd (no-flag h)
         go false h false w = rw (h, settled) (rw w fits)
@@ -181,8 +177,7 @@ module _ (g : Grid) (wide : 2 ≤ g .width) (D : Drawing) (listed : Listed g D) 
     B = S .end (second (g .width) e)
 
     no-line-yet : board-lines g S (first e) (second (g .width) e) → ⊥
-    no-line-yet l = let t = edge-of g S (first e) (second (g .width) e) l in
-        conflict free (ap (λ y. isUndecided (S .edge y)) (sym (geometry g wide .one-edge (t .edge) e (t .ends))) ∙ ap isUndecided (t .is))
+    no-line-yet = no-line-before g S e free (geometry g wide)
 
     no-line-back : board-lines g S (second (g .width) e) (first e) → ⊥
     no-line-back l = no-line-yet (line-back (g .width) (drawing S) _ _ l)

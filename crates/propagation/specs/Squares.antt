@@ -7,37 +7,20 @@ use mathlib.Core.Logic.{_≢_, _⊎_, inl, inr, ⊎-elim, ⊎-map}
 use mathlib.Core.Bool.{Bool, true, false, _&&_}
 use mathlib.Core.List.{List, [], _∷_, List·Memᴰ, List·Memᴰ·append-cases, List·Memᴰ·cases-cons, List·Memᴰ·head, List·Memᴰ·not-nil, List·Memᴰ·tail, Memᴰ·append-left, Memᴰ·append-right}
 use native.Mathlib.Omega.{arith}
-use native.Mathlib.Decide.{ℕ-discrete}
-use native.Mathlib.Nat.{add-mod-right, mod-add-mod, mod-eq-of-lt, mod-le, mod-lt, mod-self, mul-mod-left}
+use native.Mathlib.Nat.{add-mod-right, mod-le}
 use borrow.Author.Tests.{le-leb, leb-true, lt-ltb, ltb-true}
 use lib.Dec.{ltb}
 use Rattle.rules.specs.Grid.{Edge, first, second, Grid, pads, right, down}
 use Rattle.rules.specs.Drawing.{Side, on-left, on-right}
-use Rattle.rules.specs.Places.{zero≢one, edge-of-pads, no-edge-back}
+use Rattle.rules.specs.Places.{zero≢one, edge-of-pads, no-edge-back, next-in-row, previous-column}
 use Rattle.rules.specs.Tests.{both, both-on}
 use Rattle.model.specs.Board.{Item, detours, when, with-edge, has-right, has-left, has-down, has-up, on-board, has-side, barred, corner-right, corner-left, shape-items, around, detour, corner, bar}
+use Rattle.model.specs.BoardLaws.{left-of-next}
 use Rattle.propagation.specs.Objects.{Plain, Geometry, is-detour, is-corner, is-bar}
 
 module _ (g : Grid) (wide : 2 ≤ g .width) where
   abbrev W : ℕ
   W = g .width
-
-  -- COLUMNS
-  pub next-in-row : (v : ℕ) → v % W + 1 < W → v < pads g → v + 1 < pads g
-  next-in-row v h k = elim (ℕ-discrete (v + 1) (pads g)) [
-    | yes e ↦ absurd (omega (arith, sym (mod-eq-of-lt h) ∙ mod-add-mod v W 1 ∙ ap (λ x. x % W) e ∙ mul-mod-left (g .height) W))
-    | no n ↦ omega arith
-  ]
-
-  pub next-column : (u : ℕ) → u % W + 1 < W → (u + 1) % W ≡ u % W + 1
-  next-column u h = sym (mod-add-mod u W 1) ∙ mod-eq-of-lt h
-
-  -- a pad that is not first in its row follows one that is not last
-  pub previous-column : (u : ℕ) → 0 < (u + 1) % W → u % W + 1 < W
-  previous-column u h = elim (ℕ-discrete (u % W + 1) W) [
-    | yes e ↦ absurd (omega (arith, sym (mod-self W) ∙ ap (λ x. x % W) (sym e) ∙ mod-add-mod u W 1))
-    | no n ↦ let k : u % W < W = mod-lt u (omega arith) in omega arith
-  ]
 
   -- UNIT SQUARES, named by their upper left pad u
   pub record SquareAt (u : ℕ) : Type 0 where
@@ -45,7 +28,7 @@ module _ (g : Grid) (wide : 2 ≤ g .width) where
     pub lower : u + W + 1 < pads g
 
   pub square-at : (u : ℕ) → u % W + 1 < W → u + W < pads g → SquareAt u
-  square-at u h k = record { column = h; lower = next-in-row (u + W) (rw (add-mod-right u W) h) k }
+  square-at u h k = record { column = h; lower = next-in-row W (u + W) (g .height) (rw (add-mod-right u W) h) k }
 
   -- which neighbours its pads have
   module _ {u : ℕ} (s : SquareAt u) where
@@ -65,7 +48,7 @@ module _ (g : Grid) (wide : 2 ≤ g .width) where
     lower-up = le-leb W (u + W) (omega arith)
 
     right-left : has-left g (u + 1) ≡ true
-    right-left = lt-ltb 0 ((u + 1) % W) (rw (next-column u (s .column)) (omega arith))
+    right-left = left-of-next g u (s .column)
 
     pub upper-in : ltb u (pads g) ≡ true
     upper-in = lt-ltb u (pads g) (let h = s .lower in omega arith)
@@ -86,7 +69,7 @@ module _ (g : Grid) (wide : 2 ≤ g .width) where
       let k : v % W ≤ v = mod-le v W in
       let e : v ≡ v - 1 + 1 = omega arith in
       let q : v + W < pads g = ltb-true (v + W) (pads g) d in
-      (square-at (v - 1) (previous-column (v - 1) (rw e at h)) (omega arith), e)
+      (square-at (v - 1) (previous-column W (v - 1) (omega arith) (rw e at h)) (omega arith), e)
 
   square-here : (v : ℕ) → has-right g v ≡ true → has-down g v ≡ true → SquareAt v
   square-here v r d = square-at v (ltb-true (v % W + 1) W r) (ltb-true (v + W) (pads g) d)
@@ -347,7 +330,7 @@ module _ (g : Grid) (wide : 2 ≤ g .width) where
   left-on v o b =
       let h : 0 < v % W = ltb-true 0 (v % W) b in
       let e = one-before v b in
-      both-on (lt-ltb ((v - 1) % W + 1) W (previous-column (v - 1) (rw e at h))) (lt-ltb (v - 1) (pads g) (omega arith))
+      both-on (lt-ltb ((v - 1) % W + 1) W (previous-column W (v - 1) (omega arith) (rw e at h))) (lt-ltb (v - 1) (pads g) (omega arith))
 
   pub right-on : (v : ℕ) → v < pads g → has-right g v ≡ true → on-board g (right v) ≡ true
   right-on v o b = both-on b (lt-ltb v (pads g) o)

@@ -10,9 +10,10 @@ use Rattle.rules.specs.Grid.{Edge, first, second, Grid}
 use Rattle.rules.specs.Places.{zero≢one}
 use Rattle.rules.specs.Tests.{neither, conflict}
 use Rattle.model.specs.Board.{EdgeState, isLine, isUndecided, End, isThrough, unequal-negative, isPad, State, set-edge, joined-ends, on-board, cannot-join, join-ends, line, none, through, at-pad, at-clue}
+use Rattle.model.specs.BoardLaws.{same-pad}
 use Rattle.propagation.specs.Undecided.{DecidedStay}
 use Rattle.rules.specs.Chains.{line-back}
-use Rattle.propagation.specs.Ends.{Added, same-pad}
+use Rattle.propagation.specs.Ends.{Added}
 use Rattle.propagation.specs.EndsKept.{stored-ends}
 use Rattle.propagation.specs.Storing.{stored}
 use Rattle.propagation.specs.Edges.{same-or-not, set-here, set-elsewhere, decided-elsewhere, is-line, is-undecided, drawing, same-drawing, board-lines, edge-of, forward, line-of}
@@ -81,6 +82,10 @@ module _ (g : Grid) (S : State) (e : Edge) (undecided-before : isUndecided (S .e
   unfolding Holds
   line-board on h x k = ⊎-elim (λ p. rw p on) (λ n. h x (sym (line-elsewhere x n) ∙ k)) (same-or-not x e)
 
+  -- there is no line yet between the edge's pads
+  pub no-line-before : Geometry g → board-lines g S (first e) (second (g .width) e) → ⊥
+  no-line-before geo l = let t = edge-of g S _ _ l in conflict (ap isLine (t .is)) (not-a-line (t .edge) (geo .one-edge (t .edge) e (t .ends)))
+
   -- where step c finds nothing against the line
   module _ (geo : Geometry g) (can-join : cannot-join g e (set-edge S e line) ≡ false) where
     record Joinable : Type 0 where
@@ -117,9 +122,6 @@ module _ (g : Grid) (S : State) (e : Edge) (undecided-before : isUndecided (S .e
           (λ n. inl (line-of g S x y (record { edge = t .edge; is = sym (line-elsewhere (t .edge) n) ∙ t .is; ends = t .ends }))) (same-or-not (t .edge) e);
     }
 
-    no-line-before : board-lines g S (first e) (second (g .width) e) → ⊥
-    no-line-before l = let t = edge-of g S _ _ l in conflict (ap isLine (t .is)) (not-a-line (t .edge) (geo .one-edge (t .edge) e (t .ends)))
-
     pub line-chains : Holds g S chains → Holds g with-line chains
     unfolding Holds with-line join-ends set-edge
     line-chains h = rw line-ends (stored-ends (record {
@@ -133,7 +135,7 @@ module _ (g : Grid) (S : State) (e : Edge) (undecided-before : isUndecided (S .e
       A-not-through = not-through end-A (joinable .not-through-A);
       B-not-through = not-through end-B (joinable .not-through-B);
       apart = geo .apart e;
-      no-line-yet = no-line-before;
+      no-line-yet = no-line-before geo;
       not-closing = not-B;
       one-code = one-code end-A end-B (joinable .equal-codes);
     }))

@@ -3,30 +3,12 @@
 use Prim.Native.Nat.{ℕ}
 use mathlib.Core.Path.{_≡_, refl, sym, _∙_, ap}
 use mathlib.Core.Logic.{_≢_, _⊎_, inl, inr, ⊎-elim}
-use borrow.Author.Tests.{eq-eqb, ne-eqb}
 use Rattle.rules.specs.Grid.{Cell, blank, clue}
 use Rattle.rules.specs.Drawing.{Relation, Joined, here, more}
 use Rattle.rules.specs.Places.{zero≢one}
 use Rattle.model.specs.Board.{End, put-end, put-end-at, joined-ends, through, at-pad, at-clue}
-use Rattle.propagation.specs.Ends.{Ends, Stored, same-pad, blank-room, clue-room}
-
-pub put-same : (f : ℕ → End) (x : ℕ) (e : End) → put-end f x e x ≡ e
-unfolding put-end
-put-same f x e = rw (eq-eqb x x refl)
-
-pub put-other : (f : ℕ → End) (x : ℕ) (e : End) (y : ℕ) → y ≢ x → put-end f x e y ≡ f y
-unfolding put-end
-put-other f x e y n = rw (ne-eqb y x n)
-
-pub put-at-same : (f : ℕ → End) (A e : End) (a : ℕ) → A ≡ at-pad a → put-end-at f A e a ≡ e
-unfolding put-end-at
-put-at-same f A e a p = rw p (put-same f a e)
-
-pub put-at-other : (f : ℕ → End) (A e : End) (y : ℕ) → A ≢ at-pad y → put-end-at f A e y ≡ f y
-unfolding put-end-at
-put-at-other f through e y n = refl
-put-at-other f (at-clue c) e y n = refl
-put-at-other f (at-pad a) e y n = put-other f a e y (λ p. n (ap at-pad (sym p)))
+use Rattle.model.specs.BoardLaws.{same-pad, put-same, put-other, put-at-same, put-at-other}
+use Rattle.propagation.specs.Ends.{Ends, Stored, blank-room, clue-room}
 
 pub stored : (end : ℕ → End) (u v : ℕ) (A B : End) → u ≢ v → A ≢ at-pad v → B ≢ at-pad u
     → ((x : ℕ) → A ≡ at-pad x → B ≡ at-pad x → ⊥) → Stored end (joined-ends end u v A B) u v A B
@@ -34,8 +16,8 @@ unfolding joined-ends
 stored end u v A B ne na nb both = record {
   pad-A = λ a e. put-at-other g B A a (both a e) ∙ put-at-same h A B a e;
   pad-B = λ b e. put-at-same g B A b e;
-  pad-u = λ n. put-at-other g B A u nb ∙ put-at-other h A B u n ∙ put-other k v through u ne ∙ put-same end u through;
-  pad-v = λ n. put-at-other g B A v n ∙ put-at-other h A B v na ∙ put-same k v through;
+  pad-u = λ n. put-at-other g B A u nb ∙ put-at-other h A B u n ∙ put-other k v through u ne ∙ put-same end u through u refl;
+  pad-v = λ n. put-at-other g B A v n ∙ put-at-other h A B v na ∙ put-same k v through v refl;
   others = λ x p q f f′. put-at-other g B A x f′ ∙ put-at-other h A B x f ∙ put-other k v through x q ∙ put-other end u through x p;
 }
   where

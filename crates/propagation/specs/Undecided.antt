@@ -9,12 +9,8 @@ use borrow.Author.Tests.{ltb-true}
 use lib.Dec.{ltb}
 use Rattle.rules.specs.Grid.{Edge, first, Grid, pads, right, down}
 use Rattle.rules.specs.Drawing.{num, count}
-use Rattle.rules.specs.Tests.{both, conflict, is-so}
+use Rattle.rules.specs.Tests.{both, conflict, is-so, num-small}
 use Rattle.model.specs.Board.{isUndecided, State, has-right, on-board, enough}
-
-pub num-small : (b : Bool) → num b ≤ 1
-num-small true = omega arith
-num-small false = omega arith
 
 count-small : (f : ℕ → Bool) (n : ℕ) → count f n ≤ n
 unfolding count

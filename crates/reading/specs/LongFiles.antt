@@ -10,10 +10,10 @@ use native.Mathlib.Omega.{arith}
 use lib.ListN.{length, take}
 use lib.Seq.{take-nil}
 use lib.Dec.{eqb, ltb}
-use borrow.Author.Tests.{eqb-true, eqb-false, ne-eqb}
+use borrow.Author.Tests.{eqb-false, ne-eqb}
 use Rattle.rules.specs.Grid.{Size}
 use Rattle.model.specs.GridFile.{Standing, start, in-header, fields-due, is-complete, bad-size, refusal, with-digit, begun, after, declined, read-from, read}
-use Rattle.reading.specs.ReadingLaws.{Passed, byte-passed, Kind, a-digit, a-comma, a-line-end, kind-of, Sound, start-sound, after-sound, begun-row, begun-header, due-row, due-header, sizes-found}
+use Rattle.reading.specs.ReadingLaws.{Passed, byte-passed, Kind, a-digit, a-comma, a-line-end, kind-of, Sound, start-sound, after-sound, begun-row, begun-header, due-row, due-header, sizes-found, two-fields, second-line}
 
 -- each field is at most ten digits and the byte that ends it: so many bytes can still come, in the header and in the rows
 unfoldable pub bytes-left : Standing → ℕ
@@ -55,22 +55,10 @@ module _ (s : Standing) (sound : Sound s) where
 
   header-end-less : in-header s ≡ true → fields-due s ≤ s .field → in-header s && ltb 0 (bad-size s) ≡ false → bytes-left (begun s (s .line + 1) 1) < bytes-left s
   unfolding bytes-left fields-due in-header is-complete
-  header-end-less h d b = rw (begun-header s sound (s .line + 1) 1 h, in-first-line h, first-no, second-yes, line-2, rows-come) (omega (arith, all, sound .digits-due, found .1 .0))
+  header-end-less h d b = rw (begun-header s sound (s .line + 1) 1 h, in-first-line h, two-fields s sound h d, second-line s sound h, rows-come) (omega (arith, all, sound .digits-due, found .1 .0))
     where
       found : Size (s .height) × Size (s .value)
       found = sizes-found s sound h b
-
-      two : s .field ≡ 2
-      two = let k : 2 ≤ s .field = rw h at d in omega (arith, due-header s sound h, k)
-
-      first-no : eqb (s .field) 1 ≡ false
-      first-no = rw two refl
-
-      second-yes : eqb (s .field) 2 ≡ true
-      second-yes = rw two refl
-
-      line-2 : s .line + 1 ≡ 2
-      line-2 = omega (arith, eqb-true (s .line) 1 h)
 
       rows-come : eqb 2 (s .height + 2) ≡ false
       rows-come = ne-eqb 2 (s .height + 2) (λ (e : 2 ≡ s .height + 2). omega (arith, found .0 .0))

@@ -199,10 +199,19 @@ module _ (s : Standing) (sound : Sound s) where
       go true false t w k = absurd (true≢false (rw (t, w, bad-size) at k))
       go false w t u k = absurd (true≢false (rw (t, bad-size) at k))
 
+  -- the header ends after its second field, and the second line follows
+  pub two-fields : in-header s ≡ true → fields-due s ≤ s .field → s .field ≡ 2
+  unfolding fields-due
+  two-fields h d = let k : 2 ≤ s .field = rw h at d in omega (arith, due-header h, k)
+
+  pub second-line : in-header s ≡ true → s .line + 1 ≡ 2
+  unfolding in-header
+  second-line h = omega (arith, eqb-true (s .line) 1 h)
+
   header-end : in-header s ≡ true → fields-due s ≤ s .field → in-header s && ltb 0 (bad-size s) ≡ false → Sound (begun s (s .line + 1) 1)
   unfolding fields-due in-header
   header-end h d b =
-      rw (begun-header (s .line + 1) 1 h, first-no, second-yes, line-2)
+      rw (begun-header (s .line + 1) 1 h, two-fields h d, second-line h)
       (record {
         cells-in-range = sound .cells-in-range;
         cell-count = sound .cell-count;
@@ -215,18 +224,6 @@ module _ (s : Standing) (sound : Sound s) where
     where
       found : Size (s .height) × Size (s .value)
       found = sizes-found h b
-
-      two : s .field ≡ 2
-      two = let k : 2 ≤ s .field = rw h at d in omega (arith, due-header h, k)
-
-      first-no : eqb (s .field) 1 ≡ false
-      first-no = rw two refl
-
-      second-yes : eqb (s .field) 2 ≡ true
-      second-yes = rw two refl
-
-      line-2 : s .line + 1 ≡ 2
-      line-2 = omega (arith, eqb-true (s .line) 1 h)
 
   row-end : in-header s ≡ false → is-complete s ≡ false → s .value ≤ largest-code → Sound (begun s (s .line + 1) 1)
   unfolding is-complete in-header

@@ -1,36 +1,31 @@
 -- Laws of records: their length, whether record k is there, their lines counted from the end, and the shorter of two.
 -- Assumes nothing.
 use mathlib.Core.Path.{_≡_, refl, sym, ap, _∙_}
-use mathlib.Core.Bool.{Bool, true, false, _&&_}
+use mathlib.Core.Bool.{Bool, true, false}
 use mathlib.Core.List.{List, [], _∷_}
 use Prim.Native.Nat.{ℕ, suc, _+_, _*_, _-_, _/_, _≤_, _<_}
-use native.Mathlib.Nat.{mul-le-mul, mul-le-mul-right, le-div-iff-mul-le, lt-div-mul-add, add-sub-cancel-left}
+use native.Mathlib.Nat.{mul-le-mul-right, le-div-iff-mul-le, lt-div-mul-add, add-sub-cancel-left}
 use native.Mathlib.Omega.{arith}
 use lib.ListN.{length, getD, take, drop}
 use lib.Seq.{drop-cons, drop-length}
 use lib.Dec.{ltb, leb}
-use borrow.Author.Tests.{leb-true, ltb-true, ltb-false, lt-ltb, le-ltb, le-leb, lt-leb, eq-eqb, ne-eqb}
+use borrow.Author.Tests.{ltb-true, ltb-false, lt-ltb, le-ltb, le-leb, lt-leb, eq-eqb, ne-eqb}
 use Rattle.model.specs.Bounds.{is-size}
 use Rattle.model.specs.RefusalLaws.{size-of-test}
 use Rattle.model.specs.Records.{record-length, has-record, record-at, shorter}
+use Rattle.model.specs.HasRecord.{what-a-record-has}
 use Rattle.rules.specs.Record.{record-lines}
-use Rattle.rules.specs.Tests.{both}
+use Rattle.rules.specs.Places.{some-places, few-places}
 
 -- ## The length of a record
 
 module _ (height width : ℕ) (h : is-size height ≡ true) (w : is-size width ≡ true) where
   pub longest-record : (2 * height - 1) * (2 * width - 1) ≤ 961
-  longest-record =
-      let a : 2 * height - 1 ≤ 31 = omega (arith, size-of-test height h .1) in
-      let b : 2 * width - 1 ≤ 31 = omega (arith, size-of-test width w .1) in
-      mul-le-mul a b
+  longest-record = few-places height width (size-of-test height h .1) (size-of-test width w .1)
 
   pub some-bytes : 0 < record-length height width
   unfolding record-length
-  some-bytes =
-      let a : 1 ≤ 2 * height - 1 = omega (arith, size-of-test height h .0) in
-      let b : 1 ≤ 2 * width - 1 = omega (arith, size-of-test width w .0) in
-      mul-le-mul a b
+  some-bytes = some-places height width (size-of-test height h .0) (size-of-test width w .0)
 
 -- ## Whether there is a record k
 
@@ -61,18 +56,10 @@ module _ (height width count k room : ℕ) where
           more : room / long ≤ k → room < k * long + long
           more l = omega (arith, lt-div-mul-add {a = room} {b = long} some, mul-le-mul-right long l)
 
-  pub record Has : Type 0 where
-    pub tall : is-size height ≡ true
-    pub wide : is-size width ≡ true
-    pub inside : k * record-length height width + record-length height width ≤ room
-
-  pub has : has-record height width count k room ≡ true → Has
-  unfolding has-record
-  has e =
-      let (abc, d) = both (is-size height && is-size width && ltb k count) _ e in
-      let (ab, c) = both (is-size height && is-size width) (ltb k count) abc in
-      let (a, b) = both (is-size height) (is-size width) ab in
-      record { tall = a; wide = b; inside = leb-true _ _ d }
+  -- a record that is there ends in time
+  pub in-room : has-record height width count k room ≡ true → (long : ℕ) → long ≡ record-length height width → k * long + long ≤ room
+  unfolding record-length
+  in-room e long l = rw l (what-a-record-has height width count k room e .inside)
 
 -- ## Record k
 

@@ -1,6 +1,9 @@
 -- Chains of lines, whatever the lines are: set end to end, turned round, carried over to more lines; and the lines of a drawing, which
 -- lead both ways. Small laws that the definitions of Drawing.antt leave unsaid.
 use Prim.Native.Nat.{ℕ}
+use mathlib.Core.Path.{_≡_, refl}
+use mathlib.Core.Logic.{_≢_}
+use native.Mathlib.Decide.{ℕ-discrete}
 use Rattle.rules.specs.Drawing.{Drawing, Relation, Line, Joined, rightward, leftward, downward, upward, here, more}
 
 -- lines lead both ways
@@ -18,6 +21,15 @@ join-sym s (more {a = a} {b = b} l p) = join-trans (join-sym s p) (more (s a b l
 pub join-mono : {L M : Relation} {a b : ℕ} → ((x y : ℕ) → L x y → M x y) → Joined L a b → Joined M a b
 join-mono f here = here
 join-mono f (more {a = a} {b = b} l p) = more (f a b l) (join-mono f p)
+
+-- a chain to another pad begins with a line
+pub first-line : {L : Relation} {u : ℕ} (x : ℕ) → x ≢ u → Joined L u x → (y : ℕ) × L u y
+first-line x n here = absurd (n refl)
+first-line x n (more {b = b} l p) = (b, l)
+
+-- by cases: is x the pad p, the pad q, or neither
+pub by-pad : {X : Type 0} (p q x : ℕ) → (x ≡ p → X) → (x ≡ q → X) → (x ≢ p → x ≢ q → X) → X
+by-pad p q x f g h = elim (ℕ-discrete x p) [ yes a ↦ f a | no n ↦ elim (ℕ-discrete x q) [ yes b ↦ g b | no m ↦ h n m ] ]
 
 pub line-back : (width : ℕ) (D : Drawing) → Symmetric (Line width D)
 line-back width D a b (rightward e h) = leftward e h

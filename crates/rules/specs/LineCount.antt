@@ -2,13 +2,14 @@
 -- for 'no layout'. Both are counted row by row. The file rests on RecordLaws.antt and Sums.antt.
 use Prim.Native.Nat.{ℕ, zero, suc, _+_, _*_, _-_, _%_, _/_, _≤_, _<_}
 use mathlib.Core.Path.{_≡_, refl, _∙_, ap}
-use mathlib.Core.Bool.{Bool, true, false}
+use mathlib.Core.Bool.{Bool}
 use native.Mathlib.Omega.{arith}
-use native.Mathlib.Nat.{mod-eq-of-lt, div-eq-of-lt, mul-add-div-right, mul-add-mod-self-right, mul-le-mul-right, suc-mul}
+use native.Mathlib.Nat.{mod-eq-of-lt, div-eq-of-lt, mul-add-div-right, mul-add-mod-self-right, mul-le-mul-right, suc-mul, add-zero}
 use lib.Dec.{eqb}
 use Rattle.rules.specs.Grid.{right, down, place-by-parity, place-at, places, field-side, Grid, pads, OnBoard}
 use Rattle.rules.specs.Drawing.{Drawing, drawn, num, Placed, count, number-of-lines}
 use Rattle.rules.specs.Record.{line-byte, byte-of, tabulate, byte-at-place, field, record-of, record-lines}
+use Rattle.rules.specs.Tests.{num-small}
 use Rattle.rules.specs.Places.{place-right, place-down, column-of-pad}
 use Rattle.rules.specs.RecordLaws.{off-line, is-line-byte}
 use Rattle.rules.specs.Sums.{sum, sum-same, sum-last, sum-shift, sum-add, sum-bound, sum-rows, sum-pairs}
@@ -57,10 +58,7 @@ module _ (g : Grid) (tall : 2 ≤ g .height) (wide : 2 ≤ g .width) (D : Drawin
   even-row : (y : ℕ) → sum (at-place (2 * y)) 0 (field-side (g .width)) ≡ rights y
   even-row y =
       rw (odd-length (g .width) wide, sum-last (at-place (2 * y)) (2 * (g .width - 1)), at-pad y (g .width - 1), sum-pairs (at-place (2 * y)) (g .width - 1))
-      (plus-zero _ ∙ sum-same _ _ 0 (g .width - 1) (λ x low high. rw (at-pad y x, at-right y x) (omega arith)))
-    where
-      plus-zero : (n : ℕ) → n + 0 ≡ n
-      plus-zero n = omega arith
+      (add-zero _ ∙ sum-same _ _ 0 (g .width - 1) (λ x low high. rw (at-pad y x, at-right y x) (omega arith)))
 
   odd-row : (y : ℕ) → sum (at-place (2 * y + 1)) 0 (field-side (g .width)) ≡ downs y
   odd-row y =
@@ -162,9 +160,5 @@ module _ (g : Grid) (tall : 2 ≤ g .height) (wide : 2 ≤ g .width) (D : Drawin
       let lines = lines-by-rows in
       omega arith
     where
-      num-small : (b : Bool) → num b ≤ 1
-      num-small true = omega arith
-      num-small false = omega arith
-
       one-each : (f : ℕ → Bool) (n : ℕ) → sum (λ x. num (f x)) 0 n ≤ n
       one-each f n = let bound = sum-bound (λ x. num (f x)) 1 0 n (λ x. num-small (f x)) in omega arith

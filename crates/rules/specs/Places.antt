@@ -1,12 +1,12 @@
 -- Places and edges fit together: each edge of the board has exactly one place of the field, each edge place of the field is the place of
 -- exactly one edge of the board, and it joins two neighbouring pads. These are document 01's sentences about places, proved of the
--- definitions in Grid.antt.
+-- definitions in Grid.antt. Among them stand small laws that other files cite: how many places there are, and the columns of the pads.
 use Prim.Native.Nat.{ℕ, zero, suc, _+_, _*_, _-_, _%_, _/_, _≤_, _<_}
-use mathlib.Core.Path.{_≡_, refl, _∙_, ap}
-use mathlib.Core.Logic.{_≢_}
+use mathlib.Core.Path.{_≡_, refl, sym, _∙_, ap}
 use native.Mathlib.Omega.{arith}
-use native.Mathlib.Nat.{mod-lt, mod-eq-of-lt, div-eq-of-lt, div-add-mod', div-lt-iff-lt-mul, add-div-right, mul-add-div-right, mul-add-mod-self-right, mul-le-mul-right, suc-mul}
-use Rattle.rules.specs.Grid.{Edge, right, down, first, second, pad-index, field-side, edge, place-by-parity, place-at, row-of, column-of, Grid, pads, OnBoard}
+use native.Mathlib.Decide.{ℕ-discrete}
+use native.Mathlib.Nat.{mod-lt, mod-eq-of-lt, div-eq-of-lt, div-add-mod', div-lt-iff-lt-mul, add-div-right, mul-add-div-right, mul-add-mod-self-right, mul-le-mul-right, suc-mul, mod-add-mod, mod-self, mul-mod-left, mul-pos, mul-le-mul}
+use Rattle.rules.specs.Grid.{Edge, right, down, first, second, pad-index, field-side, edge, place-by-parity, place-at, row-of, column-of, Grid, pads, OnBoard, places}
 
 -- no two different numbers are equal
 pub zero≢one : {A : Type 0} → _≡_ {A = ℕ} 0 1 → A
@@ -35,6 +35,36 @@ place-down width y x =
 pub place-of-edge : (width : ℕ) (e : Edge) → place-at width (row-of width e) (column-of width e) ≡ edge e
 place-of-edge width (right v) = place-right width (v / width) (v % width) ∙ ap (λ n. edge (right n)) (div-add-mod' v width)
 place-of-edge width (down v) = place-down width (v / width) (v % width) ∙ ap (λ n. edge (down n)) (div-add-mod' v width)
+
+-- THE NUMBER OF PLACES: some, and at most 961, where the sizes are in range
+pub some-places : (height width : ℕ) → 2 ≤ height → 2 ≤ width → 0 < places height width
+some-places height width h w = let a : 0 < 2 * height - 1 = omega arith in let b : 0 < 2 * width - 1 = omega arith in mul-pos a b
+
+pub few-places : (height width : ℕ) → height ≤ 16 → width ≤ 16 → places height width ≤ 961
+few-places height width h w = mul-le-mul {n₂ = 31} {m₂ = 31} (omega arith) (omega arith)
+
+-- COLUMNS: the next pad of a row stands one column further, and it is a pad; a pad that is not first in its row follows one that is not last
+module _ (width v : ℕ) where
+  pub next-column : v % width + 1 < width → (v + 1) % width ≡ v % width + 1
+  next-column h = sym (mod-add-mod v width 1) ∙ mod-eq-of-lt h
+
+  pub next-in-row : (height : ℕ) → v % width + 1 < width → v < height * width → v + 1 < height * width
+  next-in-row height h k = elim (ℕ-discrete (v + 1) (height * width)) [
+    | yes e ↦ absurd (omega (arith, sym (next-column h) ∙ ap (λ x. x % width) e ∙ mul-mod-left height width))
+    | no n ↦ omega arith
+  ]
+
+  pub previous-column : 0 < width → 0 < (v + 1) % width → v % width + 1 < width
+  previous-column some h = elim (ℕ-discrete (v % width + 1) width) [
+    | yes e ↦ absurd (omega (arith, sym (mod-self width) ∙ ap (λ x. x % width) (sym e) ∙ mod-add-mod v width 1))
+    | no n ↦ let k : v % width < width = mod-lt v some in omega arith
+  ]
+
+-- the first pad of an edge of the board is a pad
+pub first-inside : (g : Grid) (e : Edge) → OnBoard g e → first e < pads g
+unfolding OnBoard
+first-inside g (right v) h = h .0
+first-inside g (down v) h = omega arith
 
 module _ (g : Grid) (wide : 2 ≤ g .width) where
   abbrev some : 0 < g .width

@@ -6,14 +6,14 @@ use mathlib.Core.Path.{_≡_, refl, sym, _∙_, ap}
 use mathlib.Core.Bool.{Bool, true, false}
 use native.Mathlib.Omega.{arith}
 use native.Mathlib.Decide.{decLt}
-use native.Mathlib.Nat.{mod-lt, mod-eq-of-lt, div-eq-of-lt, div-lt-iff-lt-mul, le-div-iff-mul-le, add-div-right, mul-add-div-right, mul-add-mod-self-right, mul-le-mul-right, suc-mul}
+use native.Mathlib.Nat.{mod-lt, mod-eq-of-lt, div-eq-of-lt, div-lt-iff-lt-mul, le-div-iff-mul-le, add-div-right, mul-add-div-right, mul-add-mod-self-right, mul-le-mul-right, suc-mul, add-zero, zero-add}
 use borrow.Author.Tests.{lt-ltb, le-ltb}
 use lib.Dec.{eqb}
 use lib.ListN.{getD, length, List·getD-eq-default}
 use Rattle.rules.specs.Grid.{Edge, right, down, Place, edge, no-edge, place-at, places, field-side, row-of, column-of, Grid, pads, OnBoard}
 use Rattle.rules.specs.Drawing.{Drawing, drawn, num, Placed}
 use Rattle.rules.specs.Record.{undecided-byte, line-byte, byte-of, tabulate, byte-at-place, field, record-of, place-number, drawing-of, pad-code, codes}
-use Rattle.rules.specs.Tests.{not-so}
+use Rattle.rules.specs.Tests.{not-so, num-small}
 use Rattle.rules.specs.Places.{zero≢one, place-of-edge, row-in-field, column-in-field, edge-of-place}
 
 -- LISTS MADE BY A FUNCTION
@@ -22,23 +22,18 @@ unfolding tabulate
 length-tabulate f start zero = refl
 length-tabulate f start (suc n) = ap suc (length-tabulate f (start + 1) n)
 
+-- from one number later on, or one number more
+pub plus-suc : (k j : ℕ) → k + 1 + j ≡ k + suc j
+plus-suc k j = omega arith
+
 pub getD-tabulate : {A : Type 0} (f : ℕ → A) (start n i : ℕ) (default : A) → i < n → getD (tabulate f start n) i default ≡ f (start + i)
 unfolding tabulate
 getD-tabulate f start zero i default below = absurd (omega arith)
-getD-tabulate f start (suc n) zero default below = ap f (plus-zero start)
-  where
-    plus-zero : (k : ℕ) → k ≡ k + 0
-    plus-zero k = omega arith
+getD-tabulate f start (suc n) zero default below = ap f (sym (add-zero start))
 getD-tabulate f start (suc n) (suc i) default below = getD-tabulate f (start + 1) n i default (omega arith) ∙ ap f (plus-suc start i)
-  where
-    plus-suc : (k j : ℕ) → k + 1 + j ≡ k + suc j
-    plus-suc k j = omega arith
 
 pub getD-from-zero : {A : Type 0} (f : ℕ → A) (n i : ℕ) (default : A) → i < n → getD (tabulate f 0 n) i default ≡ f i
-getD-from-zero f n i default below = getD-tabulate f 0 n i default below ∙ ap f (zero-plus i)
-  where
-    zero-plus : (k : ℕ) → 0 + k ≡ k
-    zero-plus k = omega arith
+getD-from-zero f n i default below = getD-tabulate f 0 n i default below ∙ ap f (zero-add i)
 
 pub tabulate-same : {A : Type 0} (f h : ℕ → A) (start n : ℕ) → ((i : ℕ) → start ≤ i → i < start + n → f i ≡ h i) → tabulate f start n ≡ tabulate h start n
 unfolding tabulate
@@ -145,10 +140,6 @@ module _ (g : Grid) (wide : 2 ≤ g .width) where
       num-same true false h = zero≢one (sym h)
       num-same false true h = zero≢one h
       num-same false false h = refl
-
-      num-small : (a : Bool) → num a ≤ 1
-      num-small true = omega arith
-      num-small false = omega arith
 
       at-pad : (v : ℕ) → v < pads g → (D .right v ≡ E .right v) × (D .down v ≡ E .down v)
       at-pad v below =

@@ -3,7 +3,7 @@
 use Prim.Native.Nat.{ℕ, zero, suc, _+_, _*_, _≤_, _<_}
 use mathlib.Core.Path.{_≡_, refl, _∙_, ap}
 use native.Mathlib.Omega.{arith}
-use native.Mathlib.Nat.{suc-mul}
+use native.Mathlib.Nat.{suc-mul, zero-add}
 
 -- f at `start`, `start + 1`, and so on, n of them, added up
 unfoldable pub sum : (ℕ → ℕ) → ℕ → ℕ → ℕ
@@ -49,14 +49,11 @@ unfolding sum
 sum-bound f k start zero below = omega arith
 sum-bound f k start (suc n) below = let rest = sum-bound f k (start + 1) n below in let one = below start in let more = suc-mul n k in omega arith
 
-zero-plus : (n : ℕ) → 0 + n ≡ n
-zero-plus n = omega arith
-
 -- row by row: n rows of `wide` each
 pub sum-rows : (f : ℕ → ℕ) (wide n : ℕ) → sum f 0 (n * wide) ≡ sum (λ row. sum f (row * wide) wide) 0 n
 sum-rows f wide zero = let none : 0 * wide ≡ 0 = omega arith in rw none (unfold sum in refl)
 sum-rows f wide (suc n) =
-    rw (suc-mul n wide, sum-split f 0 (n * wide) wide, zero-plus (n * wide), sum-rows f wide n, sum-last (λ row. sum f (row * wide) wide) n) refl
+    rw (suc-mul n wide, sum-split f 0 (n * wide) wide, zero-add (n * wide), sum-rows f wide n, sum-last (λ row. sum f (row * wide) wide) n) refl
 
 -- in pairs
 pub sum-pairs : (f : ℕ → ℕ) (n : ℕ) → sum f 0 (2 * n) ≡ sum (λ i. f (2 * i) + f (2 * i + 1)) 0 n

@@ -1,11 +1,12 @@
 -- Small laws of tests: what `and` and `or` tell of their parts and what the parts tell of them, that no test is both true and false, and a
--- test of every number below a bound. It rests on the library alone.
-use Prim.Native.Nat.{ℕ, zero, suc, _<_}
+-- test of every number below a bound; and the number of a test. It rests on the library and on `num` of Drawing.antt.
+use Prim.Native.Nat.{ℕ, zero, suc, _≤_, _<_}
 use mathlib.Core.Path.{_≡_, refl, sym, _∙_}
 use mathlib.Core.Logic.{_⊎_, inl, inr}
 use mathlib.Core.Bool.{Bool, true, false, _&&_, _||_, true≢false, false≢true}
 use native.Mathlib.Omega.{arith}
 use native.Mathlib.Decide.{ℕ-discrete}
+use Rattle.rules.specs.Drawing.{num}
 
 -- both of two tests
 pub both : (a b : Bool) → a && b ≡ true → (a ≡ true) × (b ≡ true)
@@ -59,3 +60,12 @@ unfolding all-below
 all-below-at test zero h v l = absurd (omega arith)
 all-below-at test (suc n) h v l = elim (ℕ-discrete v n)
     [ yes e ↦ rw e (both (all-below test n) (test n) h .1) | no ne ↦ all-below-at test n (both (all-below test n) (test n) h .0) v (omega arith) ]
+
+-- the number of a test is 0 or 1, and 0 only where it fails
+pub num-small : (b : Bool) → num b ≤ 1
+num-small true = omega arith
+num-small false = omega arith
+
+pub num-none : (b : Bool) → num b ≡ 0 → b ≡ false
+num-none true h = absurd (omega arith)
+num-none false h = refl

@@ -11,7 +11,7 @@ use borrow.Author.Tests.{ltb-false, lt-ltb, le-ltb, le-leb, lt-leb, eq-eqb}
 use lib.Dec.{eqb, ltb}
 use lib.ListN.{length, take, drop, length-append, length-drop, take-append-drop}
 use lib.Seq.{length-take-le, take-at, drop-at, drop-drop}
-use native.Mathlib.Nat.{add-assoc}
+use native.Mathlib.Nat.{add-assoc, add-zero, zero-add}
 use Rattle.rules.specs.Record.{record-lines}
 use Rattle.model.specs.Search.{Event, visit, layout, Run, scan, with-record, fewest, least, no-fewest, concat, Solved, solved}
 
@@ -114,10 +114,10 @@ put-put at first second buffer fits =
     drop-both = ap (drop (at + length first)) joined ∙ drop-at (take at buffer ++ first) (drop (at + length first) buffer) (at + length first) joined-length
 
 -- THE LEAST OF TWO
-least-left : (a b : ℕ) → a ≤ b → least a b ≡ a
+pub least-left : (a b : ℕ) → a ≤ b → least a b ≡ a
 least-left a b h = rw (le-leb a b h, least)
 
-least-right : (a b : ℕ) → b < a → least a b ≡ b
+pub least-right : (a b : ℕ) → b < a → least a b ≡ b
 least-right a b h = rw (lt-leb a b h, least)
 
 least-assoc : (a b c : ℕ) → least (least a b) c ≡ least a (least b c)
@@ -155,10 +155,7 @@ after-run P run = record {
 nothing-added : (P : Progress) (outcome : ℕ) → P .fewest-lines ≤ no-fewest
     → stopped outcome P ≡ after-run P (record { outcome = outcome; visited = P .visited; records = [] })
 unfolding fewest concat
-nothing-added P outcome bound = rw (plus-zero (P .layouts), plus-zero (P .used), least-left (P .fewest-lines) no-fewest bound, put-none (P .used) (P .buffer)) refl
-  where
-    plus-zero : (n : ℕ) → n + 0 ≡ n
-    plus-zero n = omega arith
+nothing-added P outcome bound = rw (add-zero (P .layouts), add-zero (P .used), least-left (P .fewest-lines) no-fewest bound, put-none (P .used) (P .buffer)) refl
 
 module _ (limit size : ℕ) where
   room-test : (P : Progress) → P .used ≤ length (P .buffer) → ltb (length (P .buffer)) (P .used + size) ≡ ltb (length (P .buffer) - P .used) size
@@ -248,11 +245,8 @@ advance-solved limit size events buffer sized =
     minus-zero : length buffer - 0 ≡ length buffer
     minus-zero = omega arith
 
-    zero-plus : (n : ℕ) → 0 + n ≡ n
-    zero-plus n = omega arith
-
     from-zero : (c : List ℕ) → put-bytes 0 c buffer ≡ c ++ drop (length c) buffer
-    from-zero c = unfold put-bytes in ap (λ n. c ++ drop n buffer) (zero-plus (length c))
+    from-zero c = unfold put-bytes in ap (λ n. c ++ drop n buffer) (zero-add (length c))
 
     same : (run : Run) → result-of (after-run (start buffer) run) ≡ solved run buffer
-    same run = rw (zero-plus (length (run .records)), least-top (fewest (run .records)) (fewest-bound (run .records)), from-zero (concat (run .records))) refl
+    same run = rw (zero-add (length (run .records)), least-top (fewest (run .records)) (fewest-bound (run .records)), from-zero (concat (run .records))) refl

@@ -5,15 +5,17 @@ use mathlib.Core.Path.{_≡_, refl, sym, ap, _∙_}
 use mathlib.Core.Bool.{Bool, true, false, _&&_, _||_, not}
 use mathlib.Core.List.{List, [], _∷_, _++_}
 use native.Mathlib.Omega.{arith}
-use native.Mathlib.Nat.{mul-le-mul, div-lt-iff-lt-mul, mod-lt, add-assoc}
+use native.Mathlib.Nat.{div-lt-iff-lt-mul, mod-lt, add-assoc, zero-add}
 use lib.Dec.{eqb, ltb}
 use lib.ListN.{getD, set, length, length-set}
 use lib.Seq.{set-split}
-use borrow.Author.Tests.{lt-ltb, le-ltb, ltb-true, ltb-false, leb-true, leb-false, le-leb, lt-leb}
-use Rattle.rules.specs.Grid.{Edge, right, down, edge, Grid, pads, places, field-side, place-at, place-by-parity}
+use borrow.Author.Tests.{lt-ltb, le-ltb, ltb-true, ltb-false, leb-true, leb-false}
+use Rattle.rules.specs.Grid.{Edge, right, down, Grid, pads, places, field-side, place-at, place-by-parity}
+use Rattle.rules.specs.Places.{some-places}
 use Rattle.rules.specs.Drawing.{num}
 use Rattle.rules.specs.Record.{tabulate, record-lines, line-byte}
 use Rattle.rules.specs.RecordLaws.{length-tabulate}
+use Rattle.rules.specs.Tests.{num-small}
 use Rattle.model.specs.Board.{isLine, isBlank, has-left, has-up}
 use Rattle.model.specs.Calls.{state-byte}
 use Rattle.model.specs.Search.{degree-so-far, least}
@@ -23,11 +25,6 @@ use Rattle.boardview.specs.Geometry.{last-before, low-off, slot-is}
 use Rattle.boardview.specs.Places.{byte-back, one-more}
 use Rattle.searchview.specs.Progress.{advance, put-bytes, put-length, put-put, put-none}
 use Rattle.searchview.specs.Shown.{EdgesReady, edges-only, is-tried, place-shown, record-shown, Added}
-
--- A NUMBER OF A TEST
-pub num-at-most : (b : Bool) → num b ≤ 1
-num-at-most true = omega arith
-num-at-most false = omega arith
 
 -- THE DEGREE SO FAR
 module _ (g : Grid) (wide : 2 ≤ g .width) (narrow : g .width ≤ 16) (edges : List ℕ) (ready : EdgesReady g edges) where
@@ -53,7 +50,7 @@ module _ (g : Grid) (wide : 2 ≤ g .width) (narrow : g .width ≤ 16) (edges : 
           not-before p z = test (ltb ((v - 1) % g .width + 1) (g .width)) refl
             where
               test : (b : Bool) → ltb ((v - 1) % g .width + 1) (g .width) ≡ b → g .width ≤ (v - 1) % g .width + 1
-              test true h = absurd (last-before (g .height) (g .width) v p z (ltb-true _ _ h))
+              test true h = absurd (last-before (g .width) v p z (ltb-true _ _ h))
               test false h = ltb-false _ _ h
 
       go : (b : Bool) → has-left g v ≡ b → (b && isLine (edges-only edges .edge (right (v - 1)))) ≡ eqb (getD edges (30 + 2 * v) 0) 1
@@ -128,16 +125,13 @@ module _ (width : ℕ) (edges : List ℕ) (long : length edges ≡ 1024) (bytes 
 -- THE RECORD BYTE BY BYTE
 pub lines-append : (a b : List ℕ) → record-lines (a ++ b) ≡ record-lines a + record-lines b
 unfolding record-lines
-lines-append [] b = zero-plus (record-lines b)
-  where
-    zero-plus : (k : ℕ) → k ≡ 0 + k
-    zero-plus k = omega arith
+lines-append [] b = sym (zero-add (record-lines b))
 lines-append (x ∷ a) b = ap (λ (k : ℕ). num (eqb x line-byte) + k) (lines-append a b) ∙ sym (add-assoc (num (eqb x line-byte)) (record-lines a) (record-lines b))
 
 pub lines-at-most : (l : List ℕ) → record-lines l ≤ length l
 unfolding record-lines
 lines-at-most [] = omega arith
-lines-at-most (x ∷ l) = let a = lines-at-most l in let b = num-at-most (eqb x line-byte) in omega arith
+lines-at-most (x ∷ l) = let a = lines-at-most l in let b = num-small (eqb x line-byte) in omega arith
 
 -- one byte put at an index
 pub put-one : (at b : ℕ) (buffer : List ℕ) → at < length buffer → set buffer at b ≡ put-bytes at (b ∷ []) buffer
@@ -145,6 +139,9 @@ unfolding put-bytes
 put-one at b buffer inside = rw (native.Mathlib.Numerals.add-one at) (set-split buffer at b inside)
 
 -- the next byte of a record, and the lines so far
+one-byte-more : (f : ℕ → ℕ) (i : ℕ) → tabulate f 0 (i + 1) ≡ tabulate f 0 i ++ (f i ∷ [])
+one-byte-more f i = ap (tabulate f 0) (native.Mathlib.Numerals.add-one i) ∙ one-more f 0 i ∙ ap (λ (k : ℕ). tabulate f 0 i ++ (f k ∷ [])) (zero-add i)
+
 module _ (f : ℕ → ℕ) (at i : ℕ) (buffer now-there : List ℕ) (so-far : now-there ≡ put-bytes at (tabulate f 0 i) buffer) (room : at + i < length buffer) where
   pub next-byte : set now-there (at + i) (f i) ≡ put-bytes at (tabulate f 0 (i + 1)) buffer
   next-byte =
@@ -152,26 +149,14 @@ module _ (f : ℕ → ℕ) (at i : ℕ) (buffer now-there : List ℕ) (so-far : 
       ∙ put-one (at + i) (f i) (put-bytes at (tabulate f 0 i) buffer) (let k = put-length at (tabulate f 0 i) buffer (omega (arith, long)) in omega arith)
       ∙ ap (λ (n : ℕ). put-bytes (at + n) (f i ∷ []) (put-bytes at (tabulate f 0 i) buffer)) (sym long)
       ∙ put-put at (tabulate f 0 i) (f i ∷ []) buffer (omega (arith, long))
-      ∙ ap (λ l. put-bytes at l buffer) (sym more)
+      ∙ ap (λ l. put-bytes at l buffer) (sym (one-byte-more f i))
     where
       long : length (tabulate f 0 i) ≡ i
       long = length-tabulate f 0 i
 
-      more : tabulate f 0 (i + 1) ≡ tabulate f 0 i ++ (f i ∷ [])
-      more = ap (tabulate f 0) (native.Mathlib.Numerals.add-one i) ∙ one-more f 0 i ∙ ap (λ (k : ℕ). tabulate f 0 i ++ (f k ∷ [])) (zero-plus i)
-        where
-          zero-plus : (k : ℕ) → 0 + k ≡ k
-          zero-plus k = omega arith
-
 pub next-line : (f : ℕ → ℕ) (i lines : ℕ) → lines ≡ record-lines (tabulate f 0 i) → lines + num (eqb (f i) 1) ≡ record-lines (tabulate f 0 (i + 1))
-next-line f i lines so-far = sym (ap record-lines more ∙ lines-append (tabulate f 0 i) (f i ∷ []) ∙ last)
+next-line f i lines so-far = sym (ap record-lines (one-byte-more f i) ∙ lines-append (tabulate f 0 i) (f i ∷ []) ∙ last)
   where
-    more : tabulate f 0 (i + 1) ≡ tabulate f 0 i ++ (f i ∷ [])
-    more = ap (tabulate f 0) (native.Mathlib.Numerals.add-one i) ∙ one-more f 0 i ∙ ap (λ (k : ℕ). tabulate f 0 i ++ (f k ∷ [])) (zero-plus i)
-      where
-        zero-plus : (k : ℕ) → 0 + k ≡ k
-        zero-plus k = omega arith
-
     one : record-lines (f i ∷ []) ≡ num (eqb (f i) 1) + 0
     one = unfold record-lines in refl
 
@@ -221,13 +206,6 @@ place-inside height width i w size w-is size-is wide narrow low less =
     let column = mod-lt i some in
     (omega arith, omega arith)
 
--- THE LESSER OF TWO
-pub least-low : (a b : ℕ) → a ≤ b → a ≡ least a b
-least-low a b h = rw (le-leb a b h, least) refl
-
-pub least-high : (a b : ℕ) → b < a → b ≡ least a b
-least-high a b h = rw (lt-leb a b h, least) refl
-
 -- A LAYOUT PUT INTO THE BUFFER
 module _ (g : Grid) (edges buffer : List ℕ) (layouts fewest-lines : ℕ) where
   abbrev size : ℕ
@@ -259,9 +237,7 @@ module _ (g : Grid) (edges buffer : List ℕ) (layouts fewest-lines : ℕ) where
   -- the number of layouts is below the length of the buffer
   pub few-layouts : 2 ≤ g .height → 2 ≤ g .width → layouts * size ≤ length buffer → size ≤ length buffer - layouts * size → layouts + 1 ≤ length buffer
   few-layouts high wide inside room =
-      let rows : 1 ≤ field-side (g .height) = omega arith in
-      let columns : 1 ≤ field-side (g .width) = omega arith in
-      let some : 1 * 1 ≤ size = mul-le-mul rows columns in
+      let some = some-places (g .height) (g .width) high wide in
       let one : 1 ≤ size = omega arith in
       let all : layouts * 1 ≤ layouts * size = native.Mathlib.Nat.mul-le-mul-left layouts one in
       omega arith

@@ -6,12 +6,8 @@ use mathlib.Core.Logic.{_≢_, ⊎-map, ite, if-pos, if-neg}
 use native.Mathlib.Decide.{ℕ-discrete}
 use Rattle.rules.specs.Grid.{Cell, blank}
 use Rattle.rules.specs.Drawing.{Relation, Joined, here, more, NoLine, Loop, Wired}
-use Rattle.rules.specs.Chains.{Symmetric}
+use Rattle.rules.specs.Chains.{Symmetric, by-pad}
 use Rattle.shortest.specs.Chains.{ClueAt, JoinSame, not-blank, carry-none, carry-one, carry-two, still-apart, LinesRenamed}
-
--- by cases: is x the pad p, the pad q, or neither
-pub by-pad : {X : Type 0} (p q x : ℕ) → (x ≡ p → X) → (x ≡ q → X) → (x ≢ p → x ≢ q → X) → X
-by-pad p q x f g h = elim (ℕ-discrete x p) [ yes a ↦ f a | no n ↦ elim (ℕ-discrete x q) [ yes b ↦ g b | no m ↦ h n m ] ]
 
 -- the exchange of p and q
 unfoldable pub swap : ℕ → ℕ → ℕ → ℕ

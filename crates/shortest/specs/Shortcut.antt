@@ -7,9 +7,9 @@ use mathlib.Core.Logic.{_≢_, _⊎_, inl, inr, ⊎-map, ⊎-elim, ⊎-swap, ite
 use native.Mathlib.Decide.{ℕ-discrete}
 use Rattle.rules.specs.Grid.{Cell, blank}
 use Rattle.rules.specs.Drawing.{Relation, Joined, here, more, NoLine, Loop, Wired}
-use Rattle.rules.specs.Chains.{join-trans, join-sym, Symmetric}
+use Rattle.rules.specs.Chains.{join-trans, join-sym, Symmetric, by-pad}
 use Rattle.shortest.specs.Chains.{ClueAt, JoinSame, not-blank, two-lines-blank, two-lines-only, LinesRenamed, carry-none, carry-one, carry-two, still-apart}
-use Rattle.shortest.specs.Exchange.{by-pad, swap, swap-first, swap-second, swap-else, swap-twice}
+use Rattle.shortest.specs.Exchange.{swap, swap-first, swap-second, swap-else, swap-twice}
 
 -- x and y are a and b, in one order or the other
 abbrev pub Pair : ℕ → ℕ → ℕ → ℕ → Type 0

@@ -9,11 +9,11 @@ use native.Mathlib.Decide.{decLt}
 use native.Mathlib.Omega.{arith}
 use Rattle.rules.specs.Grid.{right, down, Cell, blank, clue, Grid, pads, UnitSquare, OnBoard}
 use Rattle.rules.specs.Drawing.{Drawing, drawn, Line, rightward, leftward, downward, upward, NoLine, TwoLines, num, square-lines, Side, on-left, on-right, LineBeside, DiagonallyBelow, Corner, IsClue, Ordinary, number-of-lines}
-use Rattle.rules.specs.Places.{zero≢one}
+use Rattle.rules.specs.Places.{zero≢one, first-inside}
 use Rattle.shortest.specs.Edges.{Joins, forth, back, joins-back, first-is-lower}
 use Rattle.shortest.specs.Ring.{Ring, turn, ring-at, RingLines, ring-lines, redraw}
 use Rattle.shortest.specs.Moves.{AsGood, fourth-alone, corner-opposite, three-lines-give-way, not-four-lines, corner-flips}
-use Rattle.shortest.specs.Weight.{weigh, weigh-one, weigh-redraw, ring-worth, first-inside}
+use Rattle.shortest.specs.Weight.{weigh, weigh-one, weigh-redraw, ring-worth}
 
 -- a line counts for more the earlier the first pad of its edge is
 abbrev pub pads-from : Grid → ℕ → ℕ

@@ -6,9 +6,9 @@ use mathlib.Core.Logic.{_≢_}
 use mathlib.Core.Bool.{Bool, true, false}
 use native.Mathlib.Decide.{ℕ-discrete}
 use native.Mathlib.Omega.{arith}
-use Rattle.rules.specs.Grid.{Edge, right, down, first, Grid, pads, OnBoard}
+use Rattle.rules.specs.Grid.{Edge, right, down, first, Grid, pads}
 use Rattle.rules.specs.Drawing.{Drawing, drawn, num, count, number-of-lines}
-use Rattle.rules.specs.Places.{zero≢one}
+use Rattle.rules.specs.Places.{zero≢one, first-inside}
 use Rattle.shortest.specs.Edges.{joins-back, other-edge, set-edge, set-same, set-other}
 use Rattle.shortest.specs.Ring.{Ring, RingLines, ring-lines, redraw}
 
@@ -61,11 +61,6 @@ weigh-set weight n D (down i) line inside =
     let kept = total-same weight (E .right) (D .right) n (λ x l. set-other D (down i) line (right x) (λ q. zero≢one (cc))) in
     let now = rw (set-same D (down i) line) at changed in
     omega (arith, now, kept)
-
-pub first-inside : (g : Grid) (e : Edge) → OnBoard g e → first e < pads g
-unfolding OnBoard
-first-inside g (right v) h = h .0
-first-inside g (down v) h = omega arith
 
 -- what the ring's edges count for
 abbrev pub ring-worth : {g : Grid} → (ℕ → ℕ) → Ring g → RingLines → ℕ

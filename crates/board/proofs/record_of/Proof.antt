@@ -1,5 +1,6 @@
 -- `board::record_of` meets its contract. The loop's invariant: the bytes of the first i places are laid out. Assumes nothing.
-use Rattle.board.specs.ShowLaws.{Laid, none-laid, one-laid, byte-laid, all-laid, few-places}
+use Rattle.board.specs.ShowLaws.{Laid, none-laid, one-laid, byte-laid, all-laid}
+use Rattle.rules.specs.Places.{few-places}
 use Rattle.board.specs.PlaceLaws.{shown-at}
 use Rattle.boardview.specs.View.{grid-in}
 use Prim.Native.Nat.{_-_, _≤_}

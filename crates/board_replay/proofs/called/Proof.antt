@@ -1,5 +1,5 @@
 -- `board_replay::called` meets its contract: each call hands back a board. Assumes nothing.
-use Rattle.board_replay.proofs.Sizes.{answered}
+use Rattle.board.specs.Sizes.{answered}
 use borrow.Author.Needs.{needs}
 use Rattle.board_replay.proofs.called.Statement.{statement}
 use Rattle.board_replay.proofs.called.Tie as tie

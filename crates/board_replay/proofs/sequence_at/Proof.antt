@@ -1,5 +1,5 @@
 -- `board_replay::sequence_at` is safe and ends. Assumes nothing.
-use Rattle.board_replay.proofs.Sizes.{answered}
+use Rattle.board.specs.Sizes.{answered}
 use native.Mathlib.Nat.{mul-le-mul}
 use lib.Seq.{length-take-le}
 use mathlib.Core.Path.{sym}

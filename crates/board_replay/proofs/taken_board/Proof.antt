@@ -1,5 +1,5 @@
 -- `board_replay::taken_board` is safe and ends: what a board shows fits its arrays. Assumes nothing.
-use Rattle.board_replay.proofs.Sizes.{in-range, few-places, few-pads}
+use Rattle.board.specs.Sizes.{in-range, few-places, few-pads}
 use lib.Seq.{length-take-le}
 use lib.ListN.{length}
 use native.Mathlib.Omega.{arith}

@@ -1,7 +1,7 @@
 -- `boardfresh::fresh_edges` meets its contract: the loop has filled the bytes from the slot on.
 use Prim.Native.Nat.{_≤_, _*_}
 use native.Mathlib.Omega.{arith}
-use Rattle.boardfresh.specs.FreshArrays.{EdgesFrom, edge-byte}
+use Rattle.boardfresh.specs.FreshArrays.{EdgesFrom}
 use Rattle.boardfresh.specs.Filling.{zero-left, filled-more, filled-same}
 use Rattle.boardfresh.specs.EdgeBytes.{few-pads, past-the-edges}
 use Rattle.boardfresh.proofs.fresh_edges.Statement.{statement}

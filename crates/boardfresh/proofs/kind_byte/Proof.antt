@@ -2,7 +2,7 @@
 use borrow.Author.Needs.{needs}
 use native.Mathlib.Omega.{arith}
 use Rattle.boardfresh.specs.FreshArrays.{kind-byte}
-use Rattle.boardfresh.specs.KindBits.{number-small}
+use Rattle.rules.specs.Tests.{num-small}
 use Rattle.boardfresh.proofs.kind_byte.Statement.{statement}
 use Rattle.boardfresh.proofs.kind_byte.Tie as tie
 
@@ -13,37 +13,37 @@ one-if-requires-2 : tie.Need-one-if-requires-2
 one-if-requires-2 c κs = search needs
 
 mul-result : tie.Need-mul-result
-mul-result c = omega (arith, number-small (c .before .before .args .clue), number-small (c .before .before .args .bar-right))
+mul-result c = omega (arith, num-small (c .before .before .args .clue), num-small (c .before .before .args .bar-right))
 
 add-result : tie.Need-add-result
-add-result c = omega (arith, number-small (c .before .before .args .clue), number-small (c .before .before .args .bar-right))
+add-result c = omega (arith, num-small (c .before .before .args .clue), num-small (c .before .before .args .bar-right))
 
 one-if-requires-3 : tie.Need-one-if-requires-3
 one-if-requires-3 c κs = search needs
 
 mul-result-2 : tie.Need-mul-result-2
-mul-result-2 c = omega (arith, number-small (c .before .before .before .args .clue), number-small (c .before .before .before .args .bar-right), number-small (c .before .before .before .args .bar-left))
+mul-result-2 c = omega (arith, num-small (c .before .before .before .args .clue), num-small (c .before .before .before .args .bar-right), num-small (c .before .before .before .args .bar-left))
 
 add-result-2 : tie.Need-add-result-2
-add-result-2 c = omega (arith, number-small (c .before .before .before .args .clue), number-small (c .before .before .before .args .bar-right), number-small (c .before .before .before .args .bar-left))
+add-result-2 c = omega (arith, num-small (c .before .before .before .args .clue), num-small (c .before .before .before .args .bar-right), num-small (c .before .before .before .args .bar-left))
 
 one-if-requires-4 : tie.Need-one-if-requires-4
 one-if-requires-4 c κs = search needs
 
 mul-result-3 : tie.Need-mul-result-3
-mul-result-3 c = omega (arith, number-small (c .before .before .before .before .args .clue), number-small (c .before .before .before .before .args .bar-right), number-small (c .before .before .before .before .args .bar-left), number-small (c .before .before .before .before .args .corner-right))
+mul-result-3 c = omega (arith, num-small (c .before .before .before .before .args .clue), num-small (c .before .before .before .before .args .bar-right), num-small (c .before .before .before .before .args .bar-left), num-small (c .before .before .before .before .args .corner-right))
 
 add-result-3 : tie.Need-add-result-3
-add-result-3 c = omega (arith, number-small (c .before .before .before .before .args .clue), number-small (c .before .before .before .before .args .bar-right), number-small (c .before .before .before .before .args .bar-left), number-small (c .before .before .before .before .args .corner-right))
+add-result-3 c = omega (arith, num-small (c .before .before .before .before .args .clue), num-small (c .before .before .before .before .args .bar-right), num-small (c .before .before .before .before .args .bar-left), num-small (c .before .before .before .before .args .corner-right))
 
 one-if-requires-5 : tie.Need-one-if-requires-5
 one-if-requires-5 c κs = search needs
 
 mul-result-4 : tie.Need-mul-result-4
-mul-result-4 c = omega (arith, number-small (c .before .before .before .before .before .args .clue), number-small (c .before .before .before .before .before .args .bar-right), number-small (c .before .before .before .before .before .args .bar-left), number-small (c .before .before .before .before .before .args .corner-right), number-small (c .before .before .before .before .before .args .corner-left))
+mul-result-4 c = omega (arith, num-small (c .before .before .before .before .before .args .clue), num-small (c .before .before .before .before .before .args .bar-right), num-small (c .before .before .before .before .before .args .bar-left), num-small (c .before .before .before .before .before .args .corner-right), num-small (c .before .before .before .before .before .args .corner-left))
 
 add-result-4 : tie.Need-add-result-4
-add-result-4 c = omega (arith, number-small (c .before .before .before .before .before .args .clue), number-small (c .before .before .before .before .before .args .bar-right), number-small (c .before .before .before .before .before .args .bar-left), number-small (c .before .before .before .before .before .args .corner-right), number-small (c .before .before .before .before .before .args .corner-left))
+add-result-4 c = omega (arith, num-small (c .before .before .before .before .before .args .clue), num-small (c .before .before .before .before .before .args .bar-right), num-small (c .before .before .before .before .before .args .bar-left), num-small (c .before .before .before .before .before .args .corner-right), num-small (c .before .before .before .before .before .args .corner-left))
 
 returns : tie.Need-returns
 unfolding kind-byte

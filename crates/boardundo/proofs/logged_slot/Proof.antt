@@ -1,6 +1,6 @@
 -- `boardundo::logged_slot` meets its contract.
 use Rattle.boardview.specs.Signed.{slot-cast, slot-read}
-use Prim.Native.Nat.{_*_, _-_}
+use Prim.Native.Nat.{_*_}
 use lib.IntN.{pos}
 use lib.ListN.{getD}
 use borrow.Author.Needs.{needs}

@@ -1,7 +1,6 @@
 -- `boardundo::undo_one` meets its contract.
 use Rattle.boardview.specs.Geometry.{slot-bounds}
 use Rattle.boardview.specs.View.{grid-in, undone-one}
-use Prim.Native.Nat.{_-_}
 use native.Mathlib.Omega.{arith}
 use mathlib.Core.Path.{refl}
 use borrow.Author.Needs.{needs}

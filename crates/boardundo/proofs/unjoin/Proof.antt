@@ -1,6 +1,6 @@
 -- `boardundo::unjoin` meets its contract.
 use Rattle.boardview.specs.Signed.{back, slot-number, not-passed, unjoined-0, unjoined-1, unjoined-2, unjoined-3, unjoined-4}
-use Prim.Native.Nat.{_+_, _*_, _-_}
+use Prim.Native.Nat.{_+_, _*_}
 use lib.IntN.{pos}
 use lib.ListN.{getD}
 use native.Mathlib.Omega.{arith}

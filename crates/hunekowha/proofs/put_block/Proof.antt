@@ -1,6 +1,7 @@
 -- `hunekowha::put_block` meets its contract: head, edges and ends are put one behind the other. Assumes nothing.
 use Rattle.rules.specs.Drawing.{num}
-use Rattle.hunekowha.proofs.Blocks.{in-range, few-places, few-pads, size-shown, room-for-edges, room-for-ends, block-written}
+use Rattle.hunekowha.proofs.Blocks.{size-shown, room-for-edges, room-for-ends, block-written}
+use Rattle.board.specs.Sizes.{in-range, few-places, few-pads}
 use lib.Seq.{length-take-le}
 use lib.ListN.{length}
 use native.Mathlib.Omega.{arith}

@@ -1,5 +1,6 @@
 -- `hunekowha::size_of_block` meets its contract: the sizes that the board shows are in range. Assumes nothing.
-use Rattle.hunekowha.proofs.Blocks.{in-range, few-places, few-pads, size-shown}
+use Rattle.hunekowha.proofs.Blocks.{size-shown}
+use Rattle.board.specs.Sizes.{in-range, few-places, few-pads}
 use native.Mathlib.Omega.{arith}
 use borrow.Author.Needs.{needs}
 use Rattle.hunekowha.proofs.size_of_block.Statement.{statement}

@@ -3,8 +3,9 @@ use mathlib.Core.Path.{sym, ap, _∙_}
 use native.Mathlib.Omega.{arith}
 use borrow.Author.Needs.{needs}
 use lib.ListN.{length}
+use Rattle.printed.specs.Written.{nothing-written}
 use Rattle.listing.specs.BufferRecords.{no-line, some-line, line-by-parts}
-use Rattle.listing.proofs.TextLaws.{nothing-written, layout-written}
+use Rattle.listing.proofs.TextLaws.{layout-written}
 use Rattle.listing.proofs.line.Statement.{statement}
 use Rattle.listing.proofs.line.Tie as tie
 

@@ -1,5 +1,6 @@
 -- `records::record_at` meets its contract: the part from k times the length on, or none. Assumes nothing.
-use Rattle.records.proofs.RecordLaws.{has, no-record, that-part}
+use Rattle.records.proofs.RecordLaws.{in-room, no-record, that-part}
+use Rattle.model.specs.HasRecord.{what-a-record-has}
 use borrow.Author.Tests.{not-true, not-false}
 use native.Mathlib.Omega.{arith}
 use mathlib.Core.Path.{sym, _∙_}
@@ -23,13 +24,13 @@ returns : tie.Need-returns
 returns c = no-record _ _ _ _ _ (sym (c .before .before .has-record .ensures) ∙ not-true _ (c .before .if1 .taken))
 
 record-length-requires : tie.Need-record-length-requires
-record-length-requires c κs = (has _ _ _ _ _ (sym (c .before .has-record .ensures) ∙ not-false _ (c .if1 .left)) .tall, has _ _ _ _ _ (sym (c .before .has-record .ensures) ∙ not-false _ (c .if1 .left)) .wide)
+record-length-requires c κs = (what-a-record-has _ _ _ _ _ (sym (c .before .has-record .ensures) ∙ not-false _ (c .if1 .left)) .tall, what-a-record-has _ _ _ _ _ (sym (c .before .has-record .ensures) ∙ not-false _ (c .if1 .left)) .wide)
 
 mul-start : tie.Need-mul-start
-mul-start c = omega (arith, (rw (← (c .record-length .ensures)) at (has _ _ _ _ _ (sym (c .before .before .has-record .ensures) ∙ not-false _ (c .before .if1 .left)) .inside)))
+mul-start c = omega (arith, in-room _ _ _ _ _ (sym (c .before .before .has-record .ensures) ∙ not-false _ (c .before .if1 .left)) _ (c .record-length .ensures))
 
 add-end : tie.Need-add-end
-add-end c = omega (arith, (rw (← (c .record-length .ensures)) at (has _ _ _ _ _ (sym (c .before .before .has-record .ensures) ∙ not-false _ (c .before .if1 .left)) .inside)))
+add-end c = omega (arith, in-room _ _ _ _ _ (sym (c .before .before .has-record .ensures) ∙ not-false _ (c .before .if1 .left)) _ (c .record-length .ensures))
 
 sub-result-2 : tie.Need-sub-result-2
 sub-result-2 c = search needs
@@ -38,7 +39,7 @@ part-result-start-2 : tie.Need-part-result-start-2
 part-result-start-2 c = search needs
 
 part-result-end-2 : tie.Need-part-result-end-2
-part-result-end-2 c = omega (arith, (rw (← (c .record-length .ensures)) at (has _ _ _ _ _ (sym (c .before .before .has-record .ensures) ∙ not-false _ (c .before .if1 .left)) .inside)))
+part-result-end-2 c = omega (arith, in-room _ _ _ _ _ (sym (c .before .before .has-record .ensures) ∙ not-false _ (c .before .if1 .left)) _ (c .record-length .ensures))
 
 returns-2 : tie.Need-returns-2
 returns-2 c = that-part _ _ _ _ _ (sym (c .before .before .before .has-record .ensures) ∙ not-false _ (c .before .before .if1 .left)) _ (c .before .record-length .ensures)

@@ -1,5 +1,5 @@
 -- Where less than a record of room is left the buffer is full; else the record is put behind those before it. Assumes nothing.
-use Prim.Native.Nat.{ℕ, _*_, _-_}
+use Prim.Native.Nat.{ℕ, _*_}
 use mathlib.Core.Path.{_≡_, ap}
 use native.Mathlib.Omega.{arith}
 use Rattle.rules.specs.Grid.{places}

@@ -1,13 +1,14 @@
 -- The smaller of the two, by the test. Assumes nothing.
-use Rattle.searchview.specs.ShownLaws.{least-low, least-high}
+use mathlib.Core.Path.{sym}
+use Rattle.searchview.specs.Progress.{least-left, least-right}
 use Rattle.searchparts.proofs.least.Statement.{statement}
 use Rattle.searchparts.proofs.least.Tie as tie
 
 returns : tie.Need-returns
-returns c = least-low _ _ (c .if1 .taken)
+returns c = sym (least-left _ _ (c .if1 .taken))
 
 returns-2 : tie.Need-returns-2
-returns-2 c = least-high _ _ (c .if1 .left)
+returns-2 c = sym (least-right _ _ (c .if1 .left))
 
 pub least-spec : {M : Type 1} → statement M
 least-spec = tie.close (tie.spec returns returns-2)

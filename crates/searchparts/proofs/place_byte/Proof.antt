@@ -1,5 +1,5 @@
 -- The byte at a place, by the parity of row and column. Assumes nothing.
-use Prim.Native.Nat.{ℕ, _+_, _*_, _-_, _/_}
+use Prim.Native.Nat.{ℕ, _+_, _*_, _/_}
 use mathlib.Core.Path.{_≡_, ap, _∙_}
 use lib.ListN.{getD}
 use native.Mathlib.Omega.{arith}

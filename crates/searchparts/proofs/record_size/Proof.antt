@@ -1,9 +1,8 @@
 -- Sizes are at most 16, so the product fits. Assumes nothing.
 use native.Mathlib.Omega.{arith}
-use native.Mathlib.Nat.{mul-le-mul}
-use Prim.Native.Nat.{_*_, _-_, _≤_}
 use mathlib.Core.Path.{refl}
 use borrow.Author.Needs.{needs}
+use Rattle.rules.specs.Places.{few-places}
 use Rattle.searchparts.proofs.record_size.Statement.{statement}
 use Rattle.searchparts.proofs.record_size.Tie as tie
 
@@ -26,7 +25,7 @@ sub-result-2 : tie.Need-sub-result-2
 sub-result-2 c = search needs
 
 mul-result-3 : tie.Need-mul-result-3
-mul-result-3 c = let a : 2 * c .before .height .result - 1 ≤ 31 = omega arith in let b : 2 * c .width .result - 1 ≤ 31 = omega arith in let k = mul-le-mul a b in omega arith
+mul-result-3 c = let k = few-places (c .before .height .result) (c .width .result) (omega arith) (omega arith) in omega arith
 
 returns : tie.Need-returns
 returns c = rw (c .before .height .ensures, c .width .ensures) refl

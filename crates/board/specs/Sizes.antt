@@ -2,11 +2,12 @@
 use Prim.Native.Nat.{ℕ, _*_, _-_, _≤_}
 use native.Mathlib.Omega.{arith}
 use native.Mathlib.Nat.{mul-le-mul}
+use Rattle.rules.specs.Places.{few-places as few}
 use Rattle.model.specs.Calls as model
 use Rattle.board.specs.Held.{Held, IsBoard, Says, Shows}
 use Rattle.board.specs.declared.Board.{Board}
 use Rattle.board.specs.declared.Answer.{Answer}
 use Rattle.board.specs.declared.Shown.{Shown}
 
 pub record InRange (height width : ℕ) : Type 0 where
   pub least-height : 2 ≤ height
@@ -23,7 +24,7 @@ in-range held shows = record {
 }
 
 pub few-places : {height width : ℕ} → InRange height width → (2 * height - 1) * (2 * width - 1) ≤ 961
-few-places {height} {width} sizes = mul-le-mul {n₂ = 31} {m₂ = 31} (omega (arith, sizes .largest-height)) (omega (arith, sizes .largest-width))
+few-places {height} {width} sizes = few height width (sizes .largest-height) (sizes .largest-width)
 
 pub few-pads : {height width : ℕ} → InRange height width → height * width ≤ 256
 few-pads sizes = mul-le-mul (sizes .largest-height) (sizes .largest-width)

@@ -1,0 +1,49 @@
+-- Small laws of the board's definitions: an edge of the board passes its test, the next pad of a row has one to its left, an end names at
+-- most one pad, and an end that is put stands at its pad and nowhere else. They rest on Board.antt.
+use Prim.Native.Nat.{ℕ, _+_, _%_, _<_}
+use mathlib.Core.Path.{_≡_, refl, sym, ap}
+use mathlib.Core.Logic.{_≢_}
+use mathlib.Core.Bool.{true}
+use native.Mathlib.Omega.{arith}
+use native.Mathlib.Decide.{ℕ-discrete}
+use borrow.Author.Tests.{eq-eqb, ne-eqb, lt-ltb}
+use Rattle.rules.specs.Grid.{Edge, right, down, Grid, pads, OnBoard}
+use Rattle.rules.specs.Tests.{both-on}
+use Rattle.rules.specs.Places.{zero≢one, next-column}
+use Rattle.model.specs.Board.{End, through, at-pad, at-clue, put-end, put-end-at, has-left, on-board}
+
+pub on-board-test : (g : Grid) (e : Edge) → OnBoard g e → on-board g e ≡ true
+unfolding OnBoard
+on-board-test g (right v) (below, inside) = both-on (lt-ltb (v % g .width + 1) (g .width) inside) (lt-ltb v (pads g) below)
+on-board-test g (down v) below = lt-ltb (v + g .width) (pads g) below
+
+pub left-of-next : (g : Grid) (v : ℕ) → v % g .width + 1 < g .width → has-left g (v + 1) ≡ true
+left-of-next g v h = lt-ltb 0 ((v + 1) % g .width) (omega (arith, next-column (g .width) v h))
+
+-- THE PAD THAT AN END NAMES
+pub same-pad : {a b : ℕ} → at-pad a ≡ at-pad b → a ≡ b
+same-pad e = cc
+
+pub is-pad-end : (A : End) (x : ℕ) → Dec (A ≡ at-pad x)
+is-pad-end through x = no (λ e. zero≢one (cc))
+is-pad-end (at-clue c) x = no (λ e. zero≢one (cc))
+is-pad-end (at-pad a) x = elim (ℕ-discrete a x) [ yes e ↦ yes (ap at-pad e) | no n ↦ no (λ e. n (cc)) ]
+
+-- AN END THAT IS PUT
+pub put-same : (f : ℕ → End) (x : ℕ) (e : End) (y : ℕ) → y ≡ x → put-end f x e y ≡ e
+unfolding put-end
+put-same f x e y h = rw (eq-eqb y x h)
+
+pub put-other : (f : ℕ → End) (x : ℕ) (e : End) (y : ℕ) → y ≢ x → put-end f x e y ≡ f y
+unfolding put-end
+put-other f x e y n = rw (ne-eqb y x n)
+
+pub put-at-same : (f : ℕ → End) (A e : End) (a : ℕ) → A ≡ at-pad a → put-end-at f A e a ≡ e
+unfolding put-end-at
+put-at-same f A e a p = rw p (put-same f a e a refl)
+
+pub put-at-other : (f : ℕ → End) (A e : End) (y : ℕ) → A ≢ at-pad y → put-end-at f A e y ≡ f y
+unfolding put-end-at
+put-at-other f through e y n = refl
+put-at-other f (at-clue c) e y n = refl
+put-at-other f (at-pad a) e y n = put-other f a e y (λ p. n (ap at-pad (sym p)))
