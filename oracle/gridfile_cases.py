@@ -6,7 +6,7 @@ Run from the root of the repository:
     python3 oracle/gridfile_cases.py crates/gridfile_cases
 
 It writes the files `stdin` (the grid files, each behind its length in two bytes, high byte first) and `stdout` (the expected
-answers). The answers come from `reading` below, a second reader that is built from document 01 and not from the program: it
+answers). The answers come from `reading` below, a second reader that is built from the documents and not from the program: it
 looks at the whole file, finds for each rule all the bytes at which it applies, and takes the first byte and there the rule
 that is tested first. A refused file is answered by `refused,number,line,field`, an accepted one by the grid itself in shortest
 digits, and a line `past` if a cell past the last row is not blank.
@@ -29,7 +29,7 @@ def place(file, at):
 
 
 def field_text(file, at):
-    """The text of the field that the byte at a place ends."""
+    """The text of the field of the byte at a place, up to that byte."""
     start = max(file.rfind(b",", 0, at), file.rfind(b"\n", 0, at)) + 1
     return file[start:at]
 
@@ -50,7 +50,8 @@ def reading(file):
 
     for i, b in enumerate(file):
         if b not in b"0123456789,\n":
-            applies(i, 1, 1)
+            has_digit = any(c in b"0123456789" for c in field_text(file, i))
+            applies(i, 1, 13 if has_digit else 1)
         if len(file[max(0, i - 10): i + 1]) == 11 and file[i - 10: i + 1].isdigit():
             applies(i, 2, 2)
     for i in separators:
@@ -106,19 +107,28 @@ def cases():
     yield b"2,2\n1O,\n,1O\n"
     yield b"2,2\n,1O\n1O,\n"
     yield b"1,2\n,\n"
-    # mistyped codes: the letter O, small o, l, a letter first, a letter in the last field
-    for text in (b"1O", b"1o", b"O1", b"l0", b"1l", b"O"):
-        for pad in range(4):
-            fields = [b"", b"", b"", b""]
-            fields[pad] = text
-            yield b"2,2\n%s,%s\n%s,%s\n" % tuple(fields)
+    # 1 and 13 in each field of the header and the rows: letters for digits, a space, a quote mark and a return before and
+    # after a digit; a letter after a 0, after ten digits and after eleven; a second disallowed byte
+    for text in (b"x", b"1x", b"1234567890x", b"12345678901x", b"1O", b"1o", b"O1", b"l0", b"1l", b"O", b"0O", b"007x", b" 5", b"5 ",
+                 b"\"5\"", b"5\"", b"\r", b"5\r", b"9999999999x", b"x1x", b"1 x"):
+        for place in range(6):
+            fields = [b"2", b"2", b"", b"", b"", b""]
+            fields[place] = text
+            yield b"%s,%s\n%s,%s\n%s,%s\n" % tuple(fields)
+    # a disallowed byte where the file ends, and where a row has too few fields or too many
+    yield b"x"
+    yield b"2x"
+    yield b"2,2\n5,\n5,5x"
+    yield b"2,2\n5,\n5x\n"
+    yield b"2,2\n5,5x,\n"
+    yield b"2,2\n5,5,x\n"
     # an empty file, every beginning of a good one (the last 0A missing among them), and bytes after it
     for end in range(len(good) + 1):
         yield good[:end]
     for byte in (0, 10, 32, 44, 48, 57, 120, 255):
         yield good + bytes([byte])
         yield grid(16, 16) + bytes([byte])
-    # 1: a bad byte at each place of a good file, in place of the byte there
+    # 1 and 13: a bad byte at each place of a good file, in place of the byte there
     for at in range(len(good)):
         for byte in (0, 13, 45, 47, 58, 255):
             yield good[:at] + bytes([byte]) + good[at + 1:]

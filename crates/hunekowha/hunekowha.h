@@ -21,12 +21,13 @@
  * 2 no line, 0 undecided; the places that are no edge hold 0. A layout is a wiring of the grid, held as a record.
  *
  * Numbers of refusals. Reading a file:
- *   1  a byte that is no digit, no comma and no line end (0A hexadecimal)
+ *   1  a byte that is no digit, no comma and no line end (0A hexadecimal), at the start of its field: a stray byte
  *   2  an eleventh digit in a field
  *   3  a field above 2147483646
  *   4  too few fields in a line, or too many
  *   5  a height or width that is empty or outside 2 to 16
  *   6  the file ends before its last row does, or goes on after it
+ *  13  a byte that is no digit, no comma and no line end, after a digit of its field: a letter typed for a digit
  * A grid, for a board or a search:
  *   7  a height or width outside 2 to 16
  *   8  the number of cells is not height * width
@@ -55,7 +56,7 @@ extern "C" {
  *   cells, cells_length    at least 256 numbers
  *
  * Returns 5, or 0 where `answer` or `cells` is too short.
- *   answer[0]  0 for a grid, else the number of the refusal, 1 to 6
+ *   answer[0]  0 for a grid, else the number of the refusal, 1 to 6 or 13
  *   answer[1]  the line that a refusal names, from 1; 0 for a grid
  *   answer[2]  the field that a refusal names, from 1; 0 for a grid
  *   answer[3]  the height; 0 beside a refusal

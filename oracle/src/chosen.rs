@@ -258,11 +258,13 @@ fn file_text(random: &mut Random, pads: &Pads) -> Vec<u8> {
     text.into_bytes()
 }
 
-const FIELDS: [&str; 20] = [
+const FIELDS: [&str; 25] = [
     "",
     "0",
     "007",
+    "x",
     "1O",
+    "0O",
     "O1",
     "1",
     "2",
@@ -277,6 +279,9 @@ const FIELDS: [&str; 20] = [
     "9999999999",
     "4294967298",
     "12345678901",
+    "5\r",
+    "1234567890x",
+    "12345678901x",
     " 5",
     "\"5\"",
 ];

@@ -12,6 +12,7 @@ use crate::expected::{by_library, expected, search_answer, Answer};
 use crate::grids::{check_beginning, runs_of};
 use crate::random::Random;
 use crate::smallest::smallest;
+use std::collections::BTreeMap;
 use std::time::{Duration, Instant};
 
 /// How far the comparison goes, and how far it has come.
@@ -56,10 +57,30 @@ impl ShownCalls {
     }
 }
 
+/// How many files were accepted (number 0), and how many refused, by number.
+#[derive(Default)]
+struct ShownFiles {
+    numbers: BTreeMap<u64, usize>,
+}
+
+impl ShownFiles {
+    /// Where a slice was too short for the answer, there is no number.
+    fn count(&mut self, answer: &Answer) {
+        if answer.returned > 0 {
+            *self.numbers.entry(answer.numbers[0]).or_default() += 1;
+        }
+    }
+
+    fn figures(&self) -> String {
+        format!("files by number: {:?}", self.numbers)
+    }
+}
+
 /// Each kind of case has numbers of its own, so that a seed gives the same
 /// cases however long the others take.
 struct Comparison {
     shown_calls: ShownCalls,
+    shown_files: ShownFiles,
     boards: Random,
     grid_numbers: Random,
     declined: Random,
@@ -80,6 +101,7 @@ impl Comparison {
     fn new(seed: u64) -> Self {
         Comparison {
             shown_calls: ShownCalls::default(),
+            shown_files: ShownFiles::default(),
             boards: Random::new(seed),
             grid_numbers: Random::new(seed.wrapping_add(1 << 32)),
             declined: Random::new(seed.wrapping_add(2 << 32)),
@@ -110,6 +132,12 @@ impl Comparison {
             self.records,
             self.done.files
         )
+    }
+
+    fn print_end(&self) {
+        println!("{}; no difference", self.figures());
+        println!("{}", self.shown_calls.figures());
+        println!("{}", self.shown_files.figures());
     }
 
     fn show_progress(&mut self) {
@@ -195,8 +223,10 @@ impl Comparison {
 
     fn compare_file(&mut self) {
         let case = file_case(&mut self.file_numbers);
-        self.hold(&case, &expected(&case));
+        let answer = expected(&case);
+        self.hold(&case, &answer);
         self.done.files += 1;
+        self.shown_files.count(&answer);
     }
 
     /// Cases of one kind for a twentieth of a second.
@@ -261,8 +291,7 @@ pub fn compare_for(seconds: u64, seed: u64) {
         comparison.compare_declined();
         comparison.show_progress();
     }
-    println!("{}; no difference", comparison.figures());
-    println!("{}", comparison.shown_calls.figures());
+    comparison.print_end();
 }
 
 /// Compares until so many board calls, searches and files are done.
@@ -291,6 +320,5 @@ pub fn compare_counts(wanted: Counts, seed: u64) {
         comparison.compare_declined();
         comparison.show_progress();
     }
-    println!("{}; no difference", comparison.figures());
-    println!("{}", comparison.shown_calls.figures());
+    comparison.print_end();
 }

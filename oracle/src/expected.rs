@@ -1,5 +1,5 @@
 // What a case must give: by the reference where the call is accepted, by the
-// numbers of document 01 where it is declined, and for a file by the reader
+// numbers of the documents where it is declined, and for a file by the reader
 // of routes.rs. And what the library gives for the same case.
 
 use crate::answers::{limited, make_call, read_state, whole, Call, Pads, Run, State};
@@ -61,7 +61,7 @@ pub fn board_room(grid: &Given, calls: usize) -> usize {
     calls * (3 + pads.record_length() + pads.cells.len())
 }
 
-/// A board of the reference with the refusals of document 01.
+/// A board of the reference with the refusals of the documents.
 struct Guarded {
     refusal: (u64, u64),
     pads: Pads,

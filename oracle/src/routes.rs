@@ -1,14 +1,18 @@
 // What the program `routes` prints for a file. The file is read here in
-// another way than by a walk over its bytes: every refusal of document 01 is
-// looked for by itself, and the one at the first byte counts, lowest first.
+// another way than by a walk over its bytes: every refusal of the documents is
+// looked for by itself, and the one at the first byte counts, there the one
+// that is tested first.
 
 use crate::answers::{limited, Pads, Run, LINE};
 use crate::grids::{LIMIT, ROOM};
 
 const LARGEST: u64 = 2147483646;
 
-/// A refusal and the byte where it applies; ordered by byte, then by number
-/// (6 before all others at one byte).
+/// The numbers in the order in which they are tested at one byte.
+const TESTED: [usize; 7] = [6, 1, 13, 2, 3, 4, 5];
+
+/// A refusal and the byte where it applies; ordered by byte, then by the
+/// place of its number among those tested.
 #[derive(Clone, Copy, PartialEq, Eq, PartialOrd, Ord)]
 struct Refusal {
     byte: usize,
@@ -19,9 +23,10 @@ struct Refusal {
 }
 
 fn refusal(byte: usize, number: usize, line: usize, field: usize) -> Refusal {
+    let rank = TESTED.iter().position(|tested| *tested == number);
     Refusal {
         byte,
-        rank: number % 6,
+        rank: rank.expect("a number of a file"),
         number,
         line,
         field,
@@ -79,11 +84,13 @@ fn size(fields: &[Field]) -> Option<(usize, usize)> {
     Some((good(header[0])? as usize, good(header[1])? as usize))
 }
 
-/// Refusals 1 to 4 of one field, on a line that must have `wanted` fields.
+/// Refusals 1, 13, 2, 3 and 4 of one field, on a line that must have `wanted`
+/// fields. What stands before its first disallowed byte are digits.
 fn field_refusals(field: &Field, wanted: usize, ended: bool, found: &mut Vec<Refusal>) {
     let (line, number) = (field.line, field.field);
     if let Some(at) = field.text.iter().position(|byte| !byte.is_ascii_digit()) {
-        found.push(refusal(field.start + at, 1, line, number));
+        let disallowed = if at == 0 { 1 } else { 13 };
+        found.push(refusal(field.start + at, disallowed, line, number));
     }
     if field.text.len() > 10 {
         found.push(refusal(field.start + 10, 2, line, number));

@@ -13,7 +13,7 @@ use lib.Dec.{leb}
 use borrow.Author.Tests.{leb-true, lt-ltb, le-ltb, ne-eqb, eq-eqb, not-true, not-false}
 use Rattle.rules.specs.Tests.{both}
 use Rattle.model.specs.Bounds.{most-digits}
-use Rattle.model.specs.GridFile.{is-digit, is-comma, is-line-end}
+use Rattle.model.specs.GridFile.{is-digit, is-comma, is-line-end, disallowed-number}
 use Rattle.gridfile.specs.Fields.{ended-field, field-from, field-at}
 use Rattle.gridfile.specs.declared.Field.the-variants.{Value, Refused}
 
@@ -25,8 +25,8 @@ digit-bounds byte h = let (low, high) = both (leb 48 byte) (leb byte 57) h in (l
 
 -- ## The end of a field
 
-module _ (byte value at : ℕ) where
-  pub neither : (byte ≡ 44 → ⊥) → (byte ≡ 10 → ⊥) → Refused 1 ≡ ended-field byte value at
+module _ (byte digits value at : ℕ) where
+  pub neither : (byte ≡ 44 → ⊥) → (byte ≡ 10 → ⊥) → Refused (disallowed-number digits) ≡ ended-field byte digits value at
   unfolding ended-field is-comma is-line-end
   neither c l = simp (ne-eqb _ _ c, ne-eqb _ _ l)
 
@@ -35,18 +35,18 @@ module _ (byte value at : ℕ) where
   separates (inl e) = simp (eq-eqb _ _ e)
   separates (inr e) = rw e
 
-  pub too-large : (byte ≡ 44) ⊎ (byte ≡ 10) → 2147483646 < value → Refused 3 ≡ ended-field byte value at
+  pub too-large : (byte ≡ 44) ⊎ (byte ≡ 10) → 2147483646 < value → Refused 3 ≡ ended-field byte digits value at
   unfolding ended-field
   too-large s h = simp (separates s, lt-ltb _ _ h)
 
-  pub sound-value : (byte ≡ 44) ⊎ (byte ≡ 10) → value ≤ 2147483646 → Value value at ≡ ended-field byte value at
+  pub sound-value : (byte ≡ 44) ⊎ (byte ≡ 10) → value ≤ 2147483646 → Value value at ≡ ended-field byte digits value at
   unfolding ended-field
   sound-value s h = simp (separates s, le-ltb _ _ h)
 
 -- ## One byte more of a field
 
 module _ (bytes : List ℕ) (at digits value : ℕ) where
-  pub field-stops : at < length bytes → is-digit (getD bytes at 0) ≡ false → field-from (drop at bytes) at digits value ≡ ended-field (getD bytes at 0) value at
+  pub field-stops : at < length bytes → is-digit (getD bytes at 0) ≡ false → field-from (drop at bytes) at digits value ≡ ended-field (getD bytes at 0) digits value at
   unfolding field-from
   field-stops h d = simp (drop-cons bytes at 0 h, d)
 

@@ -16,7 +16,7 @@ use borrow.Author.Tests.{ltb-false, eqb-true, lt-ltb, le-ltb, ne-eqb, eq-eqb}
 use Rattle.rules.specs.Grid.{largest-code}
 use Rattle.model.specs.Bounds.{is-size, most-digits}
 use Rattle.model.specs.GridFile as model
-use Rattle.model.specs.GridFile.{Standing, is-digit, is-comma, is-line-end, is-allowed, is-complete, in-header, fields-due, field-cell, bad-size, refusal, with-digit, begun, after, accepted, declined, read-from, no-cells}
+use Rattle.model.specs.GridFile.{Standing, is-digit, is-comma, is-line-end, is-allowed, disallowed-number, is-complete, in-header, fields-due, field-cell, bad-size, refusal, with-digit, begun, after, accepted, declined, read-from, no-cells}
 use Rattle.gridfile.specs.Fields.{ended-field, field-from, field-at, field-number, cell-of}
 use Rattle.gridfile.specs.Answers.{declined-reading, field-start}
 use Rattle.gridfile.specs.declared.Field.{Field}
@@ -96,9 +96,9 @@ module _ (s : Standing) (open-yet : is-complete s ≡ false) where
     unfolding refusal is-allowed in-field
     digit-accepted d e = simp (still-open digits value, d, e, no-comma byte d, no-line-end byte d)
 
-    refusal-1 : is-digit byte ≡ false → is-comma byte ≡ false → is-line-end byte ≡ false → refusal (in-field s digits value) byte ≡ 1
+    refusal-disallowed : is-digit byte ≡ false → is-comma byte ≡ false → is-line-end byte ≡ false → refusal (in-field s digits value) byte ≡ disallowed-number digits
     unfolding refusal is-allowed in-field
-    refusal-1 d c l = simp (still-open digits value, d, c, l)
+    refusal-disallowed d c l = simp (still-open digits value, d, c, l)
 
     separated : is-comma byte || is-line-end byte ≡ true → is-allowed byte ≡ true
     unfolding is-allowed
@@ -115,8 +115,8 @@ module _ (s : Standing) (open-yet : is-complete s ≡ false) where
 
   module _ (bytes : List ℕ) (from : ℕ) where
     -- at a byte that is no digit
-    ended-read : (byte : ℕ) (rest : List ℕ) (at value : ℕ) → drop at bytes ≡ byte ∷ rest → is-digit byte ≡ false → read-from (in-field s (at - from) value) (byte ∷ rest) ≡ field-read s bytes from (ended-field byte value at)
-    unfolding declined declined-reading field-read ended-field in-field
+    ended-read : (byte : ℕ) (rest : List ℕ) (at value : ℕ) → drop at bytes ≡ byte ∷ rest → is-digit byte ≡ false → read-from (in-field s (at - from) value) (byte ∷ rest) ≡ field-read s bytes from (ended-field byte (at - from) value at)
+    unfolding disallowed-number declined declined-reading field-read ended-field in-field
     ended-read byte rest at value e d = go (is-comma byte) (is-line-end byte) (ltb largest-code value) refl refl refl
       where
         here : Standing
@@ -125,8 +125,12 @@ module _ (s : Standing) (open-yet : is-complete s ≡ false) where
         three : (c l : Bool) → is-comma byte ≡ c → is-line-end byte ≡ l → c || l ≡ true → ltb largest-code value ≡ true → read-from here (byte ∷ rest) ≡ declined 3 here
         three c l p q t v = byte-refused here byte rest (refusal-3 byte (at - from) value d (rw (p, q) t) v)
 
-        go : (c l v : Bool) → is-comma byte ≡ c → is-line-end byte ≡ l → ltb largest-code value ≡ v → read-from here (byte ∷ rest) ≡ field-read s bytes from (ended-field byte value at)
-        go false false v p q r = byte-refused here byte rest (refusal-1 byte (at - from) value d p q) ∙ simp (p, q)
+        disallowed : (first : Bool) → eqb (at - from) 0 ≡ first → is-comma byte ≡ false → is-line-end byte ≡ false → read-from here (byte ∷ rest) ≡ declined-reading (disallowed-number (at - from)) (s .line) (s .field)
+        disallowed true f c l = byte-refused here byte rest {number = 0} (refusal-disallowed byte (at - from) value d c l ∙ simp f) ∙ simp f
+        disallowed false f c l = byte-refused here byte rest {number = 12} (refusal-disallowed byte (at - from) value d c l ∙ simp f) ∙ simp f
+
+        go : (c l v : Bool) → is-comma byte ≡ c → is-line-end byte ≡ l → ltb largest-code value ≡ v → read-from here (byte ∷ rest) ≡ field-read s bytes from (ended-field byte (at - from) value at)
+        go false false v p q r = disallowed (eqb (at - from) 0) refl p q ∙ simp (p, q)
         go true l true p q r = three true l p q refl r ∙ simp (p, r)
         go false true true p q r = three false true p q refl r ∙ simp (p, q, r)
         go true l false p q r = simp (p, r, e)
@@ -165,9 +169,9 @@ pub record Ended (bytes : List ℕ) (at value end : ℕ) : Type 0 where
 different : {number value at : ℕ} {A : Type 0} → Refused number ≡ Value value at → A
 different h = let z : _≡_ {A = ℕ} 0 1 = cc in absurd (omega arith)
 
-ended-inside : (bytes : List ℕ) (byte : ℕ) (rest : List ℕ) (at value v end : ℕ) → drop at bytes ≡ byte ∷ rest → ended-field byte value at ≡ Value v end → Ended bytes at v end
+ended-inside : (bytes : List ℕ) (byte : ℕ) (rest : List ℕ) (at digits value v end : ℕ) → drop at bytes ≡ byte ∷ rest → ended-field byte digits value at ≡ Value v end → Ended bytes at v end
 unfolding ended-field
-ended-inside bytes byte rest at value v end e h = go (is-comma byte) (is-line-end byte) (ltb largest-code value) refl refl refl
+ended-inside bytes byte rest at digits value v end e h = go (is-comma byte) (is-line-end byte) (ltb largest-code value) refl refl refl
   where
     same : Value value at ≡ Value v end → ltb largest-code value ≡ false → (is-comma byte ≡ true) ⊎ (is-line-end byte ≡ true) → Ended bytes at v end
     same k big t =
@@ -193,7 +197,7 @@ value-inside bytes [] at digits value v end e h = different h
 value-inside bytes (byte ∷ rest) at digits value v end e h = go (is-digit byte) (eqb digits most-digits) refl refl (value-inside bytes rest (at + 1) (digits + 1) (value * 10 + (byte - 48)) v end (drop-next bytes byte rest at e))
   where
     go : (d m : Bool) → is-digit byte ≡ d → eqb digits most-digits ≡ m → (field-from rest (at + 1) (digits + 1) (value * 10 + (byte - 48)) ≡ Value v end → Ended bytes (at + 1) v end) → Ended bytes at v end
-    go false m p q again = ended-inside bytes byte rest at value v end e (simp p at h)
+    go false m p q again = ended-inside bytes byte rest at digits value v end e (simp p at h)
     go true true p q again = different (simp (p, q) at h)
     go true false p q again = let r : Ended bytes (at + 1) v end = again (simp (p, q) at h) in record { reached = omega (arith, r .reached); inside = r .inside; sound = r .sound; parted = r .parted }
 

@@ -1,5 +1,5 @@
 -- What one field of a grid file gives, from its first byte on: its value and the place of the byte that ends it, or the
--- number of its refusal. These are the refusals of document 01 that a field can have by itself: 1, 2, 3, and 6 where the
+-- number of its refusal. These are the documents' refusals that a field can have by itself: 1, 13, 2, 3, and 6 where the
 -- file ends in it. Assumes nothing.
 use Rattle.model.specs.Choice.{if_then_else_}
 use Prim.Native.Nat.{ℕ, _+_, _*_, _-_}
@@ -10,14 +10,15 @@ use lib.Dec.{eqb, ltb}
 use lib.IntN.{ℤ, pos}
 use Rattle.rules.specs.Grid.{largest-code}
 use Rattle.model.specs.Bounds.{most-digits}
-use Rattle.model.specs.GridFile.{is-digit, is-comma, is-line-end, blank}
+use Rattle.model.specs.GridFile.{is-digit, is-comma, is-line-end, disallowed-number, blank}
 use Rattle.gridfile.specs.declared.Field.{Field}
 use Rattle.gridfile.specs.declared.Field.the-variants.{Value, Refused}
 
--- at a byte that is no digit: 1 if it may not stand in a file, 3 if the value is too large, else the field has ended
-unfoldable pub ended-field : ℕ → ℕ → ℕ → Field
-ended-field byte value at =
-    if not (is-comma byte) && not (is-line-end byte) then Refused 1
+-- at a byte that is no digit, after some digits with a value: 1 or 13 if it is disallowed, 3 if the value is too large, else
+-- the field has ended
+unfoldable pub ended-field : ℕ → ℕ → ℕ → ℕ → Field
+ended-field byte digits value at =
+    if not (is-comma byte) && not (is-line-end byte) then Refused (disallowed-number digits)
     else if ltb largest-code value then Refused 3
     else Value value at
 
@@ -25,7 +26,7 @@ ended-field byte value at =
 unfoldable pub field-from : List ℕ → ℕ → ℕ → ℕ → Field
 field-from [] at digits value = Refused 6
 field-from (byte ∷ bytes) at digits value =
-    if not (is-digit byte) then ended-field byte value at
+    if not (is-digit byte) then ended-field byte digits value at
     else if eqb digits most-digits then Refused 2
     else field-from bytes (at + 1) (digits + 1) (value * 10 + (byte - 48))
 
@@ -37,7 +38,7 @@ field-at bytes from = field-from (drop from bytes) from 0 0
 unfoldable pub cell-of : ℕ → ℕ → ℤ
 cell-of digits value = if eqb digits 0 then blank else pos value
 
--- document 01's number: 0 for a value
+-- the documents' number: 0 for a value
 abbrev pub field-number : Field → ℕ
 field-number (Value value at) = 0
 field-number (Refused number) = number

@@ -6,7 +6,7 @@ ghost use Prim.Native.Nat.{_+_, _-_, _*_, _≤_, _<_};
 ghost use lib.ListN.{length, drop, set};
 ghost use Rattle.rules.specs.Grid.{largest-code};
 ghost use Rattle.model.specs.Bounds.{is-size};
-ghost use Rattle.model.specs.GridFile.{is-digit, no-cells, read-from, read};
+ghost use Rattle.model.specs.GridFile.{is-digit, disallowed-number, no-cells, read-from, read};
 ghost use Rattle.gridfile.specs.Fields.{field-at, ended-field, field-number, cell-of};
 ghost use Rattle.gridfile.specs.Answers.{reading-says, declined-reading, field-start};
 
@@ -43,13 +43,23 @@ fn is_digit(byte: u8) -> bool
     ZERO <= byte && byte <= NINE
 }
 
-// A field that ends, or should end, at a byte that is no digit.
-fn ended_field(byte: u8, value: usize, at: usize) -> Field
-    ensures { λ r. ⌜ r ≡ ended-field byte value at ⌝ }
+// The number of a disallowed byte in a field that has so many digits before it: a stray byte, or a letter typed for a digit.
+fn disallowed_number(digits: usize) -> u8
+    ensures { λ r. ⌜ r ≡ disallowed-number digits ⌝ }
+{
+    if digits == 0 {
+        return 1;
+    }
+    13
+}
+
+// A field that ends, or should end, at a byte that is no digit, after some digits with a value.
+fn ended_field(byte: u8, digits: usize, value: usize, at: usize) -> Field
+    ensures { λ r. ⌜ r ≡ ended-field byte digits value at ⌝ }
 {
     if byte != COMMA {
         if byte != LINE_END {
-            return Field::Refused(1);
+            return Field::Refused(disallowed_number(digits));
         }
     }
     if value > grid::LARGEST_CODE as usize {
@@ -67,7 +77,7 @@ fn field_at(bytes: &[u8], from: usize) -> Field
     while at < bytes.len() {
         let byte = bytes[at];
         if !is_digit(byte) {
-            return ended_field(byte, value, at);
+            return ended_field(byte, at - from, value, at);
         }
         if at - from == MOST_DIGITS {
             return Field::Refused(2);

@@ -1,5 +1,5 @@
 -- Reading a grid file: from its bytes to a refusal with its line and field, or to H, W and 256 cells.
--- The file is read byte by byte. `refusal` has document 01's numbers in the order in which they are tested at one byte,
+-- The file is read byte by byte. `refusal` has the documents' numbers in the order in which they are tested at one byte,
 -- `after` says what an accepted byte does, and `read` stops at the first byte where a number applies. Assumes nothing.
 use Rattle.model.specs.Choice.{if_then_else_}
 use Prim.Native.Nat.{ℕ, zero, suc, _+_, _*_, _-_}
@@ -25,9 +25,14 @@ is-comma byte = eqb byte 44
 unfoldable pub is-line-end : ℕ → Bool
 is-line-end byte = eqb byte 10
 
--- any other byte has no place in a file
+-- any other byte is disallowed
 unfoldable pub is-allowed : ℕ → Bool
 is-allowed byte = is-digit byte || is-comma byte || is-line-end byte
+
+-- the number of a disallowed byte in a field that has so many digits before it: 1 at the field's start (a leading space
+-- or quote mark), 13 after a digit (a letter typed for a digit)
+unfoldable pub disallowed-number : ℕ → ℕ
+disallowed-number digits = if eqb digits 0 then 1 else 13
 
 -- a cell is -1 for blank, else its code
 unfoldable pub blank : ℤ
@@ -78,7 +83,7 @@ bad-size s = if not (is-size (s .height)) then 1 else if not (is-size (s .value)
 
 -- the number that applies at a byte, 0 if none does: the first of these that holds
 --   6 a byte after the last row (tested before 1)
---   1 not a digit, comma or 0A
+--   1 not a digit, comma or 0A, or 13 if it comes after a digit of its field
 --   2 an eleventh digit
 --   3 the ended field exceeds the largest code
 --   4 too few fields at a line's end, or a comma after the last
@@ -86,7 +91,7 @@ bad-size s = if not (is-size (s .height)) then 1 else if not (is-size (s .value)
 unfoldable pub refusal : Standing → ℕ → ℕ
 refusal s byte =
     if is-complete s then 6
-    else if not (is-allowed byte) then 1
+    else if not (is-allowed byte) then disallowed-number (s .digits)
     else if is-digit byte && eqb (s .digits) most-digits then 2
     else if not (is-digit byte) && ltb largest-code (s .value) then 3
     else if is-line-end byte && ltb (s .field) (fields-due s) then 4

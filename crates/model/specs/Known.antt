@@ -1,4 +1,4 @@
--- The known grids K1 to K12 of document 01, proved together as one fact of the definitions, by computation: `known-grids`, at the end.
+-- The known grids K1 to K12 of the documents, proved together as one fact of the definitions, by computation: `known-grids`, at the end.
 -- Nothing else is assumed; the definitions are those of the search, the ends and the grid file.
 use Prim.Native.Nat.{ℕ, _*_}
 use mathlib.Core.Path.{_≡_, refl}
@@ -14,7 +14,7 @@ use Rattle.model.specs.Refusals.{grid-refusal, is-cell, first-bad-cell}
 use Rattle.model.specs.Records.{has-record, record-length, record-at}
 use Rattle.model.specs.Search.{Solved, solve, concat, scan, search, fewest, backtrack, try, degree-so-far, next-pad, board-record}
 
--- what document 01 tells of a grid: layouts, visited, fewest, and the codes of each layout
+-- what the documents tell of a grid: layouts, visited, fewest, and the codes of each layout
 pub record Known : Type 0 where
   pub layouts : ℕ
   pub visited : ℕ
@@ -62,7 +62,7 @@ pub record KnownGrids : Type 0 where
       × (end-number (fresh (grid-of 2 2 (pos 0 ∷ pos 2147483646 ∷ blank-cell ∷ blank-cell ∷ [])) .end 1) ≡ negsuc 2147483647)
   -- field 2147483646 is read, 2147483647 gives 3
   pub K10 : Largest-code-read
-  -- `1O` first in line 2 gives 1, line 2, field 1
+  -- `1O` first in line 2 gives 13, line 2, field 1
   pub K11 : Letter-refused
   -- header `1,2` gives 5, line 1, field 1
   pub K12 : One-row-refused

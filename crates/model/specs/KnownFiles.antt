@@ -1,5 +1,5 @@
--- Known grid files and what is printed for them, by computation: K10, K11 and K12 of document 01, accepted files, each
--- refusal at its place, and the two texts that document 01 shows. The statements come first; `known-files` and
+-- Known grid files and what is printed for them, by computation: K10, K11 and K12 of the documents, accepted files, each
+-- refusal at its place, and the two texts that the documents show. The statements come first; `known-files` and
 -- `known-texts` prove them all, each by `refl`.
 use Prim.Native.Nat.{ℕ, zero, suc}
 use mathlib.Core.Path.{_≡_, refl}
@@ -8,7 +8,7 @@ use lib.ListN.{length, replicate, getD}
 use lib.IntN.{ℤ, pos}
 use Rattle.model.specs.Bounds.{is-size, most-digits}
 use Rattle.model.specs.Text.{bytes}
-use Rattle.model.specs.GridFile.{is-digit, is-comma, is-line-end, is-allowed, blank, no-cells, start, in-header, fields-due, is-complete, field-cell, bad-size, refusal, with-digit, begun, after, accepted, declined, read-from, read}
+use Rattle.model.specs.GridFile.{is-digit, is-comma, is-line-end, is-allowed, disallowed-number, blank, no-cells, start, in-header, fields-due, is-complete, field-cell, bad-size, refusal, with-digit, begun, after, accepted, declined, read-from, read}
 use Rattle.rules.specs.Record.{record-lines}
 use Rattle.model.specs.Printed.{digit-byte, digits-before, decimal, line-at, right-line, down-line, code-of-pad, code-digits-from, code-digits, comma, line-end, summary-line, layout-line, refusal-line, Found, layout-lines, found-text, reading-text, printed}
 
@@ -37,9 +37,9 @@ K10 =
     × (cell (bytes "2,2\n2147483646,\n,\n") 0 ≡ pos 2147483646)
     × (answer (bytes "2,2\n2147483647,\n,\n") ≡ names 3 2 1)
 
--- `1O` first in line 2 gives 1, line 2, field 1
+-- `1O` first in line 2 gives 13, line 2, field 1
 abbrev pub K11 : Type 0
-K11 = answer (bytes "2,2\n1O,\n,1O\n") ≡ names 1 2 1
+K11 = answer (bytes "2,2\n1O,\n,1O\n") ≡ names 13 2 1
 
 -- header `1,2` gives 5, line 1, field 1
 abbrev pub K12 : Type 0
@@ -80,20 +80,37 @@ Longest-read =
 
 -- ## Refused files
 
--- 1: not a digit, comma or 0A: first of all, after a digit, in the last field; a return (0D) is no line end
+-- 1: not a digit, comma or 0A at the start of its field: in the header, in a row, in the last field, also where the field
+-- before has a digit
 abbrev pub Refused-1 : Type 0
 Refused-1 =
     (answer (bytes " 2,2\n") ≡ names 1 1 1)
-    × (answer (bytes "2,2\r\n") ≡ names 1 1 2)
-    × (answer (bytes "2,2\n,\n,1O\n") ≡ names 1 3 2)
+    × (answer (bytes "2,x2\n") ≡ names 1 1 2)
+    × (answer (bytes "2,2\nx,\n,\n") ≡ names 1 2 1)
+    × (answer (bytes "2,2\nO1,\n,O1\n") ≡ names 1 2 1)
+    × (answer (bytes "2,2\n5,\n5,\"5\"\n") ≡ names 1 3 2)
     × (answer (0 ∷ []) ≡ names 1 1 1)
-    × (answer (bytes "2,2\n,\n5" ++ 255 ∷ []) ≡ names 1 3 1)
 
--- 2: an eleventh digit
+-- 13: not a digit, comma or 0A after a digit of its field: in the header, in a row, in the last field; after a 0, which has
+-- no value yet, and after ten digits; a return (0D) is no line end
+abbrev pub Refused-13 : Type 0
+Refused-13 =
+    (answer (bytes "2x,2\n") ≡ names 13 1 1)
+    × (answer (bytes "2,2\r\n") ≡ names 13 1 2)
+    × (answer (bytes "2,1234567890x\n") ≡ names 13 1 2)
+    × (answer (bytes "2,2\n1x,\n,\n") ≡ names 13 2 1)
+    × (answer (bytes "2,2\n,\n,1O\n") ≡ names 13 3 2)
+    × (answer (bytes "2,2\n0x,\n,\n") ≡ names 13 2 1)
+    × (answer (bytes "2,2\n1234567890x,\n,\n") ≡ names 13 2 1)
+    × (answer (bytes "2,2\n,\n5" ++ 255 ∷ []) ≡ names 13 3 1)
+
+-- 2: an eleventh digit, also where a letter comes after it
 abbrev pub Refused-2 : Type 0
 Refused-2 =
     (answer (bytes "2,00000000002\n") ≡ names 2 1 2)
+    × (answer (bytes "12345678901x,2\n") ≡ names 2 1 1)
     × (answer (bytes "2,2\n00000000005,\n,\n") ≡ names 2 2 1)
+    × (answer (bytes "2,2\n12345678901x,\n,\n") ≡ names 2 2 1)
     × (answer (replicate 4096 49) ≡ names 2 1 1)
 
 -- 3: the ended field exceeds 2147483646, also where 4 or 5 would apply
@@ -139,8 +156,8 @@ Declined-read =
 
 pub known-files :
     K10 × K11 × K12 × Example-read × Leading-zeros × Longest-read
-    × Refused-1 × Refused-2 × Refused-3 × Refused-4 × Refused-5 × Refused-6 × Declined-read
-unfolding is-size most-digits bytes is-digit is-comma is-line-end is-allowed blank no-cells start in-header fields-due is-complete field-cell bad-size refusal with-digit begun after accepted declined read-from read answer cell longest-row longest-rows longest-file
+    × Refused-1 × Refused-13 × Refused-2 × Refused-3 × Refused-4 × Refused-5 × Refused-6 × Declined-read
+unfolding is-size most-digits bytes is-digit is-comma is-line-end is-allowed disallowed-number blank no-cells start in-header fields-due is-complete field-cell bad-size refusal with-digit begun after accepted declined read-from read answer cell longest-row longest-rows longest-file
 known-files = (
   (refl, refl, refl),
   refl,
@@ -148,8 +165,9 @@ known-files = (
   refl,
   (refl, refl, refl),
   (refl, refl),
+  (refl, refl, refl, refl, refl, refl),
+  (refl, refl, refl, refl, refl, refl, refl, refl),
   (refl, refl, refl, refl, refl),
-  (refl, refl, refl),
   (refl, refl, refl),
   (refl, refl, refl, refl, refl),
   (refl, refl, refl, refl, refl),
@@ -176,7 +194,7 @@ Example-printed =
 
 abbrev pub Refused-printed : Type 0
 Refused-printed =
-    printed (λ height width cells. example-found) (bytes "2,2\n1O,\n,1O\n") ≡ bytes "refused,1,2,1\n"
+    printed (λ height width cells. example-found) (bytes "2,2\n1O,\n,1O\n") ≡ bytes "refused,13,2,1\n"
 
 -- numbers in shortest digits, up to the largest of 64 bits
 abbrev pub Decimals : Type 0
@@ -189,5 +207,5 @@ Decimals =
     × (decimal 18446744073709551615 ≡ bytes "18446744073709551615")
 
 pub known-texts : Example-printed × Refused-printed × Decimals
-unfolding example-found is-size most-digits bytes is-digit is-comma is-line-end is-allowed blank no-cells start in-header fields-due is-complete field-cell bad-size refusal with-digit begun after accepted declined read-from read record-lines digit-byte digits-before decimal line-at right-line down-line code-of-pad code-digits-from code-digits comma line-end summary-line layout-line refusal-line layout-lines found-text reading-text printed
+unfolding example-found is-size most-digits bytes is-digit is-comma is-line-end is-allowed disallowed-number blank no-cells start in-header fields-due is-complete field-cell bad-size refusal with-digit begun after accepted declined read-from read record-lines digit-byte digits-before decimal line-at right-line down-line code-of-pad code-digits-from code-digits comma line-end summary-line layout-line refusal-line layout-lines found-text reading-text printed
 known-texts = (refl, refl, (refl, refl, refl, refl, refl, refl))

@@ -17,14 +17,23 @@ use Rattle.rules.specs.Grid.{Size, largest-code, blank-cell, CellInRange, Accep
 use Rattle.rules.specs.Tests.{both, conflict}
 use Rattle.model.specs.Bounds.{is-size, most-digits}
 use Rattle.model.specs.RefusalLaws.{size-of-test}
-use Rattle.model.specs.GridFile.{Standing, Reading, is-digit, is-comma, is-line-end, is-allowed, blank, no-cells, start, in-header, fields-due, is-complete, field-cell, bad-size, refusal, with-digit, begun, after, accepted, declined, read-from, read}
+use Rattle.model.specs.GridFile.{Standing, Reading, is-digit, is-comma, is-line-end, is-allowed, disallowed-number, blank, no-cells, start, in-header, fields-due, is-complete, field-cell, bad-size, refusal, with-digit, begun, after, accepted, declined, read-from, read}
 
 -- ## What an accepted byte says
 
 -- a test that would have given a number has failed
-passed : (test : Bool) (number rest : ℕ) → (if test then suc number else rest) ≡ 0 → (test ≡ false) × (rest ≡ 0)
-passed true number rest h = absurd (omega arith)
-passed false number rest h = (refl, h)
+passed : (test : Bool) (number rest : ℕ) → 1 ≤ number → (if test then number else rest) ≡ 0 → (test ≡ false) × (rest ≡ 0)
+passed true number rest some h = absurd (omega arith)
+passed false number rest some h = (refl, h)
+
+-- a disallowed byte has a number
+disallowed-some : (digits : ℕ) → 1 ≤ disallowed-number digits
+unfolding disallowed-number
+disallowed-some digits = go (eqb digits 0)
+  where
+    go : (first : Bool) → 1 ≤ (if first then 1 else 13)
+    go true = omega arith
+    go false = omega arith
 
 -- each test of `refusal` has failed
 pub record Passed (s : Standing) (byte : ℕ) : Type 0 where
@@ -39,13 +48,13 @@ pub record Passed (s : Standing) (byte : ℕ) : Type 0 where
 pub byte-passed : (s : Standing) (byte : ℕ) → refusal s byte ≡ 0 → Passed s byte
 unfolding refusal
 byte-passed s byte h =
-    let (p6, r6) = passed (is-complete s) 5 _ h in
-    let (p1, r1) = passed (not (is-allowed byte)) 0 _ r6 in
-    let (p2, r2) = passed (is-digit byte && eqb (s .digits) most-digits) 1 _ r1 in
-    let (p3, r3) = passed (not (is-digit byte) && ltb largest-code (s .value)) 2 _ r2 in
-    let (p4, r4) = passed (is-line-end byte && ltb (s .field) (fields-due s)) 3 _ r3 in
-    let (p4′, r4′) = passed (is-comma byte && eqb (s .field) (fields-due s)) 3 _ r4 in
-    let (p5, r5) = passed (is-line-end byte && in-header s && ltb 0 (bad-size s)) 4 _ r4′ in
+    let (p6, r6) = passed (is-complete s) 6 _ (omega arith) h in
+    let (p1, r1) = passed (not (is-allowed byte)) (disallowed-number (s .digits)) _ (disallowed-some (s .digits)) r6 in
+    let (p2, r2) = passed (is-digit byte && eqb (s .digits) most-digits) 2 _ (omega arith) r1 in
+    let (p3, r3) = passed (not (is-digit byte) && ltb largest-code (s .value)) 3 _ (omega arith) r2 in
+    let (p4, r4) = passed (is-line-end byte && ltb (s .field) (fields-due s)) 4 _ (omega arith) r3 in
+    let (p4′, r4′) = passed (is-comma byte && eqb (s .field) (fields-due s)) 4 _ (omega arith) r4 in
+    let (p5, r5) = passed (is-line-end byte && in-header s && ltb 0 (bad-size s)) 5 _ (omega arith) r4′ in
     record { unfinished = p6; allowed = p1; ten-digits = p2; in-range = p3; enough-fields = p4; no-more-fields = p4′; sizes = p5 }
 
 -- the three kinds of accepted bytes

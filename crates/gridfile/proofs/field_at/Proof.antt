@@ -23,6 +23,9 @@ shared-slice-read-byte c = omega arith
 is-digit-requires : tie.Need-is-digit-requires Inv-loop μ-loop
 is-digit-requires c κs = tt
 
+sub-ended-field : tie.Need-sub-ended-field Inv-loop μ-loop
+sub-ended-field c = omega arith
+
 ended-field-requires : tie.Need-ended-field-requires Inv-loop μ-loop
 ended-field-requires c κs = tt
 
@@ -68,6 +71,7 @@ field-at-spec =
     loop-holds
     shared-slice-read-byte
     is-digit-requires
+    sub-ended-field
     ended-field-requires
     returns
     sub-if2
