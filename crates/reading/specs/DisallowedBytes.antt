@@ -2,7 +2,7 @@
 -- exactly where the byte right before it is a digit. The reading counts the digits of the field that it is in; here stands what
 -- that count says of the bytes.
 use Rattle.model.specs.Choice.{if_then_else_}
-use mathlib.Core.Path.{_≡_, refl, sym, ap, _∙_}
+use mathlib.Core.Path.{_≡_, refl, ap, _∙_}
 use mathlib.Core.Bool.{Bool, true, false, not, _&&_}
 use mathlib.Core.List.{List, [], _∷_}
 use mathlib.Core.Logic.{_⊎_, inl, inr}
@@ -16,7 +16,7 @@ use Rattle.model.specs.Bounds.{most-digits}
 use Rattle.model.specs.GridFile.{Standing, is-digit, is-comma, is-line-end, is-allowed, disallowed-number, start, in-header, fields-due, is-complete, bad-size, refusal, with-digit, begun, after, accepted, declined, read-from, read}
 use Rattle.reading.specs.ReadingLaws.{byte-passed}
 
--- whether a digit stands right before a place of a text; `first` says it of the place where the text begins
+-- whether a digit stands right before a place of a text; `first` says whether one stands before the text itself
 unfoldable pub digit-before : Bool → List ℕ → ℕ → Bool
 digit-before first bytes zero = first
 digit-before first bytes (suc place) = is-digit (getD bytes place 0)
@@ -101,7 +101,8 @@ told-from first s (byte ∷ bytes) e n = go (refusal s byte) refl (told-from (is
         stopped : (is-allowed byte ≡ false) × (refusal s byte ≡ disallowed-number (s .digits)) → Disallowed first (byte ∷ bytes) (suc m)
         stopped (a, k) = rw (← r, k) (here first s byte bytes e a)
 
--- 1 and 13 are told of the first disallowed byte of a file, and 13 exactly where a digit stands right before it
+-- 1 and 13 are told of the first disallowed byte of a file, and 13 exactly where a digit stands right before it; before the file
+-- itself stands none
 pub disallowed-told : (file : List ℕ) → (read file .number ≡ 1) ⊎ (read file .number ≡ 13) → Disallowed false file (read file .number)
 unfolding read start
 disallowed-told file n = told-from false start file refl n

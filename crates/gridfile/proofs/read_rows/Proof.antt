@@ -4,7 +4,6 @@ use Rattle.gridfile.proofs.RowLaws.{Reached, rows-begin, row-refused, i
 use Rattle.gridfile.proofs.ReadLaws.{value-ended, refused-number}
 use Rattle.model.specs.RefusalLaws.{size-of-test}
 use mathlib.Core.Path.{sym, _∙_}
-use Rattle.gridfile.proofs.RowLaws.{Reached, rows-begin, row-refused, index-inside, too-short, too-long, next-row, next-field}
 use lib.ListN.{length}
 use Prim.Native.Nat.{_-_}
 use native.Mathlib.Omega.{arith}
