@@ -1,5 +1,5 @@
 -- Known grid files and what is printed for them, by computation: K10, K11 and K12 of the documents, accepted files, each
--- refusal at its place, and the two texts that the documents show. The statements come first; `known-files` and
+-- refusal at its place, and the texts that the documents show. The statements come first; `known-files` and
 -- `known-texts` prove them all, each by `refl`.
 use Prim.Native.Nat.{ℕ, zero, suc}
 use mathlib.Core.Path.{_≡_, refl}
@@ -194,7 +194,8 @@ Example-printed =
 
 abbrev pub Refused-printed : Type 0
 Refused-printed =
-    printed (λ height width cells. example-found) (bytes "2,2\n1O,\n,1O\n") ≡ bytes "refused,13,2,1\n"
+    (printed (λ height width cells. example-found) (bytes "2,2\n1O,\n,1O\n") ≡ bytes "refused,13,2,1\n")
+    × (printed (λ height width cells. example-found) (bytes "2,2\n 10,\n,10\n") ≡ bytes "refused,1,2,1\n")
 
 -- numbers in shortest digits, up to the largest of 64 bits
 abbrev pub Decimals : Type 0
@@ -208,4 +209,4 @@ Decimals =
 
 pub known-texts : Example-printed × Refused-printed × Decimals
 unfolding example-found is-size most-digits bytes is-digit is-comma is-line-end is-allowed disallowed-number blank no-cells start in-header fields-due is-complete field-cell bad-size refusal with-digit begun after accepted declined read-from read record-lines digit-byte digits-before decimal line-at right-line down-line code-of-pad code-digits-from code-digits comma line-end summary-line layout-line refusal-line layout-lines found-text reading-text printed
-known-texts = (refl, refl, (refl, refl, refl, refl, refl, refl))
+known-texts = (refl, (refl, refl), (refl, refl, refl, refl, refl, refl))
