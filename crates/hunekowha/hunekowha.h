@@ -27,7 +27,8 @@
  *   4  too few fields in a line, or too many
  *   5  a height or width that is empty or outside 2 to 16
  *   6  the file ends before its last row does, or goes on after it
- *  13  a byte that is no digit, no comma and no line end, after a digit of its field: a letter typed for a digit
+ *  13  a byte that is no digit, no comma and no line end, after a digit of its field: a letter typed for a digit, or a
+ *      space or a return (0D hexadecimal) behind a number
  * A grid, for a board or a search:
  *   7  a height or width outside 2 to 16
  *   8  the number of cells is not height * width

@@ -43,7 +43,7 @@ fn is_digit(byte: u8) -> bool
     ZERO <= byte && byte <= NINE
 }
 
-// The number of a disallowed byte in a field that has so many digits before it: a stray byte, or a letter typed for a digit.
+// The number of a disallowed byte in a field that has so many digits before it: 1 at the field's start, 13 after a digit.
 fn disallowed_number(digits: usize) -> u8
     ensures { λ r. ⌜ r ≡ disallowed-number digits ⌝ }
 {

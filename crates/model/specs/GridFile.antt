@@ -30,7 +30,7 @@ unfoldable pub is-allowed : ℕ → Bool
 is-allowed byte = is-digit byte || is-comma byte || is-line-end byte
 
 -- the number of a disallowed byte in a field that has so many digits before it: 1 at the field's start (a leading space
--- or quote mark), 13 after a digit (a letter typed for a digit)
+-- or quote mark), 13 after a digit (a letter typed for a digit, a return in front of the 0A)
 unfoldable pub disallowed-number : ℕ → ℕ
 disallowed-number digits = if eqb digits 0 then 1 else 13
 

@@ -31,9 +31,10 @@ pub record Disallowed (first : Bool) (bytes : List ℕ) (number : ℕ) : Type 0 
 
 -- ## At one byte
 
-neither : (number : ℕ) {A : Type 0} → eqb number 1 ≡ false → eqb number 13 ≡ false → (number ≡ 1) ⊎ (number ≡ 13) → A
-neither number a b (inl e) = absurd (eqb-false number 1 a e)
-neither number a b (inr e) = absurd (eqb-false number 13 b e)
+-- another number is neither 1 nor 13
+another : (number : ℕ) {A : Type 0} → eqb number 1 ≡ false → eqb number 13 ≡ false → (number ≡ 1) ⊎ (number ≡ 13) → A
+another number a b (inl e) = absurd (eqb-false number 1 a e)
+another number a b (inr e) = absurd (eqb-false number 13 b e)
 
 -- of all numbers only that of a disallowed byte is 1 or 13
 only-disallowed : (s : Standing) (byte : ℕ) → (refusal s byte ≡ 1) ⊎ (refusal s byte ≡ 13) → (is-allowed byte ≡ false) × (refusal s byte ≡ disallowed-number (s .digits))
@@ -44,14 +45,14 @@ only-disallowed s byte = go (is-complete s) (is-allowed byte) (is-digit byte && 
     told t6 a t2 t3 t4 t4′ t5 = if t6 then 6 else if not a then disallowed-number (s .digits) else if t2 then 2 else if t3 then 3 else if t4 then 4 else if t4′ then 4 else if t5 then 5 else 0
 
     go : (t6 a t2 t3 t4 t4′ t5 : Bool) → (told t6 a t2 t3 t4 t4′ t5 ≡ 1) ⊎ (told t6 a t2 t3 t4 t4′ t5 ≡ 13) → (a ≡ false) × (told t6 a t2 t3 t4 t4′ t5 ≡ disallowed-number (s .digits))
-    go true a t2 t3 t4 t4′ t5 n = neither 6 refl refl n
+    go true a t2 t3 t4 t4′ t5 n = another 6 refl refl n
     go false false t2 t3 t4 t4′ t5 n = (refl, refl)
-    go false true true t3 t4 t4′ t5 n = neither 2 refl refl n
-    go false true false true t4 t4′ t5 n = neither 3 refl refl n
-    go false true false false true t4′ t5 n = neither 4 refl refl n
-    go false true false false false true t5 n = neither 4 refl refl n
-    go false true false false false false true n = neither 5 refl refl n
-    go false true false false false false false n = neither 0 refl refl n
+    go false true true t3 t4 t4′ t5 n = another 2 refl refl n
+    go false true false true t4 t4′ t5 n = another 3 refl refl n
+    go false true false false true t4′ t5 n = another 4 refl refl n
+    go false true false false false true t5 n = another 4 refl refl n
+    go false true false false false false true n = another 5 refl refl n
+    go false true false false false false false n = another 0 refl refl n
 
 -- after an accepted byte the field has a digit exactly where that byte is one
 digits-after : (s : Standing) (byte : ℕ) → eqb (after s byte .digits) 0 ≡ not (is-digit byte)
@@ -90,8 +91,8 @@ unfolding read-from accepted declined
 told-from first s [] e n = go (is-complete s) refl
   where
     go : (c : Bool) → is-complete s ≡ c → Disallowed first [] (read-from s [] .number)
-    go true c = neither 0 refl refl (rw (c, read-from) at n)
-    go false c = neither 6 refl refl (rw (c, read-from) at n)
+    go true c = another 0 refl refl (rw (c, read-from) at n)
+    go false c = another 6 refl refl (rw (c, read-from) at n)
 told-from first s (byte ∷ bytes) e n = go (refusal s byte) refl (told-from (is-digit byte) (after s byte) bytes (digits-after s byte))
   where
     go : (m : ℕ) → refusal s byte ≡ m → ((read-from (after s byte) bytes .number ≡ 1) ⊎ (read-from (after s byte) bytes .number ≡ 13) → Disallowed (is-digit byte) bytes (read-from (after s byte) bytes .number)) → Disallowed first (byte ∷ bytes) (read-from s (byte ∷ bytes) .number)
