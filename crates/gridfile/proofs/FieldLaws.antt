@@ -9,19 +9,12 @@ use native.Mathlib.Numerals.{add-one}
 use native.Mathlib.Omega.{arith}
 use lib.ListN.{length, getD, drop, drop-of-length-le}
 use lib.Seq.{drop-cons}
-use lib.Dec.{leb}
-use borrow.Author.Tests.{leb-true, lt-ltb, le-ltb, ne-eqb, eq-eqb, not-true, not-false}
-use Rattle.rules.specs.Tests.{both}
+use borrow.Author.Tests.{lt-ltb, le-ltb, ne-eqb, eq-eqb, not-true, not-false}
 use Rattle.model.specs.Bounds.{most-digits}
 use Rattle.model.specs.GridFile.{is-digit, is-comma, is-line-end, disallowed-number}
+use Rattle.reading.specs.FieldSteps.{digit-bounds}
 use Rattle.gridfile.specs.Fields.{ended-field, field-from, field-at}
 use Rattle.gridfile.specs.declared.Field.the-variants.{Value, Refused}
-
--- ## Bytes
-
-pub digit-bounds : (byte : ℕ) → is-digit byte ≡ true → (48 ≤ byte) × (byte ≤ 57)
-unfolding is-digit
-digit-bounds byte h = let (low, high) = both (leb 48 byte) (leb byte 57) h in (leb-true _ _ low, leb-true _ _ high)
 
 -- ## The end of a field
 

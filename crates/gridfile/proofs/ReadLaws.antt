@@ -1,46 +1,26 @@
--- The model's byte by byte reading, taken field by field: what a field does to the reading of the rest of the file, and what
--- the byte does that ends it, in a row and in the header. Assumes nothing.
+-- What a field's answer makes of the reading of the rest of the file, and what is known of a field that gave a value. It rests on the
+-- reading taken field by field (reading/specs/FieldSteps.antt).
 use mathlib.Core.Path.{_≡_, refl, sym, ap, _∙_}
-use mathlib.Core.Bool.{Bool, true, false, _||_, or-assoc, or-true}
+use mathlib.Core.Bool.{Bool, true, false, _||_}
 use mathlib.Core.List.{List, [], _∷_}
 use mathlib.Core.Logic.{_⊎_, inl, inr, ⊎-elim}
-use Prim.Native.Nat.{ℕ, suc, _+_, _-_, _*_, _≤_, _<_}
+use Prim.Native.Nat.{ℕ, _+_, _-_, _*_, _≤_, _<_}
 use native.Mathlib.Nat.{sub-self, add-zero}
 use native.Mathlib.Numerals.{add-one}
 use native.Mathlib.Omega.{arith}
-use lib.ListN.{length, getD, drop, set, length-drop}
+use lib.ListN.{length, getD, drop, length-drop}
 use lib.Seq.{drop-cons, drop-drop, getD-drop}
 use lib.IntN.{ℤ}
 use lib.Dec.{eqb, ltb}
-use borrow.Author.Tests.{ltb-false, eqb-true, lt-ltb, le-ltb, ne-eqb, eq-eqb}
+use borrow.Author.Tests.{ltb-false, eqb-true}
 use Rattle.rules.specs.Grid.{largest-code}
-use Rattle.model.specs.Bounds.{is-size, most-digits}
+use Rattle.model.specs.Bounds.{most-digits}
 use Rattle.model.specs.GridFile as model
-use Rattle.model.specs.GridFile.{Standing, is-digit, is-comma, is-line-end, is-allowed, disallowed-number, is-complete, in-header, fields-due, field-cell, bad-size, refusal, with-digit, begun, after, accepted, declined, read-from, no-cells}
-use Rattle.gridfile.specs.Fields.{ended-field, field-from, field-at, field-number, cell-of}
-use Rattle.gridfile.specs.Answers.{declined-reading, field-start}
+use Rattle.model.specs.GridFile.{Standing, is-digit, is-comma, is-line-end, disallowed-number, is-complete, declined, read-from}
+use Rattle.reading.specs.FieldSteps.{field-start, in-field, field-ending, declined-reading, byte-refused, end-early, still-open, refusal-2, refusal-disallowed, refusal-3, digit-read}
+use Rattle.gridfile.specs.Fields.{ended-field, field-from, field-at, field-number}
 use Rattle.gridfile.specs.declared.Field.{Field}
 use Rattle.gridfile.specs.declared.Field.the-variants.{Value, Refused}
-use Rattle.gridfile.proofs.FieldLaws.{digit-bounds}
-
--- ## One byte
-
-module _ (s : Standing) (byte : ℕ) (bytes : List ℕ) where
-  pub byte-accepted : refusal s byte ≡ 0 → read-from s (byte ∷ bytes) ≡ read-from (after s byte) bytes
-  unfolding read-from
-  byte-accepted h = rw (h, read-from)
-
-  pub byte-refused : {number : ℕ} → refusal s byte ≡ suc number → read-from s (byte ∷ bytes) ≡ declined (suc number) s
-  unfolding read-from
-  byte-refused h = rw (h, read-from)
-
-pub end-complete : (s : Standing) → is-complete s ≡ true → read-from s [] ≡ accepted s
-unfolding read-from
-end-complete s h = rw (h, read-from)
-
-pub end-early : (s : Standing) → is-complete s ≡ false → read-from s [] ≡ declined 6 s
-unfolding read-from
-end-early s h = rw (h, read-from)
 
 -- ## A byte and its place
 
@@ -56,63 +36,12 @@ module _ (bytes : List ℕ) (byte : ℕ) (rest : List ℕ) (at : ℕ) (e : drop 
 
 -- ## Inside a field
 
--- after some digits of a field, with their value
-unfoldable pub in-field : Standing → ℕ → ℕ → Standing
-in-field s digits value =
-    record {
-      line = s .line;
-      field = s .field;
-      digits = digits;
-      value = value;
-      height = s .height;
-      width = s .width;
-      cells = s .cells;
-    }
-
 -- what a field's answer makes of the reading: a refusal, or the reading from the byte that ended the field
 unfoldable pub field-read : Standing → List ℕ → ℕ → Field → model.Reading
 field-read s bytes from (Value value end) = read-from (in-field s (end - from) value) (drop end bytes)
 field-read s bytes from (Refused number) = declined-reading number (s .line) (s .field)
 
-no-comma : (byte : ℕ) → is-digit byte ≡ true → is-comma byte ≡ false
-unfolding is-comma
-no-comma byte d = ne-eqb byte 44 (λ (e : byte ≡ 44). omega (arith, digit-bounds byte d .0))
-
-no-line-end : (byte : ℕ) → is-digit byte ≡ true → is-line-end byte ≡ false
-unfolding is-line-end
-no-line-end byte d = ne-eqb byte 10 (λ (e : byte ≡ 10). omega (arith, digit-bounds byte d .0))
-
 module _ (s : Standing) (open-yet : is-complete s ≡ false) where
-  still-open : (digits value : ℕ) → is-complete (in-field s digits value) ≡ false
-  unfolding is-complete in-header in-field
-  still-open digits value = open-yet
-
-  module _ (byte digits value : ℕ) where
-    refusal-2 : is-digit byte ≡ true → eqb digits most-digits ≡ true → refusal (in-field s digits value) byte ≡ 2
-    unfolding refusal is-allowed in-field
-    refusal-2 d e = simp (still-open digits value, d, e)
-
-    digit-accepted : is-digit byte ≡ true → eqb digits most-digits ≡ false → refusal (in-field s digits value) byte ≡ 0
-    unfolding refusal is-allowed in-field
-    digit-accepted d e = simp (still-open digits value, d, e, no-comma byte d, no-line-end byte d)
-
-    refusal-disallowed : is-digit byte ≡ false → is-comma byte ≡ false → is-line-end byte ≡ false → refusal (in-field s digits value) byte ≡ disallowed-number digits
-    unfolding refusal is-allowed in-field
-    refusal-disallowed d c l = simp (still-open digits value, d, c, l)
-
-    separated : is-comma byte || is-line-end byte ≡ true → is-allowed byte ≡ true
-    unfolding is-allowed
-    separated c = or-assoc (is-digit byte) (is-comma byte) (is-line-end byte) ∙ rw c (or-true (is-digit byte))
-
-    refusal-3 : is-digit byte ≡ false → is-comma byte || is-line-end byte ≡ true → ltb largest-code value ≡ true → refusal (in-field s digits value) byte ≡ 3
-    unfolding refusal in-field
-    refusal-3 d c v = simp (still-open digits value, separated c, d, v)
-
-  -- a digit more
-  digit-read : (byte : ℕ) (bytes : List ℕ) (digits value : ℕ) → is-digit byte ≡ true → eqb digits most-digits ≡ false → read-from (in-field s digits value) (byte ∷ bytes) ≡ read-from (in-field s (digits + 1) (value * 10 + (byte - 48))) bytes
-  unfolding after with-digit in-field
-  digit-read byte bytes digits value d e = byte-accepted (in-field s digits value) byte bytes (digit-accepted byte digits value d e) ∙ simp d
-
   module _ (bytes : List ℕ) (from : ℕ) where
     -- at a byte that is no digit
     ended-read : (byte : ℕ) (rest : List ℕ) (at value : ℕ) → drop at bytes ≡ byte ∷ rest → is-digit byte ≡ false → read-from (in-field s (at - from) value) (byte ∷ rest) ≡ field-read s bytes from (ended-field byte (at - from) value at)
@@ -123,11 +52,11 @@ module _ (s : Standing) (open-yet : is-complete s ≡ false) where
         here = in-field s (at - from) value
 
         three : (c l : Bool) → is-comma byte ≡ c → is-line-end byte ≡ l → c || l ≡ true → ltb largest-code value ≡ true → read-from here (byte ∷ rest) ≡ declined 3 here
-        three c l p q t v = byte-refused here byte rest (refusal-3 byte (at - from) value d (rw (p, q) t) v)
+        three c l p q t v = byte-refused here byte rest (refusal-3 s open-yet byte (at - from) value d (rw (p, q) t) v)
 
         disallowed : (first : Bool) → eqb (at - from) 0 ≡ first → is-comma byte ≡ false → is-line-end byte ≡ false → read-from here (byte ∷ rest) ≡ declined-reading (disallowed-number (at - from)) (s .line) (s .field)
-        disallowed true f c l = byte-refused here byte rest {number = 0} (refusal-disallowed byte (at - from) value d c l ∙ simp f) ∙ simp f
-        disallowed false f c l = byte-refused here byte rest {number = 12} (refusal-disallowed byte (at - from) value d c l ∙ simp f) ∙ simp f
+        disallowed true f c l = byte-refused here byte rest {number = 0} (refusal-disallowed s open-yet byte (at - from) value d c l ∙ simp f) ∙ simp f
+        disallowed false f c l = byte-refused here byte rest {number = 12} (refusal-disallowed s open-yet byte (at - from) value d c l ∙ simp f) ∙ simp f
 
         go : (c l v : Bool) → is-comma byte ≡ c → is-line-end byte ≡ l → ltb largest-code value ≡ v → read-from here (byte ∷ rest) ≡ field-read s bytes from (ended-field byte (at - from) value at)
         go false false v p q r = disallowed (eqb (at - from) 0) refl p q ∙ simp (p, q)
@@ -139,7 +68,7 @@ module _ (s : Standing) (open-yet : is-complete s ≡ false) where
     -- from any byte of the field on
     rest-read : (rest : List ℕ) (at value : ℕ) → drop at bytes ≡ rest → from ≤ at → read-from (in-field s (at - from) value) rest ≡ field-read s bytes from (field-from rest at (at - from) value)
     unfolding declined declined-reading field-read field-from in-field
-    rest-read [] at value e h = end-early (in-field s (at - from) value) (still-open (at - from) value)
+    rest-read [] at value e h = end-early (in-field s (at - from) value) (still-open s open-yet (at - from) value)
     rest-read (byte ∷ rest) at value e h = go (is-digit byte) (eqb (at - from) most-digits) refl refl (rest-read rest (at + 1) (value * 10 + (byte - 48)) (drop-next bytes byte rest at e) (omega arith))
       where
         here : Standing
@@ -150,8 +79,8 @@ module _ (s : Standing) (open-yet : is-complete s ≡ false) where
 
         go : (d m : Bool) → is-digit byte ≡ d → eqb (at - from) most-digits ≡ m → read-from (in-field s (at + 1 - from) (value * 10 + (byte - 48))) rest ≡ field-read s bytes from (field-from rest (at + 1) (at + 1 - from) (value * 10 + (byte - 48))) → read-from here (byte ∷ rest) ≡ field-read s bytes from (field-from (byte ∷ rest) at (at - from) value)
         go false m d n again = ended-read byte rest at value e d ∙ simp d
-        go true true d n again = byte-refused here byte rest (refusal-2 byte (at - from) value d n) ∙ simp (d, n)
-        go true false d n again = digit-read byte rest (at - from) value d n ∙ (rw longer at again) ∙ simp (d, n)
+        go true true d n again = byte-refused here byte rest (refusal-2 s open-yet byte (at - from) value d n) ∙ simp (d, n)
+        go true false d n again = digit-read s open-yet byte rest (at - from) value d n ∙ (rw longer at again) ∙ simp (d, n)
 
 -- a field from its first byte on
 pub whole-read : (line field height width : ℕ) (cells : List ℤ) (bytes : List ℕ) (from : ℕ) → is-complete (field-start line field height width cells) ≡ false → read-from (field-start line field height width cells) (drop from bytes) ≡ field-read (field-start line field height width cells) bytes from (field-at bytes from)
@@ -219,11 +148,7 @@ module _ (bytes : List ℕ) (at value end : ℕ) (ended : Ended bytes at value e
 pub refused-number : {field : Field} {number n : ℕ} → number ≡ field-number field → field ≡ Refused n → field ≡ Refused number
 refused-number e f = f ∙ sym (ap Refused (e ∙ ap field-number f))
 
--- ## The byte that ends a field
-
--- at the end of a field with some digits and a value
-abbrev pub field-ending : ℕ → ℕ → ℕ → ℕ → List ℤ → ℕ → ℕ → Standing
-field-ending line field height width cells digits value = in-field (field-start line field height width cells) digits value
+-- ## What follows for the reading
 
 -- what follows for the reading from the field's first byte on
 module _ (line field height width : ℕ) (cells : List ℤ) (bytes : List ℕ) (from : ℕ) (open-yet : is-complete (field-start line field height width cells) ≡ false) where
@@ -236,59 +161,3 @@ module _ (line field height width : ℕ) (cells : List ℤ) (bytes : List ℕ) (
   by-ending value end e byte b a =
       sym (whole-read line field height width cells bytes from open-yet ∙ ap (field-read (field-start line field height width cells) bytes from) e
       ∙ ap (read-from (field-ending line field height width cells (end - from) value)) (ending-byte bytes from value end (value-ended bytes from value end e) byte b) ∙ a)
-
--- in a row
-module _ (line field height width : ℕ) (cells : List ℤ) (in-rows : 2 ≤ line) (row-left : line < height + 2) where
-  no-header : eqb line 1 ≡ false
-  no-header = ne-eqb line 1 (λ (e : line ≡ 1). omega arith)
-
-  pub row-open : is-complete (field-start line field height width cells) ≡ false
-  unfolding is-complete in-header field-start
-  row-open = simp (no-header, ne-eqb line (height + 2) (λ (e : line ≡ height + 2). omega arith))
-
-  module _ (digits value : ℕ) (rest : List ℕ) (sound : value ≤ largest-code) where
-    here-open : is-complete (field-ending line field height width cells digits value) ≡ false
-    here-open = still-open (field-start line field height width cells) row-open digits value
-
-    pub row-too-short : field < width → read-from (field-ending line field height width cells digits value) (10 ∷ rest) ≡ declined-reading 4 line field
-    unfolding refusal declined declined-reading field-start in-field in-header fields-due is-digit is-comma is-line-end is-allowed
-    row-too-short h = byte-refused _ 10 rest (simp (here-open, le-ltb _ _ sound, no-header, lt-ltb _ _ h))
-
-    pub row-ends : width ≤ field → read-from (field-ending line field height width cells digits value) (10 ∷ rest) ≡ read-from (field-start (line + 1) 1 height width (set cells ((line - 2) * width + (field - 1)) (cell-of digits value))) rest
-    unfolding refusal after begun field-cell cell-of field-start in-field in-header fields-due is-digit is-comma is-line-end is-allowed
-    row-ends h = byte-accepted _ 10 rest (simp (here-open, le-ltb _ _ sound, no-header, le-ltb _ _ h)) ∙ simp no-header
-
-    pub row-too-long : field ≡ width → read-from (field-ending line field height width cells digits value) (44 ∷ rest) ≡ declined-reading 4 line field
-    unfolding refusal declined declined-reading field-start in-field in-header fields-due is-digit is-comma is-line-end is-allowed
-    row-too-long h = byte-refused _ 44 rest (simp (here-open, le-ltb _ _ sound, no-header, eq-eqb _ _ h))
-
-    pub row-goes-on : (field ≡ width → ⊥) → read-from (field-ending line field height width cells digits value) (44 ∷ rest) ≡ read-from (field-start line (field + 1) height width (set cells ((line - 2) * width + (field - 1)) (cell-of digits value))) rest
-    unfolding refusal after begun field-cell cell-of field-start in-field in-header fields-due is-digit is-comma is-line-end is-allowed
-    row-goes-on h = byte-accepted _ 44 rest (simp (here-open, le-ltb _ _ sound, no-header, ne-eqb _ _ h)) ∙ simp no-header
-
--- in the header: H, then W
-module _ (digits value : ℕ) (rest : List ℕ) (sound : value ≤ largest-code) where
-  pub header-too-short : read-from (field-ending 1 1 0 0 no-cells digits value) (10 ∷ rest) ≡ declined-reading 4 1 1
-  unfolding refusal declined declined-reading field-start in-field is-complete in-header fields-due is-digit is-comma is-line-end is-allowed
-  header-too-short = byte-refused _ 10 rest (simp (le-ltb _ _ sound))
-
-  pub header-goes-on : read-from (field-ending 1 1 0 0 no-cells digits value) (44 ∷ rest) ≡ read-from (field-start 1 2 value 0 no-cells) rest
-  unfolding refusal after begun field-start in-field is-complete in-header fields-due is-digit is-comma is-line-end is-allowed
-  header-goes-on = byte-accepted _ 44 rest (simp (le-ltb _ _ sound))
-
-  module _ (height : ℕ) where
-    pub header-too-long : read-from (field-ending 1 2 height 0 no-cells digits value) (44 ∷ rest) ≡ declined-reading 4 1 2
-    unfolding refusal declined declined-reading field-start in-field is-complete in-header fields-due is-digit is-comma is-line-end is-allowed
-    header-too-long = byte-refused _ 44 rest (simp (le-ltb _ _ sound))
-
-    pub bad-height : is-size height ≡ false → read-from (field-ending 1 2 height 0 no-cells digits value) (10 ∷ rest) ≡ declined-reading 5 1 1
-    unfolding refusal declined declined-reading field-start in-field bad-size is-complete in-header fields-due is-digit is-comma is-line-end is-allowed
-    bad-height h = byte-refused _ 10 rest {number = 4} (simp (le-ltb _ _ sound, h)) ∙ simp h
-
-    pub bad-width : is-size height ≡ true → is-size value ≡ false → read-from (field-ending 1 2 height 0 no-cells digits value) (10 ∷ rest) ≡ declined-reading 5 1 2
-    unfolding refusal declined declined-reading field-start in-field bad-size is-complete in-header fields-due is-digit is-comma is-line-end is-allowed
-    bad-width h w = byte-refused _ 10 rest {number = 4} (simp (le-ltb _ _ sound, h, w)) ∙ simp (h, w)
-
-    pub header-ends : is-size height ≡ true → is-size value ≡ true → read-from (field-ending 1 2 height 0 no-cells digits value) (10 ∷ rest) ≡ read-from (field-start 2 1 height value no-cells) rest
-    unfolding refusal after begun field-start in-field bad-size is-complete in-header fields-due is-digit is-comma is-line-end is-allowed
-    header-ends h w = byte-accepted _ 10 rest (simp (le-ltb _ _ sound, h, w))

@@ -13,10 +13,10 @@ use Rattle.model.specs.Bounds.{is-size}
 use Rattle.model.specs.RefusalLaws.{size-of-test}
 use Rattle.model.specs.GridFile as model
 use Rattle.model.specs.GridFile.{is-complete, in-header, refusal, accepted, declined, read-from, no-cells}
-use Rattle.gridfile.specs.Fields.{field-at, cell-of}
-use Rattle.gridfile.specs.Answers.{declined-reading, field-start}
+use Rattle.reading.specs.FieldSteps.{field-start, field-ending, cell-of, declined-reading, byte-refused, end-complete, row-open, row-too-short, row-ends, row-too-long, row-goes-on}
+use Rattle.gridfile.specs.Fields.{field-at}
 use Rattle.gridfile.specs.declared.Field.the-variants.{Value, Refused}
-use Rattle.gridfile.proofs.ReadLaws.{field-ending, Ended, value-ended, comma-there, by-refusal, by-ending, row-open, row-too-short, row-ends, row-too-long, row-goes-on, byte-refused, end-complete}
+use Rattle.gridfile.proofs.ReadLaws.{Ended, value-ended, comma-there, by-refusal, by-ending}
 
 -- the next field of a row is at `line` and `field`, its pad's cell at `index`, its first byte at `at`; reading on from there
 -- is what reading from the first row on comes to

@@ -7,10 +7,9 @@ use mathlib.Core.Bool.{not, _&&_}
 use mathlib.Core.List.{List, [], _∷_}
 use lib.ListN.{drop}
 use lib.Dec.{eqb, ltb}
-use lib.IntN.{ℤ, pos}
 use Rattle.rules.specs.Grid.{largest-code}
 use Rattle.model.specs.Bounds.{most-digits}
-use Rattle.model.specs.GridFile.{is-digit, is-comma, is-line-end, disallowed-number, blank}
+use Rattle.model.specs.GridFile.{is-digit, is-comma, is-line-end, disallowed-number}
 use Rattle.gridfile.specs.declared.Field.{Field}
 use Rattle.gridfile.specs.declared.Field.the-variants.{Value, Refused}
 
@@ -33,10 +32,6 @@ field-from (byte ∷ bytes) at digits value =
 -- the field that begins at a place of the file
 unfoldable pub field-at : List ℕ → ℕ → Field
 field-at bytes from = field-from (drop from bytes) from 0 0
-
--- the cell of a field with so many digits and a value: empty for blank
-unfoldable pub cell-of : ℕ → ℕ → ℤ
-cell-of digits value = if eqb digits 0 then blank else pos value
 
 -- the documents' number: 0 for a value
 abbrev pub field-number : Field → ℕ

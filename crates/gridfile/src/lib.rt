@@ -7,8 +7,9 @@ ghost use lib.ListN.{length, drop, set};
 ghost use Rattle.rules.specs.Grid.{largest-code};
 ghost use Rattle.model.specs.Bounds.{is-size};
 ghost use Rattle.model.specs.GridFile.{is-digit, disallowed-number, no-cells, read-from, read};
-ghost use Rattle.gridfile.specs.Fields.{field-at, ended-field, field-number, cell-of};
-ghost use Rattle.gridfile.specs.Answers.{reading-says, declined-reading, field-start};
+ghost use Rattle.reading.specs.FieldSteps.{field-start, cell-of, declined-reading};
+ghost use Rattle.gridfile.specs.Fields.{field-at, ended-field, field-number};
+ghost use Rattle.gridfile.specs.Answers.{reading-says};
 
 // The bytes that part fields and end lines, and the most digits of a field.
 const COMMA: u8 = 44;

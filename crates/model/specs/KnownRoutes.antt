@@ -3,9 +3,10 @@ use mathlib.Core.Path.{_≡_, refl}
 use Rattle.rules.specs.Grid.{cell-of, grid-of, place-at, place-by-parity}
 use Rattle.rules.specs.Record.{field, record-lines, tabulate}
 use Rattle.model.specs.Bounds.{is-size, most-digits}
-use Rattle.model.specs.Text.{bytes}
+use Rattle.model.specs.Text.{bytes, comma, line-end}
+use Rattle.model.specs.Decimal.{digit-byte, digits-before, decimal}
 use Rattle.model.specs.GridFile.{is-digit, is-comma, is-line-end, is-allowed, blank, no-cells, start, in-header, fields-due, is-complete, field-cell, bad-size, refusal, with-digit, begun, after, accepted, declined, read-from, read}
-use Rattle.model.specs.Printed.{digit-byte, digits-before, decimal, line-at, right-line, down-line, code-of-pad, code-digits-from, code-digits, comma, line-end, summary-line, layout-line, refusal-line, layout-lines, found-text, reading-text, printed}
+use Rattle.model.specs.Printed.{line-at, right-line, down-line, code-of-pad, code-digits-from, code-digits, summary-line, layout-line, refusal-line, layout-lines, found-text, reading-text, printed}
 use Rattle.model.specs.Board.{fresh, decide, check, after-store, cannot-join, join-ends, check-items, settled, decide-first, degree, undecideds, lines, keep-aparts, around, do-item, do-items, shape-items, barred, joined-ends, put-end, put-end-at, set-flag, set-edge, enough}
 use Rattle.model.specs.Search.{scan, search, fewest, backtrack, try, degree-so-far, next-pad, board-record}
 use Rattle.model.specs.Routes.{routes-found, routes-text}

@@ -1,5 +1,6 @@
 -- The model: what the calls do, as definitions that compute, and the known answers.
 pub mod Choice
+pub mod Lists
 pub mod Text
 pub mod Bounds
 pub mod Refusals
@@ -11,6 +12,9 @@ pub mod Search
 pub mod Records
 pub mod HasRecord
 pub mod GridFile
+pub mod Decimal
+pub mod DecimalLaws
+pub mod Writing
 pub mod Printed
 pub mod Routes
 pub mod KnownFiles

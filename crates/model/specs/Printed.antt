@@ -1,35 +1,16 @@
--- What the program `routes` prints, as bytes: decimal numbers in shortest digits, the summary line, a layout's line, the
--- line of a refused file, and the whole of it for a reading and what a search found. Assumes nothing.
+-- What the program `routes` prints, as bytes: the summary line, a layout's line, the line of a refused file, and the whole of it
+-- for a reading and what a search found. Assumes nothing.
 use Rattle.model.specs.Choice.{if_then_else_}
 use Prim.Native.Nat.{ℕ, zero, suc, _+_, _*_, _/_, _%_}
-use mathlib.Core.Bool.{true, false}
 use mathlib.Core.List.{List, [], _∷_, _++_}
 use lib.ListN.{take, getD}
 use lib.IntN.{ℤ}
 use lib.Dec.{eqb, ltb}
-use Rattle.model.specs.Text.{bytes}
+use Rattle.model.specs.Text.{bytes, comma, line-end}
+use Rattle.model.specs.Decimal.{digit-byte, decimal}
 use Rattle.rules.specs.Grid.{field-side}
 use Rattle.rules.specs.Record.{record-lines, undecided-byte, line-byte}
 use Rattle.model.specs.GridFile.{Reading, read}
-
--- ## Numbers
-
--- the byte of a digit
-unfoldable pub digit-byte : ℕ → ℕ
-digit-byte digit = 48 + digit
-
--- the digits of a number in front of a text; the first argument bounds how many there are
-unfoldable pub digits-before : ℕ → ℕ → List ℕ → List ℕ
-digits-before zero number text = text
-digits-before (suc more) number text =
-    elim (ltb number 10) [
-      | true ↦ digit-byte number ∷ text
-      | false ↦ digits-before more (number / 10) (digit-byte (number % 10) ∷ text)
-    ]
-
--- a number in its shortest decimal digits: it has no more digits than itself and one more
-unfoldable pub decimal : ℕ → List ℕ
-decimal number = digits-before (suc number) number []
 
 -- ## Codes
 
@@ -61,12 +42,6 @@ unfoldable pub code-digits : ℕ → ℕ → List ℕ → List ℕ
 code-digits height width layout = code-digits-from height width layout (height * width) 0
 
 -- ## Lines, each ended by 0A
-
-unfoldable pub comma : List ℕ
-comma = bytes ","
-
-unfoldable pub line-end : List ℕ
-line-end = bytes "\n"
 
 -- layouts, visited, fewest, outcome
 unfoldable pub summary-line : ℕ → ℕ → ℕ → ℕ → List ℕ

@@ -1,4 +1,5 @@
--- A quoted text as the list of its bytes, so that files and printed lines can be written as they look. Assumes nothing.
+-- A quoted text as the list of its bytes, so that files and printed lines can be written as they look; the bytes between fields and at
+-- the end of a line. Assumes nothing.
 use Prim.Native.Nat.{ℕ}
 use Prim.Native.Char.{code}
 use Prim.Native.String.{String, [] as no-text, _∷_ as _then_}
@@ -8,3 +9,11 @@ use mathlib.Core.List.{List, [], _∷_}
 unfoldable pub bytes : String → List ℕ
 bytes no-text = []
 bytes (_then_ character rest) = code character ∷ bytes rest
+
+-- fields are parted by commas
+unfoldable pub comma : List ℕ
+comma = bytes ","
+
+-- a line is ended by 0A
+unfoldable pub line-end : List ℕ
+line-end = bytes "\n"

@@ -12,9 +12,10 @@ use lib.Dec.{eqb, ltb}
 use borrow.Author.Tests.{lt-ltb, le-ltb, eq-eqb, ne-eqb}
 use Rattle.model.specs.Bounds.{is-size}
 use Rattle.model.specs.RefusalLaws.{size-of-test}
-use Rattle.model.specs.Printed.{digit-byte, line-at, right-line, down-line, code-of-pad, code-digits-from, code-digits}
-use Rattle.printed.specs.Written.{Put}
-use Rattle.printed.proofs.PutLaws.{put-both, put-one, put-same}
+use Rattle.model.specs.Decimal.{digit-byte}
+use Rattle.model.specs.Printed.{line-at, right-line, down-line, code-of-pad, code-digits-from, code-digits}
+use Rattle.text.specs.Put.{Put}
+use Rattle.text.specs.PutLaws.{put-both, put-one, put-same}
 
 -- ## A place of a record
 

@@ -1,6 +1,6 @@
 -- Laws of whole lines: an array of zeros that is filled part by part, how long the parts are at most, and that the parts make
 -- the lines of the model. Assumes nothing.
-use mathlib.Core.Path.{_≡_}
+use mathlib.Core.Path.{_≡_, ap, _∙_}
 use mathlib.Core.Bool.{true, false}
 use mathlib.Core.List.{List, [], _∷_, _++_, append-assoc}
 use Prim.Native.Nat.{ℕ, _+_, _*_, _≤_}
@@ -8,16 +8,28 @@ use native.Mathlib.Omega.{arith}
 use lib.ListN.{length, length-append, length-replicate}
 use mir.Syntax.{w8, w64}
 use mir.Val.{Fits}
+use Rattle.model.specs.Lists.{drop-replicate}
 use Rattle.model.specs.Bounds.{is-size}
-use Rattle.model.specs.Text.{bytes}
+use Rattle.model.specs.Text.{bytes, comma, line-end}
 use Rattle.rules.specs.Record.{record-lines}
-use Rattle.model.specs.Printed.{decimal, code-digits, comma, line-end, summary-line, layout-line, refusal-line}
-use Rattle.printed.specs.Written.{zeros, Put, Written, layout-text}
-use Rattle.printed.proofs.DecimalLaws.{decimal-length}
+use Rattle.model.specs.Decimal.{decimal}
+use Rattle.model.specs.Printed.{code-digits, summary-line, layout-line, refusal-line}
+use Rattle.text.specs.Put.{Put}
+use Rattle.printed.specs.Written.{zeros, Written, layout-text}
+use Rattle.model.specs.DecimalLaws.{decimal-length}
 use Rattle.printed.proofs.CodeLaws.{codes-length, all-pads}
-use Rattle.printed.proofs.PutLaws.{put-both, put-length, put-same, put-written}
+use Rattle.text.specs.PutLaws.{put-both, put-length, put-same, put-front, put-next}
 
 -- ## An array that is filled part by part
+
+-- an array of zeros into which a text was put from its start on
+put-written : (size : ℕ) {bytes text : List ℕ} {long : ℕ} → Put (zeros size) bytes 0 text long → length text ≤ size → Written size text bytes long
+put-written size {bytes} {text} p h =
+    record {
+      all-bytes = put-front p (rw length-replicate h) ∙ ap (λ (l : List ℕ). text ++ l) (drop-replicate 0 (length text) size);
+      its-length = put-next p;
+      fits = rw (put-length p, length-replicate, put-next p) h;
+    }
 
 -- the array begins with the text, which has at most so many bytes, and goes on with zeros
 pub record Filled (size most : ℕ) (text array : List ℕ) (next : ℕ) : Type 0 where

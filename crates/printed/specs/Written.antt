@@ -1,22 +1,16 @@
--- What it means that a text was put into a buffer, and that an array holds a text and nothing else, or nothing at all. Assumes nothing.
+-- What it means that an array holds a text and nothing else, or nothing at all. Assumes nothing.
 use Rattle.model.specs.Choice.{if_then_else_}
-use Prim.Native.Nat.{ℕ, _+_, _-_, _≤_}
+use Prim.Native.Nat.{ℕ, _-_, _≤_}
 use mathlib.Core.Path.{_≡_, refl}
 use mathlib.Core.Bool.{_&&_}
 use mathlib.Core.List.{List, [], _++_}
 use native.Mathlib.Omega.{arith}
 use lib.ListN.{length, replicate}
-use lib.Seq.{sets}
 use Rattle.model.specs.Bounds.{is-size}
 use Rattle.model.specs.Printed.{layout-line}
 
 abbrev pub zeros : ℕ → List ℕ
 zeros size = replicate size 0
-
--- the text stands in the buffer from a place on, all other bytes are as before, and `next` is the place after it
-pub record Put (before after : List ℕ) (at : ℕ) (text : List ℕ) (next : ℕ) : Type 0 where
-  pub stored : after ≡ sets before at text
-  pub place : next ≡ at + length text
 
 -- an array of `size` bytes begins with the text and goes on with zeros; `long` is the text's length, and the text fits
 pub record Written (size : ℕ) (text bytes : List ℕ) (long : ℕ) : Type 0 where

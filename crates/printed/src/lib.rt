@@ -2,12 +2,12 @@
 // longest such line fits. What the lines say is in the crate `model`, specs/Printed.antt there.
 ghost use mathlib.Core.Path.{_≡_};
 ghost use mathlib.Core.Bool.{true};
-ghost use mathlib.Core.List.{[], _∷_, _++_};
 ghost use Prim.Native.Nat.{_+_, _*_, _-_, _/_, _%_, _≤_, _<_};
 ghost use lib.ListN.{length};
 ghost use Rattle.model.specs.Bounds.{is-size};
-ghost use Rattle.model.specs.Printed.{decimal, line-at, right-line, down-line, code-of-pad, code-digits, summary-line, refusal-line};
-ghost use Rattle.printed.specs.Written.{Put, Written, layout-text};
+ghost use Rattle.model.specs.Printed.{line-at, right-line, down-line, code-of-pad, code-digits, summary-line, refusal-line};
+ghost use Rattle.text.specs.Put.{Put};
+ghost use Rattle.printed.specs.Written.{Written, layout-text};
 use grid::Edge;
 
 const ZERO: u8 = 48;
@@ -32,36 +32,6 @@ pub struct LayoutLine {
 pub struct RefusalLine {
     pub bytes: [u8; 54],
     pub length: usize,
-}
-
-// One byte at a place; the place after it.
-fn put_byte(out: &mut [u8], at: usize, byte: u8) -> usize
-    requires { ⌜ at < length (now out) ⌝ }
-    ensures { λ r. ⌜ Put (now (out .entry)) (now (out .exit)) at (byte ∷ []) r ⌝ }
-{
-    out[at] = byte;
-    at + 1
-}
-
-// A number in shortest digits from a place on; the place after it.
-fn put_decimal(out: &mut [u8], at: usize, number: u64) -> usize
-    requires { ⌜ at + length (decimal number) ≤ length (now out) ⌝ }
-    ensures { λ r. ⌜ Put (now (out .entry)) (now (out .exit)) at (decimal number) r ⌝ }
-{
-    if number < 10 {
-        return put_byte(out, at, ZERO + number as u8);
-    }
-    let last = put_decimal(out, at, number / 10);
-    put_byte(out, last, ZERO + (number % 10) as u8)
-}
-
-// A number and the byte after it.
-fn put_field(out: &mut [u8], at: usize, number: u64, after: u8) -> usize
-    requires { ⌜ at + length (decimal number) + 1 ≤ length (now out) ⌝ }
-    ensures { λ r. ⌜ Put (now (out .entry)) (now (out .exit)) at (decimal number ++ (after ∷ [])) r ⌝ }
-{
-    let last = put_decimal(out, at, number);
-    put_byte(out, last, after)
 }
 
 // The byte of an edge's place in a record: 1 if it holds a line, else 0.
@@ -123,28 +93,15 @@ fn put_codes(out: &mut [u8], at: usize, height: usize, width: usize, layout: &[u
     at + index
 }
 
-// A word from the start on; the place after it.
-fn put_word(out: &mut [u8], word: &[u8]) -> usize
-    requires { ⌜ length (now word) ≤ length (now out) ⌝ }
-    ensures { λ r. ⌜ Put (now (out .entry)) (now (out .exit)) 0 (now (word .entry)) r ⌝ }
-{
-    let mut at = 0;
-    while at < word.len() {
-        out[at] = word[at];
-        at += 1;
-    }
-    at
-}
-
 // Layouts, visited, fewest, outcome.
 pub fn summary_line(layouts: u64, visited: u64, fewest: u64, outcome: u8) -> SummaryLine
     ensures { λ r. ⌜ Written 67 (summary-line layouts visited fewest outcome) (r .bytes) (r .length) ⌝ }
 {
     let mut bytes = [0; 67];
-    let first = put_field(&mut bytes, 0, layouts, COMMA);
-    let second = put_field(&mut bytes, first, visited, COMMA);
-    let third = put_field(&mut bytes, second, fewest, COMMA);
-    let length = put_field(&mut bytes, third, outcome as u64, LINE_END);
+    let first = text::put_field(&mut bytes, 0, layouts, COMMA);
+    let second = text::put_field(&mut bytes, first, visited, COMMA);
+    let third = text::put_field(&mut bytes, second, fewest, COMMA);
+    let length = text::put_field(&mut bytes, third, outcome as u64, LINE_END);
     SummaryLine { bytes, length }
 }
 
@@ -153,10 +110,10 @@ pub fn refusal_line(number: u8, line: u64, field: u64) -> RefusalLine
     ensures { λ r. ⌜ Written 54 (refusal-line number line field) (r .bytes) (r .length) ⌝ }
 {
     let mut bytes = [0; 54];
-    let first = put_word(&mut bytes, b"refused,");
-    let second = put_field(&mut bytes, first, number as u64, COMMA);
-    let third = put_field(&mut bytes, second, line, COMMA);
-    let length = put_field(&mut bytes, third, field, LINE_END);
+    let first = text::put_word(&mut bytes, b"refused,");
+    let second = text::put_field(&mut bytes, first, number as u64, COMMA);
+    let third = text::put_field(&mut bytes, second, line, COMMA);
+    let length = text::put_field(&mut bytes, third, field, LINE_END);
     RefusalLine { bytes, length }
 }
 
@@ -171,9 +128,9 @@ pub fn layout_line(height: usize, width: usize, number: u64, layout: &[u8]) -> L
     if !grid::is_size(width) {
         return LayoutLine { bytes, length: 0 };
     }
-    let first = put_field(&mut bytes, 0, number, COMMA);
-    let second = put_field(&mut bytes, first, records::lines(layout) as u64, COMMA);
+    let first = text::put_field(&mut bytes, 0, number, COMMA);
+    let second = text::put_field(&mut bytes, first, records::lines(layout) as u64, COMMA);
     let third = put_codes(&mut bytes, second, height, width, layout);
-    let length = put_byte(&mut bytes, third, LINE_END);
+    let length = text::put_byte(&mut bytes, third, LINE_END);
     LayoutLine { bytes, length }
 }

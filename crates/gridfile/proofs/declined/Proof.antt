@@ -1,5 +1,5 @@
 -- `gridfile::declined` meets its contract, from that of `no_cells`. Assumes nothing.
-use Rattle.gridfile.specs.Answers.{declined-reading}
+use Rattle.reading.specs.FieldSteps.{declined-reading}
 use borrow.Author.Needs.{needs}
 use Rattle.gridfile.proofs.declined.Statement.{statement}
 use Rattle.gridfile.proofs.declined.Tie as tie

@@ -1,6 +1,7 @@
 -- `gridfile::field_at` meets its contract. The loop keeps `Passed`: what is left of the field gives the field's answer.
 -- Assumes nothing.
-use Rattle.gridfile.proofs.FieldLaws.{Passed, none-passed, one-passed, value-fits, digit-bounds, a-digit, not-digit, field-stops, field-too-long, field-unended}
+use Rattle.reading.specs.FieldSteps.{digit-bounds}
+use Rattle.gridfile.proofs.FieldLaws.{Passed, none-passed, one-passed, value-fits, a-digit, not-digit, field-stops, field-too-long, field-unended}
 use Prim.Native.Nat.{_-_}
 use mathlib.Core.Path.{sym, _∙_}
 use lib.ListN.{length}

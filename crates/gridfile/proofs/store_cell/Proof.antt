@@ -4,7 +4,7 @@ use mir.Syntax.{w32}
 use mir.ValLaws.{toZ-pos}
 use borrow.Author.Tests.{eq-eqb, ne-eqb}
 use Rattle.model.specs.GridFile.{blank}
-use Rattle.gridfile.specs.Fields.{cell-of}
+use Rattle.reading.specs.FieldSteps.{cell-of}
 use Rattle.gridfile.proofs.store_cell.Statement.{statement}
 use Rattle.gridfile.proofs.store_cell.Tie as tie
 

@@ -1,8 +1,8 @@
 -- `printed::put_codes` meets its contract. The loop's invariant: the codes of the pads below the index are put.
 -- Assumes nothing.
 use Rattle.printed.proofs.CodeLaws.{some-columns, all-pads, row-below-16, column-below-16, code-put, all-put}
-use Rattle.printed.proofs.PutLaws.{put-length, put-none}
-use Rattle.printed.specs.Written.{Put}
+use Rattle.text.specs.PutLaws.{put-length, put-none}
+use Rattle.text.specs.Put.{Put}
 use Rattle.model.specs.Printed.{code-digits-from}
 use Prim.Native.Nat.{_+_, _-_, _*_, _≤_}
 use native.Mathlib.Omega.{arith}

@@ -9,7 +9,7 @@ use native.Mathlib.Omega.{arith}
 use lib.ListN.{length, length-append}
 use lib.Dec.{ltb}
 use borrow.Author.Tests.{ltb-true, ltb-false, lt-ltb, le-ltb}
-use Rattle.model.specs.Printed.{digit-byte, digits-before, decimal}
+use Rattle.model.specs.Decimal.{digit-byte, digits-before, decimal}
 
 module _ (more number : ℕ) (text : List ℕ) where
   last-digits : number < 10 → digits-before (suc more) number text ≡ digit-byte number ∷ text

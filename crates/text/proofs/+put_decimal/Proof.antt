@@ -1,20 +1,20 @@
--- `printed::put_decimal` meets its contract, with the number as the measure: the digits of the tenth part, and then the last
+-- `text::put_decimal` meets its contract, with the number as the measure: the digits of the tenth part, and then the last
 -- digit. Assumes nothing.
-use Rattle.printed.proofs.PutLaws.{put-both, put-length, put-same}
-use Rattle.printed.proofs.DecimalLaws.{decimal-short, decimal-long}
-use Rattle.model.specs.Printed.{digit-byte}
+use Rattle.text.specs.PutLaws.{put-both, put-length, put-same}
+use Rattle.model.specs.DecimalLaws.{decimal-short, decimal-long}
+use Rattle.model.specs.Decimal.{digit-byte}
 use lib.ListN.{length-append}
 use mathlib.Core.Path.{sym, _∙_}
 use native.Mathlib.Omega.{arith}
 use Prim.Native.Nat.{ℕ, _<_}
 use borrow.Fn.Kinds.{In}
 use borrow.Fn.PlainCycle.{Measures, is, falls, and}
-use Rattle.printed.proofs.put_decimal.Reads as put-decimal
-use Rattle.printed.proofs.put_decimal.Kinds as put-decimal-kinds
-use Rattle.printed.proofs.+put_decimal.Lts-put_decimal as put-decimal-lts
-use Rattle.printed.proofs.put_byte.Reads as put-byte-reads
-use Rattle.printed.proofs.+put_decimal.{statement}
-use Rattle.printed.proofs.+put_decimal.Tie.{close}
+use Rattle.text.proofs.put_decimal.Reads as put-decimal
+use Rattle.text.proofs.put_decimal.Kinds as put-decimal-kinds
+use Rattle.text.proofs.+put_decimal.Lts-put_decimal as put-decimal-lts
+use Rattle.text.proofs.put_byte.Reads as put-byte-reads
+use Rattle.text.proofs.+put_decimal.{statement}
+use Rattle.text.proofs.+put_decimal.Tie.{close}
 
 abbrev μ-put-decimal : Measures 1 put-decimal-kinds.ps ℕ
 μ-put-decimal κs a = a .1 .1 .0

@@ -1,13 +1,13 @@
--- Laws of texts that are put into a buffer one after the other, and of the array that then holds them. Assumes nothing.
+-- Laws of texts that are put into a buffer one after the other. Assumes nothing.
 use mathlib.Core.Path.{_≡_, refl, sym, ap, _∙_}
 use mathlib.Core.List.{List, [], _∷_, _++_}
-use Prim.Native.Nat.{ℕ, zero, suc, _+_, _-_, _≤_, _<_}
-use native.Mathlib.Nat.{add-zero, add-suc, suc-add, zero-add, sub-zero, zero-sub, suc-sub-suc}
+use Prim.Native.Nat.{ℕ, suc, _+_, _≤_, _<_}
+use native.Mathlib.Nat.{add-zero, add-suc, suc-add, zero-add}
 use native.Mathlib.Numerals.{add-one}
 use native.Mathlib.Omega.{arith}
-use lib.ListN.{length, getD, take, drop, set, length-append, length-replicate}
+use lib.ListN.{length, getD, take, drop, set, length-append}
 use lib.Seq.{sets, sets-eq, length-sets, take-suc, take-all}
-use Rattle.printed.specs.Written.{zeros, Put, Written}
+use Rattle.text.specs.Put.{Put}
 
 sets-append : (text more buffer : List ℕ) (at : ℕ) → sets (sets buffer at text) (at + length text) more ≡ sets buffer at (text ++ more)
 sets-append [] more buffer at = ap (λ (n : ℕ). sets buffer n more) (add-zero at)
@@ -28,22 +28,12 @@ put-length {first} {text = text} {at} p = ap (λ (l : List ℕ). length l) (p .s
 pub put-same : {first second text other : List ℕ} {at next : ℕ} → text ≡ other → Put first second at text next → Put first second at other next
 put-same e p = rw e at p
 
-drop-zeros : (n size : ℕ) → drop n (zeros size) ≡ zeros (size - n)
-drop-zeros zero size = ap (λ (k : ℕ). zeros k) (sym (sub-zero size))
-drop-zeros (suc n) zero = ap (λ (k : ℕ). zeros k) (sym (zero-sub (suc n)))
-drop-zeros (suc n) (suc size) = drop-zeros n size ∙ ap (λ (k : ℕ). zeros k) (sym (suc-sub-suc size n))
+-- a text that was put from the start on, in front of what was there
+pub put-front : {first second text : List ℕ} {next : ℕ} → Put first second 0 text next → length text ≤ length first → second ≡ text ++ drop (length text) first
+put-front {first} {second} {text} p h = p .stored ∙ sets-eq text first 0 (omega arith) ∙ ap (λ (n : ℕ). text ++ drop n first) (zero-add (length text))
 
--- an array of zeros into which a text was put from its start on
-pub put-written : (size : ℕ) {bytes text : List ℕ} {long : ℕ} → Put (zeros size) bytes 0 text long → length text ≤ size → Written size text bytes long
-put-written size {bytes} {text} {long} p h =
-    record {
-      all-bytes = p .stored ∙ sets-eq text (zeros size) 0 room ∙ ap (λ (l : List ℕ). text ++ l) (ap (λ (n : ℕ). drop n (zeros size)) (zero-add (length text)) ∙ drop-zeros (length text) size);
-      its-length = p .place ∙ zero-add (length text);
-      fits = rw (put-length p, length-replicate, p .place, zero-add) h;
-    }
-  where
-    room : 0 + length text ≤ length (zeros size)
-    room = rw length-replicate (omega arith)
+pub put-next : {first second text : List ℕ} {next : ℕ} → Put first second 0 text next → next ≡ length text
+put-next {text = text} p = p .place ∙ zero-add (length text)
 
 -- one byte
 pub put-one : (buffer : List ℕ) (at byte : ℕ) → Put buffer (set buffer at byte) at (byte ∷ []) (at + 1)

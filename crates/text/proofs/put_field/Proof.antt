@@ -1,8 +1,8 @@
--- `printed::put_field` meets its contract: the digits, and then the byte. Assumes nothing.
-use Rattle.printed.proofs.PutLaws.{put-both}
+-- `text::put_field` meets its contract: the digits, and then the byte. Assumes nothing.
+use Rattle.text.specs.PutLaws.{put-both}
 use borrow.Author.Needs.{needs}
-use Rattle.printed.proofs.put_field.Statement.{statement}
-use Rattle.printed.proofs.put_field.Tie as tie
+use Rattle.text.proofs.put_field.Statement.{statement}
+use Rattle.text.proofs.put_field.Tie as tie
 
 put-decimal-requires : tie.Need-put-decimal-requires
 put-decimal-requires c κs = search needs

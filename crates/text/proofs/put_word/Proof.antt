@@ -1,12 +1,12 @@
--- `printed::put_word` meets its contract. The loop's invariant: as many bytes of the word are put as were passed.
+-- `text::put_word` meets its contract. The loop's invariant: as many bytes of the word are put as were passed.
 -- Assumes nothing.
-use Rattle.printed.proofs.PutLaws.{put-length, put-none, byte-put, word-put}
-use Rattle.printed.specs.Written.{Put}
+use Rattle.text.specs.PutLaws.{put-length, put-none, byte-put, word-put}
+use Rattle.text.specs.Put.{Put}
 use lib.ListN.{length, take}
 use Prim.Native.Nat.{_-_, _≤_}
 use native.Mathlib.Omega.{arith}
-use Rattle.printed.proofs.put_word.Statement.{statement}
-use Rattle.printed.proofs.put_word.Tie as tie
+use Rattle.text.proofs.put_word.Statement.{statement}
+use Rattle.text.proofs.put_word.Tie as tie
 
 abbrev Inv-loop : tie.InvT-loop
 Inv-loop out₀ word at₀ out at = (at ≤ length word) × Put out₀ out 0 (take at word) at
