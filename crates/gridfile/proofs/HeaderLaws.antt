@@ -5,15 +5,11 @@ use mathlib.Core.List.{List}
 use Prim.Native.Nat.{ℕ, _+_, _-_}
 use lib.ListN.{getD, drop}
 use Rattle.model.specs.Bounds.{is-size}
-use Rattle.model.specs.GridFile.{is-complete, in-header, start, read-from, read, no-cells}
-use Rattle.reading.specs.FieldSteps.{field-start, declined-reading, header-too-short, header-goes-on, header-too-long, bad-height, bad-width, header-ends}
+use Rattle.model.specs.GridFile.{start, read-from, read, no-cells}
+use Rattle.reading.specs.FieldSteps.{field-start, declined-reading, header-too-short, header-goes-on, header-too-long, bad-height, bad-width, header-ends, header-open}
 use Rattle.gridfile.specs.Fields.{field-at}
 use Rattle.gridfile.specs.declared.Field.the-variants.{Value, Refused}
 use Rattle.gridfile.proofs.ReadLaws.{Ended, value-ended, comma-there, by-refusal, by-ending}
-
-header-open : (field height : ℕ) → is-complete (field-start 1 field height 0 no-cells) ≡ false
-unfolding is-complete in-header field-start
-header-open field height = refl
 
 module _ (bytes : List ℕ) where
   from-start : read-from (field-start 1 1 0 0 no-cells) (drop 0 bytes) ≡ read bytes

@@ -3,3 +3,4 @@ mod FieldLaws
 mod ReadLaws
 mod RowLaws
 mod HeaderLaws
+mod WriteLaws

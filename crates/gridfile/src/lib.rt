@@ -1,5 +1,7 @@
 // Reading a grid file: the answer is H, W and 256 cells, or one numbered refusal with its line and field. The whole answer
 // is said by `read` of the crate `model`, specs/GridFile.antt there; specs/Fields.antt says what one field gives.
+// Writing one: the text of a grid goes to a lent buffer, in shortest digits; the answer and every byte of the buffer are said by
+// `write` of the crate `model`, specs/Writing.antt there.
 ghost use mathlib.Core.Path.{_≡_};
 ghost use mathlib.Core.Bool.{true};
 ghost use Prim.Native.Nat.{_+_, _-_, _*_, _≤_, _<_};
@@ -7,9 +9,11 @@ ghost use lib.ListN.{length, drop, set};
 ghost use Rattle.rules.specs.Grid.{largest-code};
 ghost use Rattle.model.specs.Bounds.{is-size};
 ghost use Rattle.model.specs.GridFile.{is-digit, disallowed-number, no-cells, read-from, read};
+ghost use Rattle.model.specs.Writing.{cell-text, rows-text, grid-text, write};
+ghost use Rattle.text.specs.Put.{Put};
 ghost use Rattle.reading.specs.FieldSteps.{field-start, cell-of, declined-reading};
 ghost use Rattle.gridfile.specs.Fields.{field-at, ended-field, field-number};
-ghost use Rattle.gridfile.specs.Answers.{reading-says};
+ghost use Rattle.gridfile.specs.Answers.{reading-says, writing-says};
 
 // The bytes that part fields and end lines, and the most digits of a field.
 const COMMA: u8 = 44;
@@ -30,6 +34,13 @@ pub struct Reading {
     pub height: usize,
     pub width: usize,
     pub cells: [i32; 256],
+}
+
+// What writing a grid gives: number 0 and how many bytes were written, or a refusal with length 0; the index is beside 9.
+pub struct Writing {
+    pub number: u8,
+    pub index: usize,
+    pub length: usize,
 }
 
 // What a field gives: its value and the place of the byte that ended it, or the number of its refusal.
@@ -201,4 +212,78 @@ pub fn read(bytes: &[u8]) -> Reading
         return declined(5, 1, 2);
     }
     read_rows(bytes, end + 1, height, width)
+}
+
+// The field of a pad from a place on, nothing for a blank one; the place after it.
+fn put_cell(out: &mut [u8], at: usize, cell: i32) -> usize
+    requires { ⌜ at + length (cell-text cell) ≤ length (now out) ⌝ }
+    ensures { λ r. ⌜ Put (now (out .entry)) (now (out .exit)) at (cell-text cell) r ⌝ }
+{
+    if cell < 0 {
+        return at;
+    }
+    text::put_decimal(out, at, cell as u64)
+}
+
+// The fields of the pads in index order from a place on, after each a comma or, at a row's end, a line end; the place after them.
+fn put_rows(out: &mut [u8], at: usize, width: usize, cells: &[i32]) -> usize
+    requires { ⌜ (is-size width ≡ true) × (at + length (rows-text width 1 (now cells)) ≤ length (now out)) ⌝ }
+    ensures { λ r. ⌜ Put (now (out .entry)) (now (out .exit)) at (rows-text width 1 (now (cells .entry))) r ⌝ }
+{
+    let mut next = at;
+    let mut field = 1;
+    let mut index = 0;
+    while index < cells.len() {
+        next = put_cell(out, next, cells[index]);
+        index += 1;
+        if field == width {
+            next = text::put_byte(out, next, LINE_END);
+            field = 1;
+        } else {
+            next = text::put_byte(out, next, COMMA);
+            field += 1;
+        }
+    }
+    next
+}
+
+// The text of a grid from the start on; its length.
+fn put_grid(out: &mut [u8], height: usize, width: usize, cells: &[i32]) -> usize
+    requires { ⌜ (is-size width ≡ true) × (length (grid-text height width (now cells)) ≤ length (now out)) ⌝ }
+    ensures { λ r. ⌜ Put (now (out .entry)) (now (out .exit)) 0 (grid-text height width (now (cells .entry))) r ⌝ }
+{
+    let second = text::put_field(out, 0, height as u64, COMMA);
+    let rows = text::put_field(out, second, width as u64, LINE_END);
+    put_rows(out, rows, width, cells)
+}
+
+// A grid into a lent buffer: the grid's refusals first, then 14 where the buffer is shorter than the text. The text is made in an array
+// that the longest one fits, so that nothing is written where there is no room.
+pub fn write(height: usize, width: usize, cells: &[i32], buffer: &mut [u8]) -> Writing
+    ensures { λ r. ⌜ writing-says r (now (buffer .exit)) ≡ write height width (now (cells .entry)) (now (buffer .entry)) ⌝ }
+{
+    let refusal = grid::grid_refusal(height, width, cells);
+    let number = refusal.number;
+    if number != 0 {
+        return Writing {
+            number,
+            index: refusal.index,
+            length: 0,
+        };
+    }
+    let mut whole = [0; 2822];
+    let length = put_grid(&mut whole, height, width, cells);
+    if buffer.len() < length {
+        return Writing {
+            number: 14,
+            index: 0,
+            length: 0,
+        };
+    }
+    text::put_word(buffer, &whole[..length]);
+    Writing {
+        number: 0,
+        index: 0,
+        length,
+    }
 }

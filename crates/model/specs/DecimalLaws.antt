@@ -68,3 +68,11 @@ decimal-length (suc digits) number h = go (ltb number 10) refl (λ (k : number /
     go : (t : Bool) → ltb number 10 ≡ t → (number / 10 < 10 ^ suc digits → length (decimal (number / 10)) ≤ suc digits) → length (decimal number) ≤ suc (suc digits)
     go true e again = rw (decimal-short number (ltb-true _ _ e)) (omega arith)
     go false e again = rw (decimal-long number (ltb-false _ _ e), length-append) (omega (arith, again (omega arith)))
+
+-- and at least one
+pub decimal-some : (number : ℕ) → 1 ≤ length (decimal number)
+decimal-some number = go (ltb number 10) refl
+  where
+    go : (t : Bool) → ltb number 10 ≡ t → 1 ≤ length (decimal number)
+    go true e = rw (decimal-short number (ltb-true _ _ e)) (omega arith)
+    go false e = rw (decimal-long number (ltb-false _ _ e), length-append) (omega arith)

@@ -1,7 +1,7 @@
 -- The byte by byte reading, taken field by field: where it stands at the first byte of a field and after some digits, what a digit does,
 -- and what the byte does that ends the field, in a row and in the header. Reader and writer both stand on it.
 use Rattle.model.specs.Choice.{if_then_else_}
-use mathlib.Core.Path.{_≡_, _∙_}
+use mathlib.Core.Path.{_≡_, refl, _∙_}
 use mathlib.Core.Bool.{true, false, _||_, or-assoc, or-true}
 use mathlib.Core.List.{List, [], _∷_}
 use Prim.Native.Nat.{ℕ, suc, _+_, _-_, _*_, _≤_, _<_}
@@ -159,6 +159,10 @@ module _ (line field height width : ℕ) (cells : List ℤ) (in-rows : 2 ≤ lin
     row-goes-on h = byte-accepted _ 44 rest (simp (here-open, le-ltb _ _ sound, no-header, ne-eqb _ _ h)) ∙ simp no-header
 
 -- in the header: H, then W
+pub header-open : (field height : ℕ) → is-complete (field-start 1 field height 0 no-cells) ≡ false
+unfolding is-complete in-header field-start
+header-open field height = refl
+
 module _ (digits value : ℕ) (rest : List ℕ) (sound : value ≤ largest-code) where
   pub header-too-short : read-from (field-ending 1 1 0 0 no-cells digits value) (10 ∷ rest) ≡ declined-reading 4 1 1
   unfolding refusal declined declined-reading field-start in-field is-complete in-header fields-due is-digit is-comma is-line-end is-allowed

@@ -5,3 +5,6 @@ pub mod ReadingLaws
 pub mod LongFiles
 pub mod DisallowedBytes
 pub mod ShortestDigits
+pub mod ReadBack
+pub mod WrittenBack
+pub mod WriteRead

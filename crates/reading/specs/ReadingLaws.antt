@@ -12,7 +12,7 @@ use lib.ListN.{length, getD, set, take, length-set, length-replicate, replicate}
 use lib.Seq.{getD-take, length-take-le}
 use lib.IntN.{ℤ, pos}
 use lib.Dec.{eqb, ltb}
-use borrow.Author.Tests.{ltb-false, eqb-true, eqb-false, not-true, ne-eqb}
+use borrow.Author.Tests.{ltb-false, eqb-true, eqb-false, not-true, not-false, ne-eqb}
 use Rattle.rules.specs.Grid.{Size, largest-code, blank-cell, CellInRange, Accepted}
 use Rattle.rules.specs.Tests.{both, conflict}
 use Rattle.model.specs.Bounds.{is-size, most-digits}
@@ -72,6 +72,11 @@ kind-of s byte p = go (is-digit byte) (is-comma byte) (is-line-end byte) refl re
     go false true l hd hc hl = a-comma hd hc (ltb-false largest-code (s .value) (rw hd at (p .in-range))) (eqb-false (s .field) (fields-due s) (rw hc at (p .no-more-fields)))
     go false false true hd hc hl = a-line-end hd hc (ltb-false largest-code (s .value) (rw hd at (p .in-range))) (ltb-false (s .field) (fields-due s) (rw hl at (p .enough-fields))) (rw hl at (p .sizes))
     go false false false hd hc hl = absurd (true≢false (rw (hd, hc, hl) at (p .allowed)))
+
+-- an accepted byte that is no digit and no comma is a line end
+pub line-end-there : (s : Standing) (byte : ℕ) → Passed s byte → is-digit byte ≡ false → is-comma byte ≡ false → is-line-end byte ≡ true
+unfolding is-allowed
+line-end-there s byte p d c = not-false (is-line-end byte) (rw (d, c) at (p .allowed))
 
 -- ## A sound standing
 
@@ -292,7 +297,7 @@ declined-sound number s =
       pads-in-cells = omega arith;
     }
 
-read-from-sound : (s : Standing) (bytes : List ℕ) → Sound s → SoundReading (read-from s bytes)
+pub read-from-sound : (s : Standing) (bytes : List ℕ) → Sound s → SoundReading (read-from s bytes)
 unfolding read-from
 read-from-sound s [] sound = go (is-complete s) refl
   where

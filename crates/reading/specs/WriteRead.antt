@@ -1,0 +1,86 @@
+-- Writing and reading a grid file, held together: what is written reads back as the grid, and what was read is written as the file in
+-- shortest digits. The statements are about the calls `write` and `read` as the model defines them, for any lent buffer.
+use mathlib.Core.Path.{_≡_, refl, ap, _∙_}
+use mathlib.Core.Bool.{Bool, true, false}
+use mathlib.Core.List.{List}
+use Prim.Native.Nat.{ℕ, _≤_, _<_}
+use native.Mathlib.Nat.{le-trans}
+use native.Mathlib.Omega.{arith}
+use lib.ListN.{length, take, drop}
+use lib.Seq.{take-append-seam}
+use lib.IntN.{ℤ}
+use lib.Dec.{eqb, ltb}
+use borrow.Author.Tests.{eqb-true, eqb-false, lt-ltb, le-ltb, ltb-false}
+use Rattle.rules.specs.Grid.{Accepted}
+use Rattle.model.specs.Refusals.{grid-refusal}
+use Rattle.model.specs.RefusalLaws.{not-refused, accepted-is-not-refused}
+use Rattle.model.specs.GridFile.{read}
+use Rattle.model.specs.Writing.{grid-text, turned-away, written, write}
+use Rattle.reading.specs.ReadingLaws.{read-sound}
+use Rattle.reading.specs.ShortestDigits.{in-shortest-digits, LeadingZero, same-bytes, fewer-bytes, no-more-bytes}
+use Rattle.reading.specs.ReadBack.{grid-reading, text-is-read, longest-text}
+use Rattle.reading.specs.WrittenBack.{pads-read, text-is-file}
+
+-- ## When a grid is written
+
+module _ (height width : ℕ) (cells : List ℤ) (buffer : List ℕ) where
+  -- a refused grid, whatever the room
+  pub refused-grid : (eqb (grid-refusal height width cells .0) 0 ≡ false) → write height width cells buffer ≡ turned-away (grid-refusal height width cells .0) (grid-refusal height width cells .1) buffer
+  unfolding write
+  refused-grid h = rw h
+
+  module _ (a : Accepted height width cells) where
+    pub has-room : length (grid-text height width cells) ≤ length buffer → write height width cells buffer ≡ written (grid-text height width cells) buffer
+    unfolding write
+    has-room h = rw (accepted-is-not-refused height width cells a, le-ltb _ _ h)
+
+    pub no-room : length buffer < length (grid-text height width cells) → write height width cells buffer ≡ turned-away 14 0 buffer
+    unfolding write
+    no-room h = rw (accepted-is-not-refused height width cells a, lt-ltb _ _ h)
+
+    -- 2,822 bytes are room enough for every accepted grid
+    pub room-for-any : 2822 ≤ length buffer → write height width cells buffer ≡ written (grid-text height width cells) buffer
+    room-for-any h = has-room (le-trans (longest-text height width cells a) h)
+
+  -- a grid that was written is an accepted one, and its text had room
+  pub written-says : write height width cells buffer .number ≡ 0 → Accepted height width cells × (write height width cells buffer ≡ written (grid-text height width cells) buffer)
+  unfolding write turned-away
+  written-says n = go (eqb (grid-refusal height width cells .0) 0) refl (ltb (length buffer) (length (grid-text height width cells))) refl
+    where
+      go : (t : Bool) → eqb (grid-refusal height width cells .0) 0 ≡ t → (u : Bool) → ltb (length buffer) (length (grid-text height width cells)) ≡ u → Accepted height width cells × (write height width cells buffer ≡ written (grid-text height width cells) buffer)
+      go false t u e = let k : grid-refusal height width cells .0 ≡ 0 = rw (t, write) at n in absurd (eqb-false _ _ t k)
+      go true t true e = let k : _≡_ {A = ℕ} 14 0 = rw (t, e, write) at n in absurd (omega arith)
+      go true t false e = let a = not-refused height width cells (eqb-true _ _ t) in (a, has-room a (ltb-false _ _ e))
+
+-- ## Reading what was written
+
+-- the first bytes of the buffer, as many as were written, read as the grid: H, W, its cells, and blank past them
+pub written-is-read : (height width : ℕ) (cells : List ℤ) (buffer : List ℕ) → write height width cells buffer .number ≡ 0
+    → read (take (write height width cells buffer .length) (write height width cells buffer .buffer)) ≡ grid-reading height width cells
+unfolding written
+written-is-read height width cells buffer n =
+    let (a, w) = written-says height width cells buffer n in
+    rw w (ap read (take-append-seam (grid-text height width cells) (drop (length (grid-text height width cells)) buffer)) ∙ text-is-read height width cells a)
+
+-- ## Writing what was read
+
+module _ (file : List ℕ) (accepted : read file .number ≡ 0) where
+  -- the file with each field in its shortest digits, where the buffer has room for it; a buffer as long as the file always has
+  pub read-is-written : (buffer : List ℕ) → length (in-shortest-digits file) ≤ length buffer
+      → write (read file .height) (read file .width) (pads-read (read file)) buffer ≡ written (in-shortest-digits file) buffer
+  read-is-written buffer h =
+      has-room (read file .height) (read file .width) (pads-read (read file)) buffer (read-sound file .in-range accepted) (rw (text-is-file file accepted) h)
+      ∙ ap (λ (text : List ℕ). written text buffer) (text-is-file file accepted)
+
+  pub file-is-room : length (in-shortest-digits file) ≤ length file
+  file-is-room = no-more-bytes file
+
+  -- the same bytes exactly where no field of two or more digits begins with 0
+  pub same-file : (LeadingZero false file → ⊥) → (buffer : List ℕ) → length file ≤ length buffer
+      → write (read file .height) (read file .width) (pads-read (read file)) buffer ≡ written file buffer
+  same-file none buffer h = read-is-written buffer (rw (same-bytes file none) h) ∙ ap (λ (text : List ℕ). written text buffer) (same-bytes file none)
+
+  pub shorter-file : LeadingZero false file → (buffer : List ℕ) → length file ≤ length buffer
+      → write (read file .height) (read file .width) (pads-read (read file)) buffer .length < length file
+  unfolding written
+  shorter-file z buffer h = rw (read-is-written buffer (le-trans file-is-room h)) (fewer-bytes file z)
