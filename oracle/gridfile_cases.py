@@ -8,8 +8,8 @@ Run from the root of the repository:
 It writes the files `stdin` (the grid files, each behind its length in two bytes, high byte first) and `stdout` (the expected
 answers). The answers come from `reading` below, a second reader that is built from the documents and not from the program: it
 looks at the whole file, finds for each rule all the bytes at which it applies, and takes the first byte and there the rule
-that is tested first. A refused file is answered by `refused,number,line,field`, an accepted one by the grid itself in shortest
-digits, and a line `past` if a cell past the last row is not blank.
+that is tested first. A refused file is answered by `refused,number,line,field`, an accepted one by the grid as it is written
+back, in shortest digits, and a line `past` for each cell past the last row that is not blank.
 """
 import random
 import sys

@@ -29,10 +29,12 @@
  *   6  the file ends before its last row does, or goes on after it
  *  13  a byte that is no digit, no comma and no line end, after a digit of its field: a letter typed for a digit, or a
  *      space or a return (0D hexadecimal) behind a number
- * A grid, for a board or a search:
+ * A grid, for a board, a search or writing:
  *   7  a height or width outside 2 to 16
  *   8  the number of cells is not height * width
  *   9  a cell below -1 or equal to 2147483647
+ * Writing a grid:
+ *  14  the buffer is shorter than the text
  * A call on a board:
  *  10  no such edge place
  *  11  a state that is neither 1 (line) nor 2 (none)
@@ -66,6 +68,26 @@ extern "C" {
  */
 size_t hunekowha_read(const uint8_t *file, size_t file_length, uint64_t *answer, size_t answer_length, int32_t *cells,
                       size_t cells_length);
+
+/*
+ * Writes a grid as a grid file: `H,W` first, then H lines of W fields parted by commas, each line ended by 0A; a code in its
+ * shortest digits, an empty field for a blank pad. Reading the text gives the same grid. Writing what was read gives the file
+ * with each field in its shortest digits: the same bytes, where no field of two or more digits begins with 0.
+ *
+ *   height, width          the size of the grid
+ *   cells, cells_length    its cells, height * width of them
+ *   text, text_length      where the text goes, from the start; 2822 bytes are enough for every grid
+ *   answer, answer_length  at least 3 numbers
+ *
+ * Returns 3, or 0 where `answer` is too short.
+ *   answer[0]  0, or the number of the refusal: 7 to 9 of the grid first, then 14 where `text` is shorter than the text; beside
+ *              a refusal no byte of `text` is changed
+ *   answer[1]  the index of the first bad cell beside 9, else 0
+ *   answer[2]  how many bytes were written; 0 beside a refusal
+ * The bytes of `text` past those that were written keep their values.
+ */
+size_t hunekowha_write(size_t height, size_t width, const int32_t *cells, size_t cells_length, uint8_t *text,
+                       size_t text_length, uint64_t *answer, size_t answer_length);
 
 /*
  * Lists the layouts of a grid: each once, in ascending order, until all are found, until `limit` boards are visited, or

@@ -5,6 +5,7 @@
 //   search H,W CELLS LENT LIMIT ROOM
 //   record H,W LENT COUNT K ROOM
 //   file LENT CELLS-LENT HEXADECIMAL
+//   write H,W CELLS LENT ROOM
 // CELLS are numbers parted by commas. LENT is the length of the slice that is
 // lent for the answer; `-` stands for an empty list.
 
@@ -50,6 +51,11 @@ pub enum Case {
         lent: usize,
         cells_lent: usize,
         bytes: Vec<u8>,
+    },
+    Write {
+        grid: Given,
+        lent: usize,
+        room: usize,
     },
 }
 
@@ -110,6 +116,7 @@ impl std::fmt::Display for Case {
                 }
                 write!(out, "file {lent} {cells_lent} {text}")
             }
+            Case::Write { grid, lent, room } => write!(out, "write {grid} {lent} {room}"),
         }
     }
 }
@@ -151,6 +158,11 @@ fn read_hexadecimal(text: &str) -> Vec<u8> {
         .collect()
 }
 
+fn read_calls(text: &str) -> Vec<Asked> {
+    let calls = text.split(';').filter(|call| *call != "-");
+    calls.map(read_asked).collect()
+}
+
 pub fn read_case(text: &str) -> Case {
     let words: Vec<&str> = text.split_whitespace().collect();
     let grid = || Given {
@@ -158,15 +170,11 @@ pub fn read_case(text: &str) -> Case {
         cells: numbers(words[2]),
     };
     match words[0] {
-        "board" => {
-            let calls = words[4..].join(" ");
-            let asked = calls.split(';').filter(|call| *call != "-");
-            Case::Board {
-                grid: grid(),
-                lent: number(words[3]),
-                calls: asked.map(read_asked).collect(),
-            }
-        }
+        "board" => Case::Board {
+            grid: grid(),
+            lent: number(words[3]),
+            calls: read_calls(&words[4..].join(" ")),
+        },
         "search" => Case::Search {
             grid: grid(),
             lent: number(words[3]),
@@ -186,6 +194,11 @@ pub fn read_case(text: &str) -> Case {
             bytes: words
                 .get(3)
                 .map_or(Vec::new(), |text| read_hexadecimal(text)),
+        },
+        "write" => Case::Write {
+            grid: grid(),
+            lent: number(words[3]),
+            room: number(words[4]),
         },
         word => panic!("no such case: {word}"),
     }

@@ -1,11 +1,11 @@
 // Cases chosen at random: sequences of board calls on all sizes with declined
-// calls between them, searches with limits and rooms, records, and damaged
-// copies of good files.
+// calls between them, searches with limits and rooms, records, damaged copies
+// of good files, and grids to be written with rooms about their texts.
 
 use crate::answers::{Call, Pads, LINE, NONE};
 use crate::calls::grids_and_calls;
 use crate::cases::{Asked, Case, Given};
-use crate::expected::board_room;
+use crate::expected::{board_room, grid_text, written_text};
 use crate::random::{any_pads, any_plan, wired_pads, Chooser, Random, LARGEST_CODE};
 use crate::sequences::checkpoint_calls;
 
@@ -244,17 +244,11 @@ pub fn record_case(random: &mut Random) -> Case {
 /// A file of the grid, with leading zeros here and there.
 fn file_text(random: &mut Random, pads: &Pads) -> Vec<u8> {
     let zeros = random.choose(&[1, 1, 2, 3, 10]);
-    let mut text = format!("{},{}\n", pads.height, pads.width);
-    for (index, cell) in pads.cells.iter().enumerate() {
-        match *cell {
-            -1 => {}
-            code if random.chance(20) => text += &format!("{code:0zeros$}"),
-            code if random.chance(5) => text += &(code ^ random.below(1 << 20) as i32).to_string(),
-            code => text += &code.to_string(),
-        }
-        let last = (index + 1) % pads.width == 0;
-        text.push(if last { '\n' } else { ',' });
-    }
+    let text = grid_text(&given(pads), |code| match code {
+        code if random.chance(20) => format!("{code:0zeros$}"),
+        code if random.chance(5) => (code ^ random.below(1 << 20) as i32).to_string(),
+        code => code.to_string(),
+    });
     text.into_bytes()
 }
 
@@ -347,5 +341,74 @@ pub fn file_case(random: &mut Random) -> Case {
         lent: any_lent(random, 5),
         cells_lent: any_lent(random, 256),
         bytes,
+    }
+}
+
+/// Any code with as many digits as the power of ten `least`.
+fn code_from(random: &mut Random, least: i32) -> i32 {
+    let codes = (9 * least as usize).min((LARGEST_CODE - least) as usize + 1);
+    least + random.below(codes) as i32
+}
+
+/// A code with one to ten digits; often a power of ten or one less.
+fn any_code(random: &mut Random) -> i32 {
+    let least = 10_i32.pow(random.below(10) as u32);
+    match random.below(8) {
+        0 => 0,
+        1 => random.below(10) as i32,
+        2 => least,
+        3 => least - 1,
+        4 => LARGEST_CODE,
+        _ => code_from(random, least),
+    }
+}
+
+/// A grid with blank pads and any codes; some are all blank, some have ten
+/// digits at every pad.
+fn grid_to_write(random: &mut Random, (height, width): (usize, usize)) -> Given {
+    let blank = random.choose(&[0, 0, 20, 20, 50, 50, 90, 100]);
+    let long = random.chance(25);
+    let mut cell = || {
+        if random.chance(blank) {
+            -1
+        } else if long {
+            code_from(random, 1000000000)
+        } else {
+            any_code(random)
+        }
+    };
+    Given {
+        size: (height, width),
+        cells: (0..height * width).map(|_| cell()).collect(),
+    }
+}
+
+/// A room for a text: mostly one short of it, equal to it or one beyond it.
+fn text_room(random: &mut Random, length: usize) -> usize {
+    let short = random.below(length);
+    match random.below(10) {
+        0..=2 => length - 1,
+        3..=5 => length,
+        6 | 7 => length + 1,
+        8 => length + 2 + random.below(3000),
+        _ => random.choose(&[0, short]),
+    }
+}
+
+/// Where the grid is declined it has no text, and any length stands for it.
+pub fn write_case(random: &mut Random, number: usize) -> Case {
+    let grid = if random.chance(4) {
+        odd_grid(random)
+    } else {
+        grid_to_write(random, size_of(number))
+    };
+    let length = match written_text(&grid).len() {
+        0 => 1 + random.below(3000),
+        length => length,
+    };
+    Case::Write {
+        grid,
+        lent: any_lent(random, 3),
+        room: text_room(random, length),
     }
 }

@@ -1,14 +1,14 @@
 // Compares the proved library with the reference: board calls, searches,
-// records and files, chosen by a seed, until the time or the counts are
-// reached. The first case that differs is made smaller and printed.
+// records, files and writes, chosen by a seed, until the time or the counts
+// are reached. The first case that differs is made smaller and printed.
 
 use crate::answers::{limited, whole, Call, Pads, Run};
-use crate::cases::{read_case, Asked, Case};
+use crate::cases::{read_case, Asked, Case, Given};
 use crate::chosen::{
     board_case, declined_search, file_case, known_sequences, record_case, search_case, search_pads,
-    varied_case,
+    varied_case, write_case,
 };
-use crate::expected::{by_library, expected, search_answer, Answer};
+use crate::expected::{by_library, expected, search_answer, written_text, Answer};
 use crate::grids::{check_beginning, runs_of};
 use crate::random::Random;
 use crate::smallest::smallest;
@@ -57,22 +57,52 @@ impl ShownCalls {
     }
 }
 
-/// How many files were accepted (number 0), and how many refused, by number.
+/// How many files or writes were accepted (number 0), how many refused, by
+/// number, and how many were written or read back.
 #[derive(Default)]
-struct ShownFiles {
+struct ShownNumbers {
     numbers: BTreeMap<u64, usize>,
+    back: usize,
 }
 
-impl ShownFiles {
+impl ShownNumbers {
     /// Where a slice was too short for the answer, there is no number.
     fn count(&mut self, answer: &Answer) {
         if answer.returned > 0 {
             *self.numbers.entry(answer.numbers[0]).or_default() += 1;
         }
+        self.back += !answer.back.is_empty() as usize;
     }
 
     fn figures(&self) -> String {
-        format!("files by number: {:?}", self.numbers)
+        format!("by number: {:?}; {} of them", self.numbers, self.back)
+    }
+}
+
+/// How many rooms were one short of the text, equal to it and beyond it.
+#[derive(Default)]
+struct ShownRooms {
+    one_short: usize,
+    equal: usize,
+    beyond: usize,
+}
+
+impl ShownRooms {
+    /// Where the grid is declined or no answer is given, there is no text.
+    fn count(&mut self, grid: &Given, room: usize, answer: &Answer) {
+        let length = written_text(grid).len();
+        if length > 0 && answer.returned > 0 {
+            self.one_short += (room + 1 == length) as usize;
+            self.equal += (room == length) as usize;
+            self.beyond += (room > length) as usize;
+        }
+    }
+
+    fn figures(&self) -> String {
+        format!(
+            "rooms: {} one short of the text, {} equal to it, {} beyond it",
+            self.one_short, self.equal, self.beyond
+        )
     }
 }
 
@@ -80,16 +110,20 @@ impl ShownFiles {
 /// cases however long the others take.
 struct Comparison {
     shown_calls: ShownCalls,
-    shown_files: ShownFiles,
+    shown_files: ShownNumbers,
+    shown_writes: ShownNumbers,
+    shown_rooms: ShownRooms,
     boards: Random,
     grid_numbers: Random,
     declined: Random,
     file_numbers: Random,
+    write_numbers: Random,
     known: Vec<(Pads, Vec<Call>)>,
     done: Counts,
     whole_searches: usize,
     declined_searches: usize,
     records: usize,
+    writes: usize,
     sequences: usize,
     grids: usize,
     visited: u64,
@@ -101,16 +135,20 @@ impl Comparison {
     fn new(seed: u64) -> Self {
         Comparison {
             shown_calls: ShownCalls::default(),
-            shown_files: ShownFiles::default(),
+            shown_files: ShownNumbers::default(),
+            shown_writes: ShownNumbers::default(),
+            shown_rooms: ShownRooms::default(),
             boards: Random::new(seed),
             grid_numbers: Random::new(seed.wrapping_add(1 << 32)),
             declined: Random::new(seed.wrapping_add(2 << 32)),
             file_numbers: Random::new(seed.wrapping_add(3 << 32)),
+            write_numbers: Random::new(seed.wrapping_add(4 << 32)),
             known: known_sequences(),
             done: Counts::default(),
             whole_searches: 0,
             declined_searches: 0,
             records: 0,
+            writes: 0,
             sequences: 0,
             grids: 0,
             visited: 0,
@@ -121,7 +159,7 @@ impl Comparison {
 
     fn figures(&self) -> String {
         format!(
-            "{:.0} s: {} board calls in {} sequences; {} searches ({} of them whole, against solve), {} visited boards; {} declined searches; {} records; {} files",
+            "{:.0} s: {} board calls in {} sequences; {} searches ({} of them whole, against solve), {} visited boards; {} declined searches; {} records; {} files; {} writes",
             self.started.elapsed().as_secs_f64(),
             self.done.calls,
             self.sequences,
@@ -130,14 +168,17 @@ impl Comparison {
             self.visited,
             self.declined_searches,
             self.records,
-            self.done.files
+            self.done.files,
+            self.writes
         )
     }
 
     fn print_end(&self) {
         println!("{}; no difference", self.figures());
         println!("{}", self.shown_calls.figures());
-        println!("{}", self.shown_files.figures());
+        println!("files {} written back", self.shown_files.figures());
+        println!("writes {} read back", self.shown_writes.figures());
+        println!("{}", self.shown_rooms.figures());
     }
 
     fn show_progress(&mut self) {
@@ -229,6 +270,18 @@ impl Comparison {
         self.shown_files.count(&answer);
     }
 
+    /// Writes come before files, because they can be made smaller.
+    fn compare_write(&mut self) {
+        let case = write_case(&mut self.write_numbers, self.writes);
+        let answer = expected(&case);
+        self.hold(&case, &answer);
+        self.writes += 1;
+        self.shown_writes.count(&answer);
+        if let Case::Write { grid, room, .. } = &case {
+            self.shown_rooms.count(grid, *room, &answer);
+        }
+    }
+
     /// Cases of one kind for a twentieth of a second.
     fn turn(&mut self, compare: fn(&mut Comparison)) {
         let start = Instant::now();
@@ -250,6 +303,14 @@ fn report(case: &Case) {
 /// Prints what a case must give and what the library gives.
 fn show(case: &Case) -> bool {
     let (wanted, found) = (expected(case), by_library(case));
+    show_answers(&wanted, &found);
+    let same = wanted == found;
+    println!("{}", if same { "no difference" } else { "DIFFERENT" });
+    same
+}
+
+/// Where two answers differ, and where those of the way back differ.
+fn show_answers(wanted: &Answer, found: &Answer) {
     println!(
         "returned: {} wanted, {} found",
         wanted.returned, found.returned
@@ -258,13 +319,14 @@ fn show(case: &Case) -> bool {
     let numbers = |answer: &Answer| answer.numbers.iter().map(|n| *n as i128).collect();
     let cells = |answer: &Answer| answer.cells.iter().map(|n| *n as i128).collect();
     let bytes = |answer: &Answer| answer.bytes.iter().map(|n| *n as i128).collect();
-    show_first("answers", signed(&wanted), signed(&found));
-    show_first("answer", numbers(&wanted), numbers(&found));
-    show_first("cells", cells(&wanted), cells(&found));
-    show_first("buffer", bytes(&wanted), bytes(&found));
-    let same = wanted == found;
-    println!("{}", if same { "no difference" } else { "DIFFERENT" });
-    same
+    show_first("answers", signed(wanted), signed(found));
+    show_first("answer", numbers(wanted), numbers(found));
+    show_first("cells", cells(wanted), cells(found));
+    show_first("buffer", bytes(wanted), bytes(found));
+    for (wanted, found) in wanted.back.iter().zip(&found.back) {
+        println!("and back:");
+        show_answers(wanted, found);
+    }
 }
 
 fn show_first(name: &str, wanted: Vec<i128>, found: Vec<i128>) {
@@ -279,7 +341,7 @@ pub fn replay_case(text: &str) -> bool {
     show(&read_case(text))
 }
 
-/// Compares for so many seconds, a third of the time on each kind.
+/// Compares for so many seconds, a quarter of the time on each kind.
 pub fn compare_for(seconds: u64, seed: u64) {
     println!("seed {seed}");
     let mut comparison = Comparison::new(seed);
@@ -287,6 +349,7 @@ pub fn compare_for(seconds: u64, seed: u64) {
     while Instant::now() < end {
         comparison.turn(|comparison| comparison.compare_board());
         comparison.turn(|comparison| comparison.compare_search());
+        comparison.turn(|comparison| comparison.compare_write());
         comparison.turn(|comparison| comparison.compare_file());
         comparison.compare_declined();
         comparison.show_progress();
@@ -294,7 +357,8 @@ pub fn compare_for(seconds: u64, seed: u64) {
     comparison.print_end();
 }
 
-/// Compares until so many board calls, searches and files are done.
+/// Compares until so many board calls, searches and files are done, and as
+/// many writes as files.
 pub fn compare_counts(wanted: Counts, seed: u64) {
     println!("seed {seed}");
     let mut comparison = Comparison::new(seed);
@@ -314,6 +378,7 @@ pub fn compare_counts(wanted: Counts, seed: u64) {
                 comparison.compare_search();
             }
             if more_files {
+                comparison.compare_write();
                 comparison.compare_file();
             }
         }

@@ -1,6 +1,8 @@
 // What a case must give: by the reference where the call is accepted, by the
-// numbers of the documents where it is declined, and for a file by the reader
-// of routes.rs. And what the library gives for the same case.
+// numbers of the documents where it is declined, for a file by the reader of
+// routes.rs, and for a grid that is written by Rust's own digits. And what the
+// library gives for the same case. A text that was written is read back, and a
+// grid that was read is written back.
 
 use crate::answers::{limited, make_call, read_state, whole, Call, Pads, Run, State};
 use crate::cases::{Asked, Case, Given};
@@ -21,6 +23,9 @@ pub struct Answer {
     pub signed: Vec<i64>,
     pub cells: Vec<i32>,
     pub bytes: Vec<u8>,
+    /// The answers when what was written is read back, or what was read is
+    /// written back.
+    pub back: Vec<Answer>,
 }
 
 /// The refusals 7, 8 and 9 of a grid, with the index of the first bad cell.
@@ -206,11 +211,16 @@ fn expected_record(
     answer
 }
 
-fn expected_file(lent: usize, cells_lent: usize, bytes: &[u8]) -> Answer {
+/// The answer of a read whose grid or refusal is known.
+fn read_answer(
+    read: Result<Pads, (usize, usize, usize)>,
+    lent: usize,
+    cells_lent: usize,
+) -> Answer {
     let mut answer = Answer::default();
     if lent >= 5 && cells_lent >= 256 {
         answer.returned = 5;
-        match routes::read(bytes) {
+        match read {
             Ok(pads) => {
                 answer.numbers = vec![0, 0, 0, pads.height as u64, pads.width as u64];
                 answer.cells = pads.cells;
@@ -223,6 +233,82 @@ fn expected_file(lent: usize, cells_lent: usize, bytes: &[u8]) -> Answer {
     }
     answer.numbers.resize(lent, FILL as u64);
     answer.cells.resize(cells_lent, FILL as i32);
+    answer
+}
+
+/// The answer of a write whose refusal and text are known.
+fn write_answer(refusal: (u64, u64), text: &[u8], lent: usize, room: usize) -> Answer {
+    let mut answer = Answer::default();
+    if lent >= 3 {
+        answer.returned = 3;
+        answer.numbers = vec![refusal.0, refusal.1, text.len() as u64];
+        answer.bytes = text.to_vec();
+    }
+    answer.numbers.resize(lent, FILL as u64);
+    answer.bytes.resize(room, FILL);
+    answer
+}
+
+/// A field and its end, without the zeros that stand before another digit.
+fn shortest_field(mut field: &[u8]) -> &[u8] {
+    while let [b'0', b'0'..=b'9', ..] = field {
+        field = &field[1..];
+    }
+    field
+}
+
+/// The file with each field in its shortest digits.
+fn shortest_fields(file: &[u8]) -> Vec<u8> {
+    let is_end = |byte: &u8| *byte == b',' || *byte == b'\n';
+    let fields = file.split_inclusive(is_end);
+    fields.flat_map(shortest_field).copied().collect()
+}
+
+/// A grid that was read must be written back as the file's shortest digits,
+/// in a room as long as the file.
+fn expected_file(lent: usize, cells_lent: usize, bytes: &[u8]) -> Answer {
+    let mut answer = read_answer(routes::read(bytes), lent, cells_lent);
+    if answer.returned > 0 && answer.numbers[0] == 0 {
+        let text = shortest_fields(bytes);
+        answer.back = vec![write_answer((0, 0), &text, 3, bytes.len())];
+    }
+    answer
+}
+
+/// The text of a grid, its codes as `digits` gives them, its blank pads empty.
+pub fn grid_text(grid: &Given, mut digits: impl FnMut(i32) -> String) -> String {
+    let (height, width) = grid.size;
+    let mut text = format!("{height},{width}\n");
+    for (index, cell) in grid.cells.iter().enumerate() {
+        if *cell != -1 {
+            text += &digits(*cell);
+        }
+        let last = (index + 1) % width == 0;
+        text.push(if last { '\n' } else { ',' });
+    }
+    text
+}
+
+/// The text that must be written; empty where the grid is declined.
+pub fn written_text(grid: &Given) -> String {
+    if grid_refusal(grid) != (0, 0) {
+        return String::new();
+    }
+    grid_text(grid, |code| code.to_string())
+}
+
+/// A text that was written must give the grid when it is read back, by the
+/// library and by the reader of routes.rs.
+fn expected_write(grid: &Given, lent: usize, room: usize) -> Answer {
+    let text = written_text(grid);
+    if text.len() > room {
+        return write_answer((14, 0), &[], lent, room);
+    }
+    let refusal = grid_refusal(grid);
+    let mut answer = write_answer(refusal, text.as_bytes(), lent, room);
+    if answer.returned > 0 && refusal == (0, 0) {
+        answer.back = vec![read_answer(Ok(board_pads(grid)), 5, 256); 2];
+    }
     answer
 }
 
@@ -247,6 +333,7 @@ pub fn expected(case: &Case) -> Answer {
             cells_lent,
             bytes,
         } => expected_file(*lent, *cells_lent, bytes),
+        Case::Write { grid, lent, room } => expected_write(grid, *lent, *room),
     }
 }
 
@@ -262,6 +349,48 @@ fn call_numbers(calls: &[Asked]) -> Vec<u64> {
             Asked::Undo => [4, 0, 0, 0],
         })
         .collect()
+}
+
+fn read_by_library(bytes: &[u8], lent: usize, cells_lent: usize) -> Answer {
+    let mut answer = Answer {
+        numbers: vec![FILL as u64; lent],
+        cells: vec![FILL as i32; cells_lent],
+        ..Answer::default()
+    };
+    answer.returned = library::read(bytes, &mut answer.numbers, &mut answer.cells);
+    answer
+}
+
+fn write_by_library(grid: &Given, lent: usize, room: usize) -> Answer {
+    let mut answer = Answer {
+        numbers: vec![FILL as u64; lent],
+        bytes: vec![FILL; room],
+        ..Answer::default()
+    };
+    let (text, numbers) = (&mut answer.bytes, &mut answer.numbers);
+    answer.returned = library::write(grid.size, &grid.cells, text, numbers);
+    answer
+}
+
+fn read_and_written_back(bytes: &[u8], lent: usize, cells_lent: usize) -> Answer {
+    let mut answer = read_by_library(bytes, lent, cells_lent);
+    if let [0, 0, 0, height, width, ..] = answer.numbers[..] {
+        let size = (height as usize, width as usize);
+        let pads = size.0.saturating_mul(size.1);
+        let cells = answer.cells.iter().take(pads).copied().collect();
+        answer.back = vec![write_by_library(&Given { size, cells }, 3, bytes.len())];
+    }
+    answer
+}
+
+fn written_and_read_back(grid: &Given, lent: usize, room: usize) -> Answer {
+    let mut answer = write_by_library(grid, lent, room);
+    if let [0, 0, length, ..] = answer.numbers[..] {
+        let text = &answer.bytes[..room.min(length as usize)];
+        let second = read_answer(routes::read(text), 5, 256);
+        answer.back = vec![read_by_library(text, 5, 256), second];
+    }
+    answer
 }
 
 pub fn by_library(case: &Case) -> Answer {
@@ -298,11 +427,8 @@ pub fn by_library(case: &Case) -> Answer {
             lent,
             cells_lent,
             bytes,
-        } => {
-            answer.numbers = vec![FILL as u64; *lent];
-            answer.cells = vec![FILL as i32; *cells_lent];
-            answer.returned = library::read(bytes, &mut answer.numbers, &mut answer.cells);
-        }
+        } => answer = read_and_written_back(bytes, *lent, *cells_lent),
+        Case::Write { grid, lent, room } => answer = written_and_read_back(grid, *lent, *room),
     }
     answer
 }

@@ -41,6 +41,16 @@ extern "C" {
         answer: *mut i64,
         answer_length: usize,
     ) -> usize;
+    fn hunekowha_write(
+        height: usize,
+        width: usize,
+        cells: *const i32,
+        cells_length: usize,
+        text: *mut u8,
+        text_length: usize,
+        answer: *mut u64,
+        answer_length: usize,
+    ) -> usize;
 }
 
 pub fn read(file: &[u8], answer: &mut [u64], cells: &mut [i32]) -> usize {
@@ -112,6 +122,26 @@ pub fn replay(
             cells.len(),
             calls.as_ptr(),
             calls.len(),
+            answer.as_mut_ptr(),
+            answer.len(),
+        )
+    }
+}
+
+pub fn write(
+    (height, width): (usize, usize),
+    cells: &[i32],
+    text: &mut [u8],
+    answer: &mut [u64],
+) -> usize {
+    unsafe {
+        hunekowha_write(
+            height,
+            width,
+            cells.as_ptr(),
+            cells.len(),
+            text.as_mut_ptr(),
+            text.len(),
             answer.as_mut_ptr(),
             answer.len(),
         )

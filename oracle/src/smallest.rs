@@ -1,8 +1,9 @@
 // Makes a failing case smaller as long as it still fails: calls left out,
-// rows and columns cut off, codes blanked, bytes of a file left out.
+// rows and columns cut off, codes blanked or shortened, bytes of a file left
+// out, less room.
 
 use crate::cases::{Asked, Case, Given};
-use crate::expected::{board_room, by_library, expected};
+use crate::expected::{board_room, by_library, expected, written_text};
 use std::time::{Duration, Instant};
 
 pub fn differs(case: &Case) -> bool {
@@ -54,6 +55,7 @@ fn smaller_cases(case: &Case) -> Vec<Case> {
                 bytes,
             })
             .collect(),
+        Case::Write { grid, lent, room } => smaller_writes(grid, *lent, *room),
         Case::Record { .. } => Vec::new(),
     }
 }
@@ -92,15 +94,13 @@ fn smaller_boards(grid: &Given, calls: &[Asked]) -> Vec<(Given, Vec<Asked>)> {
 }
 
 fn smaller_searches(grid: &Given, lent: usize, limit: u64, room: usize) -> Vec<Case> {
-    let mut grids: Vec<Given> = cuts(grid).into_iter().map(|(cut, _, _)| cut).collect();
-    grids.extend(blanked_grids(grid));
     let case = |grid: Given, limit, room| Case::Search {
         grid,
         lent,
         limit,
         room,
     };
-    let mut found: Vec<Case> = grids
+    let mut found: Vec<Case> = smaller_grids(grid)
         .into_iter()
         .map(|grid| case(grid, limit, room))
         .collect();
@@ -115,11 +115,32 @@ fn smaller_searches(grid: &Given, lent: usize, limit: u64, room: usize) -> Vec<C
     found
 }
 
-/// A code at a time made blank, or else the least code.
+/// Smaller grids, their rooms as far from the text as this one; and less room.
+fn smaller_writes(grid: &Given, lent: usize, room: usize) -> Vec<Case> {
+    let length = written_text(grid).len();
+    let case = |grid: Given, room| Case::Write { grid, lent, room };
+    let on_smaller = |smaller: Given| {
+        let as_far = (room + written_text(&smaller).len()).saturating_sub(length);
+        case(smaller, as_far)
+    };
+    let mut found: Vec<Case> = smaller_grids(grid).into_iter().map(on_smaller).collect();
+    let rooms = [0, room / 2, length.saturating_sub(1), length, length + 1];
+    let less = rooms.into_iter().filter(|less| *less < room);
+    found.extend(less.map(|less| case(grid.clone(), less)));
+    found
+}
+
+fn smaller_grids(grid: &Given) -> Vec<Given> {
+    let mut grids: Vec<Given> = cuts(grid).into_iter().map(|(cut, _, _)| cut).collect();
+    grids.extend(blanked_grids(grid));
+    grids
+}
+
+/// A code at a time made blank, or else the least code, or a digit shorter.
 fn blanked_grids(grid: &Given) -> Vec<Given> {
     let mut found = Vec::new();
     for (index, cell) in grid.cells.iter().enumerate() {
-        for less in [-1, 0, 1] {
+        for less in [-1, 0, 1, *cell / 10] {
             if *cell > less {
                 let mut blanked = grid.clone();
                 blanked.cells[index] = less;

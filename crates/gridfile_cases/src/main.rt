@@ -1,5 +1,5 @@
 // Reads the grid files of standard input, each behind its length in two bytes, and prints the answer of each: the line of a
-// refused file, or the grid in shortest digits. oracle/gridfile_cases.py makes the input and what must be printed.
+// refused file, or the grid as it is written back. oracle/gridfile_cases.py makes the input and what must be printed.
 ghost use Prim.Native.Nat.{_+_, _*_, _≤_, _<_};
 ghost use lib.ListN.{length};
 use libc::STDIN_FILENO;
@@ -18,46 +18,21 @@ fn print_refusal(number: u8, line: usize, field: usize) {
     io::write_all(STDOUT_FILENO, &bytes[..length]);
 }
 
-// A cell, nothing for a blank one, and the byte after it.
-fn print_cell(cell: i32, last: bool) {
-    if 0 <= cell {
-        io::print_decimal(STDOUT_FILENO, cell as u64);
-    }
-    if last {
-        io::write_all(STDOUT_FILENO, b"\n");
-    } else {
-        io::write_all(STDOUT_FILENO, b",");
-    }
+// The grid of an accepted file, as it is written back.
+fn print_grid(height: usize, width: usize, cells: &[i32]) {
+    let mut text = [0; 2822];
+    let writing = gridfile::write(height, width, cells, &mut text);
+    let length = writing.length;
+    io::write_all(STDOUT_FILENO, &text[..length]);
 }
 
-fn print_header(height: usize, width: usize) {
-    io::print_decimal(STDOUT_FILENO, height as u64);
-    io::write_all(STDOUT_FILENO, b",");
-    io::print_decimal(STDOUT_FILENO, width as u64);
-    io::write_all(STDOUT_FILENO, b"\n");
-}
-
-// The cell at an index, at its place in its row; past the last row only that it is not blank.
-fn print_at(cell: i32, index: usize, height: usize, width: usize)
-    requires { ⌜ (0 < width) × (index < 256) ⌝ }
-{
-    if index / width < height {
-        print_cell(cell, (index + 1) % width == 0);
-        return;
-    }
-    if cell != -1 {
-        io::write_all(STDOUT_FILENO, b"past\n");
-    }
-}
-
-// The cells in index order, a row to a line.
-fn print_cells(cells: [i32; 256], height: usize, width: usize) {
-    if width == 0 {
-        return;
-    }
-    let mut index = 0;
-    while index < 256 {
-        print_at(cells[index], index, height, width);
+// A line for each cell past the pads that is not blank.
+fn print_past(cells: &[i32], pads: usize) {
+    let mut index = pads;
+    while index < cells.len() {
+        if cells[index] != -1 {
+            io::write_all(STDOUT_FILENO, b"past\n");
+        }
         index += 1;
     }
 }
@@ -69,8 +44,9 @@ fn print_answer(file: &[u8]) {
         return;
     }
     let cells = reading.cells;
-    print_header(reading.height, reading.width);
-    print_cells(cells, reading.height, reading.width);
+    let pads = reading.height * reading.width;
+    print_grid(reading.height, reading.width, &cells[..pads]);
+    print_past(&cells, pads);
 }
 
 // The case at a place; the place after it, or the end where the input stops short.

@@ -13,8 +13,9 @@ use borrow.Author.Tests.{le-leb, lt-leb, leb-true}
 use Rattle.rules.specs.Tests.{both}
 use Rattle.model.specs.Bounds.{is-size}
 use Rattle.model.specs.GridFile.{Reading, read}
+use Rattle.model.specs.Writing.{Writing, write}
 use Rattle.model.specs.Records.{record-length, has-record, record-at}
-use Rattle.hunekowha.specs.Lent.{written, read-numbers, read-gives, record-place, record-gives, solve-numbers, solve-gives}
+use Rattle.hunekowha.specs.Lent.{written, read-numbers, read-gives, write-numbers, write-gives, record-place, record-gives, solve-numbers, solve-gives}
 use Rattle.model.specs.Search.{Solved, solve}
 
 -- a copy of a whole list to the front
@@ -37,6 +38,17 @@ module _ (file answer : List ℕ) (cells : List ℤ) where
   unfolding read-gives
   read-whole long long-cells r same answer-after cells-after put put-cells =
       rw (le-leb 5 (length answer) long, le-leb 256 (length cells) long-cells, put, put-cells, front cells (r .cells), same)
+
+-- WRITE
+module _ (height width : ℕ) (cells : List ℤ) (text answer : List ℕ) where
+  pub write-short : length answer < 3 → write-gives height width cells text answer ≡ record { returned = 0; text = text; answer = answer }
+  unfolding write-gives
+  write-short short = rw (lt-leb 3 (length answer) short)
+
+  pub write-whole : 3 ≤ length answer → (r : Writing) (after : List ℕ) → r ≡ write height width cells text
+      → after ≡ paste answer 0 (write-numbers r) 3 → write-gives height width cells text answer ≡ record { returned = 3; text = r .buffer; answer = after }
+  unfolding write-gives
+  write-whole long r after same put = rw (le-leb 3 (length answer) long, put, ← same)
 
 -- RECORD
 module _ (height width count k : ℕ) (buffer : List ℕ) where

@@ -8,6 +8,7 @@ use lib.Dec.{leb}
 use lib.ListN.{length, drop}
 use lib.IntN.{ℤ}
 use Rattle.model.specs.GridFile.{Reading, read}
+use Rattle.model.specs.Writing.{Writing, write}
 use Rattle.model.specs.Records.{record-length, has-record}
 use Rattle.model.specs.Search.{Solved, solve}
 
@@ -29,6 +30,25 @@ read-gives file answer cells =
     if leb 5 (length answer) && leb 256 (length cells)
     then record { returned = 5; answer = written (read-numbers (read file)) answer; cells = written (read file .cells) cells }
     else record { returned = 0; answer = answer; cells = cells }
+
+-- WRITE: what is returned, and the text and the numbers after the call
+pub record WriteGives : Type 0 where
+  pub returned : ℕ
+  pub text : List ℕ
+  pub answer : List ℕ
+
+abbrev pub write-numbers : Writing → List ℕ
+write-numbers r = r .number ∷ r .index ∷ r .length ∷ []
+
+unfoldable pub write-gives : ℕ → ℕ → List ℤ → List ℕ → List ℕ → WriteGives
+write-gives height width cells text answer =
+    if leb 3 (length answer)
+    then record {
+      returned = 3;
+      text = write height width cells text .buffer;
+      answer = written (write-numbers (write height width cells text)) answer;
+    }
+    else record { returned = 0; text = text; answer = answer }
 
 -- RECORD: where record k begins and how many bytes it has; 0 and 0 where there is none
 pub record NumbersGiven : Type 0 where

@@ -1,5 +1,5 @@
-// The router for other languages: reading a grid file, the search, a record's place, and board calls replayed. hunekowha.h beside
-// this folder explains each function, argument and number. Each result, and every lent number and byte after the call, is what
+// The router for other languages: reading and writing a grid file, the search, a record's place, and board calls replayed. hunekowha.h
+// beside this folder explains each function, argument and number. Each result, and every lent number and byte after the call, is what
 // specs/Lent.antt says. No function asks anything of its caller beyond what the types say.
 ghost use mathlib.Core.Path.{_≡_};
 ghost use Rattle.model.specs.Calls as model;
@@ -10,7 +10,7 @@ ghost use lib.Seq.{paste};
 use board::Answer;
 use board::Board;
 use grid::Edge;
-ghost use Rattle.hunekowha.specs.Lent.{read-gives, record-gives, solve-gives};
+ghost use Rattle.hunekowha.specs.Lent.{read-gives, write-gives, record-gives, solve-gives};
 ghost use Rattle.hunekowha.specs.Replay.{replay-gives};
 
 // Reads a grid file into five numbers and 256 cells.
@@ -36,6 +36,30 @@ pub extern "C" fn hunekowha_read(file: &[u8], answer: &mut [u64], cells: &mut [i
     let read_cells = reading.cells;
     lend::put_cells(cells, 0, &read_cells);
     5
+}
+
+// Writes a grid as a grid file into the lent text, and three numbers.
+#[no_mangle]
+pub extern "C" fn hunekowha_write(
+    height: usize,
+    width: usize,
+    cells: &[i32],
+    text: &mut [u8],
+    answer: &mut [u64],
+) -> usize
+    ensures { λ r. ⌜ write-gives height width (now (cells .entry)) (now (text .entry)) (now (answer .entry)) ≡ record { returned = r; text = now (text .exit); answer = now (answer .exit) } ⌝ }
+{
+    if answer.len() < 3 {
+        return 0;
+    }
+    let writing = gridfile::write(height, width, cells, text);
+    let numbers = [
+        writing.number as u64,
+        writing.index as u64,
+        writing.length as u64,
+    ];
+    lend::put_numbers(answer, 0, &numbers);
+    3
 }
 
 // Where record k of a filled buffer begins, and how many bytes it has.

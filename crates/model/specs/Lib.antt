@@ -18,6 +18,7 @@ pub mod Writing
 pub mod Printed
 pub mod Routes
 pub mod KnownFiles
+pub mod KnownWrites
 pub mod KnownCalls
 pub mod Known
 pub mod KnownRoutes

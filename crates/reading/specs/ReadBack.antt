@@ -9,19 +9,19 @@ use native.Mathlib.Nat.{mul-le-mul, zero-add}
 use native.Mathlib.Omega.{arith}
 use lib.ListN.{length, getD, drop, set, replicate, length-append, length-replicate}
 use lib.Seq.{sets, sets-eq, append-snoc}
-use lib.IntN.{ℤ, pos}
+use lib.IntN.{ℤ}
 use lib.Dec.{eqb, ltb}
 use borrow.Author.Tests.{ltb-true, ltb-false, ne-eqb, eq-eqb, eqb-true, eqb-false, le-leb}
-use Rattle.rules.specs.Grid.{Size, largest-code, blank-cell, CellInRange, Accepted}
+use Rattle.rules.specs.Grid.{largest-code, blank-cell, CellInRange, Accepted}
 use Rattle.model.specs.Lists.{drop-replicate}
 use Rattle.model.specs.Text.{bytes, comma, line-end}
-use Rattle.model.specs.Bounds.{is-size, most-digits}
+use Rattle.model.specs.Bounds.{most-digits}
 use Rattle.model.specs.RefusalLaws.{test-of-size}
 use Rattle.model.specs.Decimal.{digit-byte, decimal}
 use Rattle.model.specs.DecimalLaws.{decimal-short, decimal-long, decimal-length, decimal-some}
 use Rattle.model.specs.GridFile.{Standing, Reading, is-digit, blank, no-cells, start, in-header, is-complete, accepted, read-from, read}
 use Rattle.model.specs.Writing.{cell-text, rows-text, grid-text}
-use Rattle.reading.specs.FieldSteps.{field-start, in-field, field-ending, cell-of, end-complete, digit-read, row-open, row-ends, row-goes-on, header-goes-on, header-ends, header-open}
+use Rattle.reading.specs.FieldSteps.{field-start, in-field, cell-of, end-complete, digit-read, row-open, row-ends, row-goes-on, header-goes-on, header-ends, header-open}
 
 -- ## Digits
 

@@ -1,6 +1,5 @@
 -- A file with each field in its shortest digits, said of the bytes alone: a 0 that begins a field is left out where another digit comes
 -- after it, and nothing else is. These are the same bytes exactly where no field of two or more digits begins with 0.
-use Rattle.model.specs.Choice.{if_then_else_}
 use mathlib.Core.Path.{_≡_, refl, ap, _∙_}
 use mathlib.Core.Bool.{Bool, true, false, not, _&&_, true≢false}
 use mathlib.Core.List.{List, [], _∷_}

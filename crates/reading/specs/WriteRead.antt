@@ -6,11 +6,11 @@ use mathlib.Core.List.{List}
 use Prim.Native.Nat.{ℕ, _≤_, _<_}
 use native.Mathlib.Nat.{le-trans}
 use native.Mathlib.Omega.{arith}
-use lib.ListN.{length, take, drop}
+use lib.ListN.{length, take, drop, length-append}
 use lib.Seq.{take-append-seam}
 use lib.IntN.{ℤ}
 use lib.Dec.{eqb, ltb}
-use borrow.Author.Tests.{eqb-true, eqb-false, lt-ltb, le-ltb, ltb-false}
+use borrow.Author.Tests.{eqb-true, eqb-false, lt-ltb, le-ltb, ltb-true, ltb-false}
 use Rattle.rules.specs.Grid.{Accepted}
 use Rattle.model.specs.Refusals.{grid-refusal}
 use Rattle.model.specs.RefusalLaws.{not-refused, accepted-is-not-refused}
@@ -42,15 +42,37 @@ module _ (height width : ℕ) (cells : List ℤ) (buffer : List ℕ) where
     pub room-for-any : 2822 ≤ length buffer → write height width cells buffer ≡ written (grid-text height width cells) buffer
     room-for-any h = has-room (le-trans (longest-text height width cells a) h)
 
-  -- a grid that was written is an accepted one, and its text had room
-  pub written-says : write height width cells buffer .number ≡ 0 → Accepted height width cells × (write height width cells buffer ≡ written (grid-text height width cells) buffer)
-  unfolding write turned-away
-  written-says n = go (eqb (grid-refusal height width cells .0) 0) refl (ltb (length buffer) (length (grid-text height width cells))) refl
+-- a grid is turned away with a number, and nothing is changed; or it is an accepted one, and its text is written
+pub data Goes (height width : ℕ) (cells : List ℤ) (buffer : List ℕ) : Type 0 where
+  is-turned-away : (number index : ℕ) → (number ≡ 0 → ⊥) → write height width cells buffer ≡ turned-away number index buffer → Goes height width cells buffer
+  is-written : Accepted height width cells → write height width cells buffer ≡ written (grid-text height width cells) buffer → Goes height width cells buffer
+
+module _ (height width : ℕ) (cells : List ℤ) (buffer : List ℕ) where
+  pub how-it-goes : Goes height width cells buffer
+  how-it-goes = go (eqb (grid-refusal height width cells .0) 0) refl (ltb (length buffer) (length (grid-text height width cells))) refl
     where
-      go : (t : Bool) → eqb (grid-refusal height width cells .0) 0 ≡ t → (u : Bool) → ltb (length buffer) (length (grid-text height width cells)) ≡ u → Accepted height width cells × (write height width cells buffer ≡ written (grid-text height width cells) buffer)
-      go false t u e = let k : grid-refusal height width cells .0 ≡ 0 = rw (t, write) at n in absurd (eqb-false _ _ t k)
-      go true t true e = let k : _≡_ {A = ℕ} 14 0 = rw (t, e, write) at n in absurd (omega arith)
-      go true t false e = let a = not-refused height width cells (eqb-true _ _ t) in (a, has-room a (ltb-false _ _ e))
+      go : (t : Bool) → eqb (grid-refusal height width cells .0) 0 ≡ t → (u : Bool) → ltb (length buffer) (length (grid-text height width cells)) ≡ u → Goes height width cells buffer
+      go false t u e = is-turned-away _ _ (eqb-false _ _ t) (refused-grid height width cells buffer t)
+      go true t true e = is-turned-away 14 0 (λ (z : _≡_ {A = ℕ} 14 0). omega arith) (no-room height width cells buffer (not-refused height width cells (eqb-true _ _ t)) (ltb-true _ _ e))
+      go true t false e = let a = not-refused height width cells (eqb-true _ _ t) in is-written a (has-room height width cells buffer a (ltb-false _ _ e))
+
+  -- a grid that was written is an accepted one, and its text had room
+  written-says : write height width cells buffer .number ≡ 0 → Accepted height width cells × (write height width cells buffer ≡ written (grid-text height width cells) buffer)
+  unfolding turned-away
+  written-says n = go how-it-goes
+    where
+      go : Goes height width cells buffer → Accepted height width cells × (write height width cells buffer ≡ written (grid-text height width cells) buffer)
+      go (is-turned-away number index some e) = absurd (some (rw e at n))
+      go (is-written a e) = (a, e)
+
+  -- what is written lies in the buffer
+  pub written-within : write height width cells buffer .length ≤ length (write height width cells buffer .buffer)
+  unfolding turned-away written
+  written-within = go how-it-goes
+    where
+      go : Goes height width cells buffer → write height width cells buffer .length ≤ length (write height width cells buffer .buffer)
+      go (is-turned-away number index some e) = rw e (omega arith)
+      go (is-written a e) = rw (e, length-append) (omega arith)
 
 -- ## Reading what was written
 
@@ -65,15 +87,12 @@ written-is-read height width cells buffer n =
 -- ## Writing what was read
 
 module _ (file : List ℕ) (accepted : read file .number ≡ 0) where
-  -- the file with each field in its shortest digits, where the buffer has room for it; a buffer as long as the file always has
+  -- the file with each field in its shortest digits, where the buffer has room for it; a buffer as long as the file has (`no-more-bytes`)
   pub read-is-written : (buffer : List ℕ) → length (in-shortest-digits file) ≤ length buffer
       → write (read file .height) (read file .width) (pads-read (read file)) buffer ≡ written (in-shortest-digits file) buffer
   read-is-written buffer h =
       has-room (read file .height) (read file .width) (pads-read (read file)) buffer (read-sound file .in-range accepted) (rw (text-is-file file accepted) h)
       ∙ ap (λ (text : List ℕ). written text buffer) (text-is-file file accepted)
-
-  pub file-is-room : length (in-shortest-digits file) ≤ length file
-  file-is-room = no-more-bytes file
 
   -- the same bytes exactly where no field of two or more digits begins with 0
   pub same-file : (LeadingZero false file → ⊥) → (buffer : List ℕ) → length file ≤ length buffer
@@ -83,4 +102,4 @@ module _ (file : List ℕ) (accepted : read file .number ≡ 0) where
   pub shorter-file : LeadingZero false file → (buffer : List ℕ) → length file ≤ length buffer
       → write (read file .height) (read file .width) (pads-read (read file)) buffer .length < length file
   unfolding written
-  shorter-file z buffer h = rw (read-is-written buffer (le-trans file-is-room h)) (fewer-bytes file z)
+  shorter-file z buffer h = rw (read-is-written buffer (le-trans (no-more-bytes file) h)) (fewer-bytes file z)

@@ -7,20 +7,20 @@ use mathlib.Core.List.{List, [], _∷_, _++_, append-assoc}
 use Prim.Native.Nat.{ℕ, zero, suc, _+_, _*_, _-_, _/_, _%_, _≤_, _<_}
 use native.Mathlib.Nat.{zero-add}
 use native.Mathlib.Omega.{arith}
-use lib.ListN.{length, getD, take, drop, set, length-replicate}
+use lib.ListN.{length, take, set}
 use lib.Seq.{sets, sets-eq, take-at, append-snoc}
 use lib.IntN.{ℤ, pos}
 use lib.Dec.{eqb, ltb}
 use Rattle.rules.specs.Tests.{both, conflict}
-use borrow.Author.Tests.{not-true, ltb-true, ltb-false, lt-ltb, le-ltb, ne-eqb, eq-eqb, eqb-true, eqb-false}
-use Rattle.rules.specs.Grid.{Size, largest-code}
+use borrow.Author.Tests.{not-true, ltb-true, ltb-false, lt-ltb, ne-eqb, eq-eqb, eqb-true, eqb-false}
+use Rattle.rules.specs.Grid.{Size}
 use Rattle.model.specs.Text.{bytes, comma, line-end}
 use Rattle.model.specs.Decimal.{digit-byte, decimal}
 use Rattle.model.specs.DecimalLaws.{decimal-short, decimal-long}
-use Rattle.model.specs.GridFile.{Standing, Reading, is-digit, is-comma, is-line-end, is-allowed, blank, no-cells, start, in-header, fields-due, is-complete, field-cell, bad-size, refusal, with-digit, begun, after, accepted, declined, read-from, read}
+use Rattle.model.specs.GridFile.{Standing, Reading, is-digit, is-comma, is-line-end, blank, no-cells, start, in-header, fields-due, is-complete, field-cell, refusal, with-digit, begun, after, accepted, declined, read-from, read}
 use Rattle.model.specs.Writing.{cell-text, rows-text, grid-text}
 use Rattle.reading.specs.FieldSteps.{digit-bounds}
-use Rattle.reading.specs.ReadingLaws.{Passed, byte-passed, Kind, a-digit, a-comma, a-line-end, kind-of, line-end-there, Sound, start-sound, after-sound, begun-row, begun-header, due-row, due-header, two-fields, second-line, SoundReading, read-from-sound}
+use Rattle.reading.specs.ReadingLaws.{Passed, byte-passed, Kind, a-digit, a-comma, a-line-end, kind-of, line-end-there, Sound, start-sound, after-sound, begun-row, begun-header, due-row, due-header, two-fields, second-line, read-from-sound}
 use Rattle.reading.specs.ReadBack.{text-parts}
 use Rattle.reading.specs.ShortestDigits.{digit-first, is-left-out, shortened, in-shortest-digits, kept-byte}
 
