@@ -26,6 +26,9 @@ const NINE: u8 = 57;
 
 const MOST_DIGITS: usize = 10;
 
+// No text of a grid is longer: the header, and 16 rows of 16 codes of ten digits, each with the byte after it.
+pub const LONGEST_TEXT: usize = 2822;
+
 // What reading a file gives: number 0 and the grid, or a refusal with its line and field beside the empty grid.
 pub struct Reading {
     pub number: u8,
@@ -271,7 +274,7 @@ pub fn write(height: usize, width: usize, cells: &[i32], buffer: &mut [u8]) -> W
             length: 0,
         };
     }
-    let mut whole = [0; 2822];
+    let mut whole = [0; LONGEST_TEXT];
     let length = put_grid(&mut whole, height, width, cells);
     if buffer.len() < length {
         return Writing {

@@ -20,7 +20,7 @@ fn print_refusal(number: u8, line: usize, field: usize) {
 
 // The grid of an accepted file, as it is written back.
 fn print_grid(height: usize, width: usize, cells: &[i32]) {
-    let mut text = [0; 2822];
+    let mut text = [0; gridfile::LONGEST_TEXT];
     let writing = gridfile::write(height, width, cells, &mut text);
     let length = writing.length;
     io::write_all(STDOUT_FILENO, &text[..length]);
