@@ -1,20 +1,21 @@
 -- Writing and reading a grid file, held together: what is written reads back as the grid, and what was read is written as the file in
--- shortest digits. The statements are about the calls `write` and `read` as the model defines them, for any lent buffer.
-use mathlib.Core.Path.{_≡_, refl, ap, _∙_}
+-- shortest digits; what is written is in shortest digits itself. The statements are about the calls `write` and `read` as the model
+-- defines them, for any lent buffer.
+use mathlib.Core.Path.{_≡_, refl, sym, ap, _∙_}
 use mathlib.Core.Bool.{Bool, true, false}
-use mathlib.Core.List.{List}
-use Prim.Native.Nat.{ℕ, _≤_, _<_}
+use mathlib.Core.List.{List, _++_}
+use Prim.Native.Nat.{ℕ, _*_, _-_, _≤_, _<_}
 use native.Mathlib.Nat.{le-trans}
 use native.Mathlib.Omega.{arith}
-use lib.ListN.{length, take, drop, length-append}
-use lib.Seq.{take-append-seam}
+use lib.ListN.{length, take, drop, replicate, length-append}
+use lib.Seq.{take-append-seam, take-at}
 use lib.IntN.{ℤ}
 use lib.Dec.{eqb, ltb}
 use borrow.Author.Tests.{eqb-true, eqb-false, lt-ltb, le-ltb, ltb-true, ltb-false}
 use Rattle.rules.specs.Grid.{Accepted}
 use Rattle.model.specs.Refusals.{grid-refusal}
 use Rattle.model.specs.RefusalLaws.{not-refused, accepted-is-not-refused}
-use Rattle.model.specs.GridFile.{read}
+use Rattle.model.specs.GridFile.{Reading, blank, read}
 use Rattle.model.specs.Writing.{grid-text, turned-away, written, write}
 use Rattle.reading.specs.ReadingLaws.{read-sound}
 use Rattle.reading.specs.ShortestDigits.{in-shortest-digits, LeadingZero, same-bytes, fewer-bytes, no-more-bytes}
@@ -103,3 +104,19 @@ module _ (file : List ℕ) (accepted : read file .number ≡ 0) where
       → write (read file .height) (read file .width) (pads-read (read file)) buffer .length < length file
   unfolding written
   shorter-file z buffer h = rw (read-is-written buffer (le-trans (no-more-bytes file) h)) (fewer-bytes file z)
+
+-- ## What is written is in shortest digits
+
+module _ (height width : ℕ) (cells : List ℤ) (a : Accepted height width cells) where
+  pub text-is-shortest : in-shortest-digits (grid-text height width cells) ≡ grid-text height width cells
+  text-is-shortest = sym (text-is-file (grid-text height width cells) (ap (λ (r : Reading). r .number) reads)) ∙ ap (λ (r : Reading). grid-text (r .height) (r .width) (pads-read r)) reads ∙ ap (grid-text height width) its-cells
+    where
+      reads : read (grid-text height width cells) ≡ grid-reading height width cells
+      reads = text-is-read height width cells a
+
+      its-cells : take (height * width) (cells ++ replicate (256 - length cells) blank) ≡ cells
+      its-cells = take-at cells (replicate (256 - length cells) blank) (height * width) (a .one-cell-a-pad)
+
+  -- no field of two or more digits begins with 0
+  pub no-leading-zero : LeadingZero false (grid-text height width cells) → ⊥
+  no-leading-zero z = omega (arith, fewer-bytes (grid-text height width cells) z, ap (λ (l : List ℕ). length l) text-is-shortest)
