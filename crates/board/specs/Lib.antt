@@ -6,4 +6,4 @@ pub mod CallLaws
 pub mod ShowLaws
 pub mod Sizes
 pub mod DecisionLaws
-pub mod SlotLaws
+pub mod PlaceCalls

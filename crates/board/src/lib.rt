@@ -3,22 +3,21 @@
 // holds of a board there.
 ghost use mathlib.Core.Path.{_≡_};
 ghost use mathlib.Core.Bool.{true, false};
-ghost use Prim.Native.Nat.{_+_, _*_, _-_, _%_, _<_};
-ghost use lib.ListN.{length};
-ghost use Rattle.rules.specs.Grid.{Accepted, grid-of, places};
+ghost use Prim.Native.Nat.{ℕ, _+_, _*_, _-_, _%_, _≤_, _<_};
+ghost use lib.ListN.{length, getD, take};
+ghost use Rattle.rules.specs.Grid.{OnBoard, Accepted, grid-of, places};
 ghost use Rattle.rules.specs.Drawing.{num};
 ghost use Rattle.model.specs.Board.{line-or-none};
 ghost use Rattle.model.specs.Calls as model;
-ghost use Rattle.boardview.specs.View.{flag-in, grid-in, slot-on, edge-of, Kinds, Ready, Decided};
+ghost use Rattle.grid.specs.PadsAt.{pads-of, place-of, IfEdge};
+ghost use Rattle.boardview.specs.View.{flag-in, grid-in, Kinds, Ready, Decided};
+ghost use Rattle.boardview.specs.ShownRecord.{record-shown};
 ghost use Rattle.board.specs.Held.{Held, IsBoard, Says, Shows, declined-with};
-ghost use Rattle.board.specs.PlaceLaws.{slot-of-place, shown-byte, shown-at};
 ghost use Rattle.board.specs.ShowLaws.{Laid, end-at-index};
 ghost use Rattle.board.specs.CallLaws.{CanGoBack, board-back};
 use boardparts::FLAGGED;
 use grid::Edge;
-
-// The byte of an undecided edge, as the edge type names it.
-const UNDECIDED: u8 = Edge::UNDECIDED.0;
+use grid::Pads;
 
 // The most checkpoints that may stand.
 const MOST_CHECKPOINTS: usize = 256;
@@ -51,61 +50,39 @@ pub struct Shown {
     pub flag: bool,
 }
 
-// The slot of the edge at a place of the field, any numbers; 0 where there is no edge.
-fn slot_at(kind: &[u8; 1024], y: usize, x: usize) -> usize
+// The pads that a place joins, any numbers; outside the field there are none.
+fn pads_at(kind: &[u8; 1024], y: usize, x: usize) -> Pads
     requires { ⌜ Kinds (now kind) ⌝ }
-    ensures { λ r. ⌜ r ≡ slot-of-place (model.edge-at (grid-in (now (kind .entry))) y x) ⌝ }
+    ensures { λ r. ⌜ r ≡ pads-of (grid-in (now (kind .entry)) .width) (model.edge-at (grid-in (now (kind .entry))) y x) ⌝ }
 {
     let width = boardparts::width(kind);
     if y >= 2 * boardparts::height(kind) - 1 {
-        return 0;
+        return Pads::NoEdge;
     }
     if x >= 2 * width - 1 {
-        return 0;
+        return Pads::NoEdge;
     }
-    let pad = y / 2 * width + x / 2;
-    if y % 2 == 0 {
-        if x % 2 == 0 {
-            return 0;
-        }
-        return 32 + 2 * pad;
-    }
-    if x % 2 == 0 {
-        return 33 + 2 * pad;
-    }
-    0
+    grid::pads_at(width, y, x)
 }
 
-// The byte at a place of the record; a place that is no edge holds undecided.
-fn byte_at(edges: &[u8; 1024], kind: &[u8; 1024], y: usize, x: usize) -> u8
-    requires { ⌜ Kinds (now kind) × (length (now edges) ≡ 1024) ⌝ }
-    ensures { λ r. ⌜ r ≡ shown-byte (now (edges .entry)) (model.edge-at (grid-in (now (kind .entry))) y x) ⌝ }
-{
-    let slot = slot_at(kind, y, x);
-    if slot == 0 {
-        return UNDECIDED;
-    }
-    edges[slot]
-}
-
-// Decides the edge at a slot of the board.
-fn decide_slot(
+// Decides the edge between two pads of the board; where there is none, nothing changes.
+fn decide_pads(
     edges: &mut [u8; 1024],
     ends: &mut [i32; 512],
     log: &mut [i32; 2048],
     kind: &[u8; 1024],
-    slot: usize,
+    pads: Pads,
     line: bool,
     count: usize,
 ) -> usize
-    requires { ⌜ (slot-on (grid-in (now kind)) slot ≡ true) × Kinds (now kind) × Ready (grid-in (now kind)) (record { edges = now edges; ends = now ends; log = now log; count = count }) ⌝ }
-    ensures { λ r. ⌜ Decided (grid-in (now (kind .entry))) (record { edges = now (edges .entry); ends = now (ends .entry); log = now (log .entry); count = count }) (edge-of slot) (line-or-none line) (record { edges = now (edges .exit); ends = now (ends .exit); log = now (log .exit); count = r }) ⌝ }
+    requires { ⌜ IfEdge (place-of pads) (λ e. OnBoard (grid-in (now kind)) e) × Kinds (now kind) × Ready (grid-in (now kind)) (record { edges = now edges; ends = now ends; log = now log; count = count }) ⌝ }
+    ensures { λ r. ⌜ IfEdge (place-of pads) (λ e. Decided (grid-in (now (kind .entry))) (record { edges = now (edges .entry); ends = now (ends .entry); log = now (log .entry); count = count }) e (line-or-none line) (record { edges = now (edges .exit); ends = now (ends .exit); log = now (log .exit); count = r })) ⌝ }
 {
-    let v = slot / 2 - 16;
-    if slot % 2 == 0 {
-        return decision::decide_right(edges, ends, log, kind, v, line, count);
+    match pads {
+        Pads::Beside(v, _) => decision::decide_right(edges, ends, log, kind, v, line, count),
+        Pads::Above(v, _) => decision::decide_down(edges, ends, log, kind, v, line, count),
+        Pads::NoEdge => count,
     }
-    decision::decide_down(edges, ends, log, kind, v, line, count)
 }
 
 // 1 if the flag is set.
@@ -177,22 +154,22 @@ fn blank() -> Board
     fresh(2, 2, &[-1, -1, -1, -1])
 }
 
-// The board and the flag after the edge at a slot is decided.
-fn decided(board: Board, slot: usize, line: bool) -> Answer
-    requires { ⌜ IsBoard board × (slot-on (grid-in (board .kind)) slot ≡ true) ⌝ }
-    ensures { λ r. ⌜ ((B : model.Board) → Held board B → Says r (model.decided B (edge-of slot) (line-or-none line))) ⌝ }
+// The board and the flag after the edge between two pads is decided.
+fn decided(board: Board, pads: Pads, line: bool) -> Answer
+    requires { ⌜ IsBoard board × IfEdge (place-of pads) (λ e. OnBoard (grid-in (board .kind)) e) ⌝ }
+    ensures { λ r. ⌜ ((B : model.Board) → Held board B → IfEdge (place-of pads) (λ e. Says r (model.decided B e (line-or-none line)))) ⌝ }
 {
     let mut edges = board.edges;
     let mut ends = board.ends;
     let mut log = board.log;
     let kind = board.kind;
     let marks = board.marks;
-    let count = decide_slot(
+    let count = decide_pads(
         &mut edges,
         &mut ends,
         &mut log,
         &kind,
-        slot,
+        pads,
         line,
         board.count,
     );
@@ -243,17 +220,11 @@ fn back_to(board: Board, mark: usize, standing: usize) -> Board
 
 // The record of the edges; past it the bytes are of no account.
 fn record_of(edges: &[u8; 1024], kind: &[u8; 1024]) -> [u8; 961]
-    requires { ⌜ Kinds (now kind) × (length (now edges) ≡ 1024) ⌝ }
-    ensures { λ r. ⌜ Laid (shown-at (grid-in (now (kind .entry))) (now (edges .entry))) 961 r (places (grid-in (now (kind .entry)) .height) (grid-in (now (kind .entry)) .width)) ⌝ }
+    requires { ⌜ Kinds (now kind) × (length (now edges) ≡ 1024) × ((n : ℕ) → getD (now edges) n 2 ≤ 2) ⌝ }
+    ensures { λ r. ⌜ take (places (grid-in (now (kind .entry)) .height) (grid-in (now (kind .entry)) .width)) r ≡ record-shown (grid-in (now (kind .entry))) (now (edges .entry)) ⌝ }
 {
-    let side = 2 * boardparts::width(kind) - 1;
-    let places = (2 * boardparts::height(kind) - 1) * side;
     let mut bytes = no_bytes();
-    let mut i = 0;
-    while i < places {
-        bytes[i] = byte_at(edges, kind, i / side, i % side);
-        i += 1;
-    }
+    boardrecord::put_record(edges, kind, &mut bytes, 0);
     bytes
 }
 
@@ -297,15 +268,15 @@ impl Board {
         ensures { λ r. ⌜ ((B : model.Board) → Held self B → Says r (model.decide-edge B y x (state .0))) ⌝ }
     {
         let kind = self.kind;
-        let slot = slot_at(&kind, y, x);
-        if slot == 0 {
+        let pads = pads_at(&kind, y, x);
+        if !grid::is_edge(pads) {
             return declined(self, 10);
         }
         if state.0 == Edge::LINE.0 {
-            return decided(self, slot, true);
+            return decided(self, pads, true);
         }
         if state.0 == Edge::NONE.0 {
-            return decided(self, slot, false);
+            return decided(self, pads, false);
         }
         declined(self, 11)
     }
@@ -317,15 +288,16 @@ impl Board {
     {
         let kind = self.kind;
         let edges = self.edges;
-        let slot = slot_at(&kind, y, x);
-        if slot != 0 {
-            return Answer {
-                number: 0,
-                answer: boardparts::wide(edges[slot]),
-                board: self,
-            };
+        let pads = pads_at(&kind, y, x);
+        if !grid::is_edge(pads) {
+            return declined(self, 10);
         }
-        declined(self, 10)
+        let slot = boardrecord::slot_of(pads);
+        Answer {
+            number: 0,
+            answer: boardparts::wide(edges[slot]),
+            board: self,
+        }
     }
 
     // A checkpoint; 12 with 256 standing.

@@ -15,4 +15,5 @@ pub mod Cycle
 pub mod SameBlanks
 pub mod OneEdge
 pub mod Undecided
-pub mod Places
+pub mod ShownRecord
+pub mod ShownRecordLaws

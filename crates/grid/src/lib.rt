@@ -1,10 +1,13 @@
-// The port of grid.rs: the edge type with its three named states, and when a grid is declined. The grid itself is a lent list
-// of cells. What the calls answer is said in the crate `model`: specs/Refusals.antt there.
+// The port of grid.rs: the edge type with its three named states, the two pads of an edge, and when a grid is declined. The grid itself
+// is a lent list of cells. Which pads a place joins is said in the crate `rules`, specs/Grid.antt there; what the calls answer in the
+// crate `model`, specs/Refusals.antt there.
 ghost use mathlib.Core.Path.{_≡_};
-ghost use Prim.Native.Nat.{_*_, _<_};
+ghost use Prim.Native.Nat.{_*_, _≤_, _<_};
+ghost use Rattle.rules.specs.Grid.{pad-index, place-at};
 ghost use Rattle.model.specs.Bounds.{is-size};
 ghost use Rattle.model.specs.Refusals.{first-bad-cell, grid-refusal};
 ghost use Rattle.grid.specs.Answers.{refusal-says};
+ghost use Rattle.grid.specs.PadsAt.{pads-of, place-of, has-edge};
 
 // An edge of a board, as the byte that a record holds for it.
 pub struct Edge(pub u8);
@@ -15,6 +18,52 @@ impl Edge {
     pub const LINE: Edge = Edge(1);
 
     pub const NONE: Edge = Edge(2);
+}
+
+// The two pads of an edge, the first and the second: beside each other, or one above the other. Where there is no edge there are none.
+pub enum Pads {
+    Beside(usize, usize),
+    Above(usize, usize),
+    NoEdge,
+}
+
+// The index of pad (y, x).
+fn pad(width: usize, y: usize, x: usize) -> usize
+    requires { ⌜ (width ≤ 16) × (y ≤ 16) × (x ≤ 16) ⌝ }
+    ensures { λ r. ⌜ r ≡ pad-index width y x ⌝ }
+{
+    y * width + x
+}
+
+// The pads that a place of the field joins, by two cases. In an even row 2y they stand beside each other: place (2y, 2x+1) joins pad (y, x)
+// to the right. In an odd row 2y+1 they stand one above the other: place (2y+1, 2x) joins pad (y, x) downward.
+pub fn pads_at(width: usize, row: usize, column: usize) -> Pads
+    requires { ⌜ (width ≤ 16) × (row < 31) × (column < 31) ⌝ }
+    ensures { λ r. ⌜ r ≡ pads-of width (place-at width row column) ⌝ }
+{
+    let y = row / 2;
+    let x = column / 2;
+    if row == 2 * y {
+        if column == 2 * x + 1 {
+            return Pads::Beside(pad(width, y, x), pad(width, y, x + 1));
+        }
+        return Pads::NoEdge;
+    }
+    if column == 2 * x {
+        return Pads::Above(pad(width, y, x), pad(width, y + 1, x));
+    }
+    Pads::NoEdge
+}
+
+// Whether there is an edge.
+pub fn is_edge(pads: Pads) -> bool
+    ensures { λ r. ⌜ r ≡ has-edge (place-of pads) ⌝ }
+{
+    match pads {
+        Pads::Beside(_, _) => true,
+        Pads::Above(_, _) => true,
+        Pads::NoEdge => false,
+    }
 }
 
 // The largest and the least number of rows and of columns.

@@ -8,6 +8,7 @@ pub mod RefusalLaws
 pub mod Board
 pub mod BoardLaws
 pub mod Calls
+pub mod EdgeAtLaws
 pub mod Search
 pub mod Records
 pub mod HasRecord

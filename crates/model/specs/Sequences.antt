@@ -7,7 +7,7 @@ use mathlib.Core.Path.{_≡_, refl}
 use mathlib.Core.Bool.{Bool, true, false}
 use mathlib.Core.List.{List, [], _∷_}
 use lib.IntN.{ℤ, pos, negsuc}
-use Rattle.rules.specs.Grid.{cell-of, blank-cell, grid-of, place-at, place-by-parity}
+use Rattle.rules.specs.Grid.{cell-of, blank-cell, grid-of, place-at, parity}
 use Rattle.rules.specs.Record.{field, tabulate}
 use Rattle.model.specs.Board.{fresh, end-number, decide, check, after-store, cannot-join, join-ends, check-items, settled, decide-first, degree, undecideds, lines, keep-aparts, around, do-item, do-items, shape-items, barred, joined-ends, put-end, put-end-at, set-flag, set-edge, enough}
 use Rattle.model.specs.Calls.{Board, Answer, shown, fresh-board, edge-at, decide-edge, read-edge, add-checkpoint, undo}
@@ -322,5 +322,5 @@ Sequence-20 =
 -- all of them, by computation
 pub sequences :
     Sequence-1 × Sequence-2 × Sequence-3 × Sequence-4 × Sequence-5 × Sequence-6 × Sequence-7 × Sequence-8 × Sequence-9 × Sequence-10 × Sequence-11 × Sequence-12 × Sequence-13 × Sequence-14 × Sequence-15 × Sequence-16 × Sequence-17 × Sequence-18 × Sequence-19 × Sequence-20
-unfolding do-call seen replay shown fresh-board edge-at decide-edge read-edge add-checkpoint undo grid-of cell-of field tabulate place-at place-by-parity fresh end-number decide check after-store cannot-join join-ends check-items settled decide-first degree undecideds lines keep-aparts around do-item do-items shape-items barred joined-ends put-end put-end-at set-flag set-edge enough
+unfolding do-call seen replay shown fresh-board edge-at decide-edge read-edge add-checkpoint undo grid-of cell-of field tabulate place-at parity fresh end-number decide check after-store cannot-join join-ends check-items settled decide-first degree undecideds lines keep-aparts around do-item do-items shape-items barred joined-ends put-end put-end-at set-flag set-edge enough
 sequences = (refl, refl, refl, refl, refl, refl, refl, refl, refl, refl, refl, refl, refl, refl, refl, refl, refl, refl, refl, refl)

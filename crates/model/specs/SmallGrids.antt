@@ -8,7 +8,7 @@ use mathlib.Core.List.{List, [], _∷_, _++_, map}
 use lib.Dec.{eqb, ltb, leb}
 use lib.ListN.{getD}
 use lib.IntN.{ℤ, pos}
-use Rattle.rules.specs.Grid.{Cell, blank, clue, cell-of, blank-cell, Grid, grid-of, pads, place-at, place-by-parity}
+use Rattle.rules.specs.Grid.{Cell, blank, clue, cell-of, blank-cell, Grid, grid-of, pads, place-at, parity}
 use Rattle.rules.specs.Drawing.{Drawing, num, square-lines}
 use Rattle.rules.specs.Record.{codes, drawing-of, field, tabulate}
 use Rattle.rules.specs.Tests.{all-below}
@@ -124,7 +124,7 @@ pub record SmallGrids : Type 0 where
   pub turned-3-2 : Agree 3 2 (o ∷ pos 0 ∷ pos 0 ∷ pos 3 ∷ pos 3 ∷ o ∷ [])
 
 pub small-grids : SmallGrids
-unfolding all-below drawing-of-codes codes-at before-each all-drawings relabel labels codes-agree none-closed is-listed listed-among found-codes codes drawing-of field tabulate place-at place-by-parity grid-of cell-of search backtrack try degree-so-far next-pad board-record fresh decide check after-store cannot-join join-ends check-items settled decide-first degree undecideds lines keep-aparts around do-item do-items shape-items barred joined-ends put-end put-end-at set-flag set-edge enough
+unfolding all-below drawing-of-codes codes-at before-each all-drawings relabel labels codes-agree none-closed is-listed listed-among found-codes codes drawing-of field tabulate place-at parity grid-of cell-of search backtrack try degree-so-far next-pad board-record fresh decide check after-store cannot-join join-ends check-items settled decide-first degree undecideds lines keep-aparts around do-item do-items shape-items barred joined-ends put-end put-end-at set-flag set-edge enough
 small-grids = record {
   blank-2-2 = refl;
   pair-2-2 = refl;

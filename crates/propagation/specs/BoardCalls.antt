@@ -16,6 +16,7 @@ use Rattle.rules.specs.Places.{zero≢one, edge-of-place}
 use Rattle.rules.specs.Tests.{both}
 use Rattle.model.specs.Board.{State, line-or-none}
 use Rattle.model.specs.Calls.{Board, fresh-board, blank-board, new, edge-at, decided, decide-at, decide-edge, read-at, read-edge, most-checkpoints, add-checkpoint, undo-to, undo}
+use Rattle.model.specs.EdgeAtLaws.{edge-at-on}
 use Rattle.model.specs.Refusals.{grid-refusal}
 use Rattle.model.specs.RefusalLaws.{not-refused}
 use Rattle.propagation.specs.ProperGrid.{Proper, accepted-proper}
@@ -59,18 +60,6 @@ noted (edge e) byte now = elim (eqb byte line-byte) [
   | false ↦ elim (eqb byte none-byte) [ true ↦ (e, false) ∷ now | false ↦ now ]
 ]
 
--- the edge at a place of the field is on the board
-edge-at-on : (g : Grid) → 2 ≤ g .width → (row column : ℕ) (e : Edge) → edge-at g row column ≡ edge e → OnBoard g e
-unfolding edge-at
-edge-at-on g wide row column e at = go (ltb row (field-side (g .height)) && ltb column (field-side (g .width))) refl
-  where
-    go : (b : Bool) → (ltb row (field-side (g .height)) && ltb column (field-side (g .width))) ≡ b → OnBoard g e
-    go false h = let k : no-edge ≡ edge e = rw (h, edge-at) at at in zero≢one (cc)
-    go true h =
-        let (r, c) = both (ltb row (field-side (g .height))) (ltb column (field-side (g .width))) h in
-        let k : place-at (g .width) row column ≡ edge e = rw (h, edge-at) at at in
-        edge-of-place g wide row column (ltb-true row (field-side (g .height)) r) (ltb-true column (field-side (g .width)) c) e k .on-board
-
 pub decide-made : (b : Board) (now : List Decision) (then : List (List Decision)) → Made b now then
     → (row column byte : ℕ) → Made (decide-edge b row column byte .board) (noted (edge-at (b .grid) row column) byte now) then
 unfolding decide-edge
@@ -87,7 +76,7 @@ decide-made b now then made row column byte = go (edge-at (b .grid) row column) 
 
     go : (p : Place) → edge-at (b .grid) row column ≡ p → Made (decide-at b (edge-at (b .grid) row column) byte .board) (noted (edge-at (b .grid) row column) byte now) then
     go no-edge h = rw h made
-    go (edge e) h = rw h (at-edge e (edge-at-on (b .grid) (made .grid-proper .wide) row column e h) (eqb byte line-byte) refl (eqb byte none-byte) refl)
+    go (edge e) h = rw h (at-edge e (edge-at-on (b .grid) row column (made .grid-proper .wide) e h) (eqb byte line-byte) refl (eqb byte none-byte) refl)
 
 -- READ changes nothing
 pub read-made : (b : Board) (now : List Decision) (then : List (List Decision)) → Made b now then → (row column : ℕ) → Made (read-edge b row column .board) now then

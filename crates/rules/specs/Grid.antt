@@ -49,16 +49,36 @@ pub data Place : Type 0 where
   edge : Edge → Place
   no-edge : Place
 
--- Place (2y, 2x+1), of even row and odd column, joins pad (y, x) to the right; place (2y+1, 2x), of odd row and even column, joins it
--- downward; where row and column are both even or both odd there is no edge.
-unfoldable pub place-by-parity : ℕ → ℕ → ℕ → Place
-place-by-parity zero zero pad = no-edge
-place-by-parity zero (suc column) pad = edge (right pad)
-place-by-parity (suc row) zero pad = edge (down pad)
-place-by-parity (suc row) (suc column) pad = no-edge
+-- EVEN AND ODD: every number is even, 2n, or odd, 2n+1. They take turns, from 0 on, which is even.
+pub data Parity : Type 0 where
+  even : ℕ → Parity
+  odd : ℕ → Parity
+
+abbrev pub next-parity : Parity → Parity
+next-parity (even n) = odd n
+next-parity (odd n) = even (suc n)
+
+unfoldable pub parity : ℕ → Parity
+parity zero = even zero
+parity (suc n) = next-parity (parity n)
+
+-- THE EDGE AT A PLACE is found by two cases.
+-- Even row 2y, pads beside each other: place (2y, 2x+1) joins pad (y, x) to the right. At place (2y, 2x) stands a pad, and no edge.
+abbrev pub in-even-row : ℕ → ℕ → Parity → Place
+in-even-row width y (odd x) = edge (right (pad-index width y x))
+in-even-row width y (even x) = no-edge
+
+-- Odd row 2y+1, pads one above the other: place (2y+1, 2x) joins pad (y, x) downward. At place (2y+1, 2x+1) four pads meet, and no edge stands.
+abbrev pub in-odd-row : ℕ → ℕ → Parity → Place
+in-odd-row width y (even x) = edge (down (pad-index width y x))
+in-odd-row width y (odd x) = no-edge
+
+abbrev pub in-row : ℕ → Parity → Parity → Place
+in-row width (even y) column = in-even-row width y column
+in-row width (odd y) column = in-odd-row width y column
 
 unfoldable pub place-at : ℕ → ℕ → ℕ → Place
-place-at width row column = place-by-parity (row % 2) (column % 2) (pad-index width (row / 2) (column / 2))
+place-at width row column = in-row width (parity row) (parity column)
 
 -- the row and the column of an edge's place
 abbrev pub row-of : ℕ → Edge → ℕ

@@ -5,6 +5,7 @@ pub mod Record
 pub mod Chains
 pub mod Tests
 pub mod Places
+pub mod PadsOfEdges
 pub mod RecordLaws
 pub mod Sums
 pub mod LineCount

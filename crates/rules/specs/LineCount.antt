@@ -6,11 +6,11 @@ use mathlib.Core.Bool.{Bool}
 use native.Mathlib.Omega.{arith}
 use native.Mathlib.Nat.{mod-eq-of-lt, div-eq-of-lt, mul-add-div-right, mul-add-mod-self-right, mul-le-mul-right, suc-mul, add-zero}
 use lib.Dec.{eqb}
-use Rattle.rules.specs.Grid.{right, down, place-by-parity, place-at, places, field-side, Grid, pads, OnBoard}
+use Rattle.rules.specs.Grid.{right, down, place-at, places, field-side, Grid, pads, OnBoard}
 use Rattle.rules.specs.Drawing.{Drawing, drawn, num, Placed, count, number-of-lines}
 use Rattle.rules.specs.Record.{line-byte, byte-of, tabulate, byte-at-place, field, record-of, record-lines}
 use Rattle.rules.specs.Tests.{num-small}
-use Rattle.rules.specs.Places.{place-right, place-down, column-of-pad}
+use Rattle.rules.specs.Places.{place-right, place-down, place-of-pad, place-in-the-middle, column-of-pad}
 use Rattle.rules.specs.RecordLaws.{off-line, is-line-byte}
 use Rattle.rules.specs.Sums.{sum, sum-same, sum-last, sum-shift, sum-add, sum-bound, sum-rows, sum-pairs}
 
@@ -42,14 +42,12 @@ module _ (g : Grid) (tall : 2 ≤ g .height) (wide : 2 ≤ g .width) (D : Drawin
   at-down : (y x : ℕ) → at-place (2 * y + 1) (2 * x) ≡ num (D .down (y * g .width + x))
   at-down y x = rw (place-down (g .width) y x, is-line-byte g wide (D .down (y * g .width + x))) refl
 
-  -- row and column both even, or both odd: no line
+  -- at a pad, and in the middle of four pads: no line
   at-pad : (y x : ℕ) → at-place (2 * y) (2 * x) ≡ 0
-  unfolding place-at place-by-parity
-  at-pad y x = let row : 2 * y % 2 ≡ 0 = omega arith in let column : 2 * x % 2 ≡ 0 = omega arith in rw (row, column) refl
+  at-pad y x = rw (place-of-pad (g .width) y x) refl
 
   at-middle : (y x : ℕ) → at-place (2 * y + 1) (2 * x + 1) ≡ 0
-  unfolding place-at place-by-parity
-  at-middle y x = let row : (2 * y + 1) % 2 ≡ 1 = omega arith in let column : (2 * x + 1) % 2 ≡ 1 = omega arith in rw (row, column) refl
+  at-middle y x = rw (place-in-the-middle (g .width) y x) refl
 
   -- THE ROWS OF THE FIELD
   odd-length : (n : ℕ) → 2 ≤ n → field-side n ≡ suc (2 * (n - 1))

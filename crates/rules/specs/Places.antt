@@ -1,35 +1,60 @@
--- Places and edges fit together: each edge of the board has exactly one place of the field, each edge place of the field is the place of
--- exactly one edge of the board, and it joins two neighbouring pads. These are document 01's sentences about places, proved of the
--- definitions in Grid.antt. Among them stand small laws that other files cite: how many places there are, and the columns of the pads.
+-- Places and edges fit together: each edge of the board has exactly one place of the field, and each edge place of the field is the place
+-- of exactly one edge of the board. These are document 01's sentences about places, proved of the definitions in Grid.antt; what they say of
+-- pads stands in PadsOfEdges.antt. Among them stand small laws that other files cite: how many places there are, and the columns of the pads.
 use Prim.Native.Nat.{ℕ, zero, suc, _+_, _*_, _-_, _%_, _/_, _≤_, _<_}
 use mathlib.Core.Path.{_≡_, refl, sym, _∙_, ap}
+use native.Mathlib.Numerals.{add-one}
 use native.Mathlib.Omega.{arith}
 use native.Mathlib.Decide.{ℕ-discrete}
 use native.Mathlib.Nat.{mod-lt, mod-eq-of-lt, div-eq-of-lt, div-add-mod', div-lt-iff-lt-mul, add-div-right, mul-add-div-right, mul-add-mod-self-right, mul-le-mul-right, suc-mul, mod-add-mod, mod-self, mul-mod-left, mul-pos, mul-le-mul}
-use Rattle.rules.specs.Grid.{Edge, right, down, first, second, pad-index, field-side, edge, place-by-parity, place-at, row-of, column-of, Grid, pads, OnBoard, places}
+use Rattle.rules.specs.Grid.{Edge, right, down, first, second, pad-index, field-side, edge, no-edge, Parity, even, odd, next-parity, parity, in-row, place-at, row-of, column-of, Grid, pads, OnBoard, places}
 
 -- no two different numbers are equal
 pub zero≢one : {A : Type 0} → _≡_ {A = ℕ} 0 1 → A
 zero≢one e = absurd (omega arith)
 
--- THE PLACES, as document 01 has them: (2y, 2x+1) joins pad (y, x) to the right, (2y+1, 2x) downward; the others have no edge.
-pub place-right : (width y x : ℕ) → place-at width (2 * y) (2 * x + 1) ≡ edge (right (pad-index width y x))
-unfolding place-at place-by-parity
-place-right width y x =
-    let row-parity : 2 * y % 2 ≡ 0 = omega arith in
-    let column-parity : (2 * x + 1) % 2 ≡ 1 = omega arith in
-    let row-half : 2 * y / 2 ≡ y = omega arith in
-    let column-half : (2 * x + 1) / 2 ≡ x = omega arith in
-    rw (row-parity, column-parity, row-half, column-half)
+-- EVEN AND ODD: 2n is even, 2n+1 is odd, and every number is the one that its parity stands for
+pub parity-even : (n : ℕ) → parity (2 * n) ≡ even n
+unfolding parity
+parity-even zero = refl
+parity-even (suc n) =
+    let next : 2 * suc n ≡ suc (suc (2 * n)) = omega arith in
+    ap parity next ∙ ap (λ p. next-parity (next-parity p)) (parity-even n)
 
-pub place-down : (width y x : ℕ) → place-at width (2 * y + 1) (2 * x) ≡ edge (down (pad-index width y x))
-unfolding place-at place-by-parity
-place-down width y x =
-    let row-parity : (2 * y + 1) % 2 ≡ 1 = omega arith in
-    let column-parity : 2 * x % 2 ≡ 0 = omega arith in
-    let row-half : (2 * y + 1) / 2 ≡ y = omega arith in
-    let column-half : 2 * x / 2 ≡ x = omega arith in
-    rw (row-parity, column-parity, row-half, column-half)
+pub parity-odd : (n : ℕ) → parity (2 * n + 1) ≡ odd n
+unfolding parity
+parity-odd n = ap parity (add-one (2 * n)) ∙ ap next-parity (parity-even n)
+
+abbrev pub number-of : Parity → ℕ
+number-of (even n) = 2 * n
+number-of (odd n) = 2 * n + 1
+
+pub its-number : (n : ℕ) → number-of (parity n) ≡ n
+unfolding parity
+its-number zero = refl
+its-number (suc n) = one-more (parity n) ∙ ap suc (its-number n)
+  where
+    one-more : (p : Parity) → number-of (next-parity p) ≡ suc (number-of p)
+    one-more (even m) = omega arith
+    one-more (odd m) = omega arith
+
+-- THE PLACES, as document 01 has them: (2y, 2x+1) joins pad (y, x) to the right, (2y+1, 2x) downward; the others have no edge.
+module _ (width y x : ℕ) where
+  pub place-right : place-at width (2 * y) (2 * x + 1) ≡ edge (right (pad-index width y x))
+  unfolding place-at
+  place-right = rw (parity-even y, parity-odd x) refl
+
+  pub place-down : place-at width (2 * y + 1) (2 * x) ≡ edge (down (pad-index width y x))
+  unfolding place-at
+  place-down = rw (parity-odd y, parity-even x) refl
+
+  pub place-of-pad : place-at width (2 * y) (2 * x) ≡ no-edge
+  unfolding place-at
+  place-of-pad = rw (parity-even y, parity-even x) refl
+
+  pub place-in-the-middle : place-at width (2 * y + 1) (2 * x + 1) ≡ no-edge
+  unfolding place-at
+  place-in-the-middle = rw (parity-odd y, parity-odd x) refl
 
 -- EACH EDGE OF THE BOARD HAS A PLACE of the field, and this place holds it
 pub place-of-edge : (width : ℕ) (e : Edge) → place-at width (row-of width e) (column-of width e) ≡ edge e
@@ -42,6 +67,20 @@ some-places height width h w = let a : 0 < 2 * height - 1 = omega arith in let b
 
 pub few-places : (height width : ℕ) → height ≤ 16 → width ≤ 16 → places height width ≤ 961
 few-places height width h w = mul-le-mul {n₂ = 31} {m₂ = 31} (omega arith) (omega arith)
+
+-- in a field of at most 31 by 31 places the first pad of an edge is below 256
+pub first-small : (width row column : ℕ) → width ≤ 16 → row < 31 → column < 31 → (e : Edge) → place-at width row column ≡ edge e → first e < 256
+unfolding place-at
+first-small width row column narrow r c e held = by-row (parity row) (its-number row) (parity column) (its-number column) held
+  where
+    small : (y x : ℕ) → 2 * y ≤ row → 2 * x ≤ column → pad-index width y x < 256
+    small y x below inside = let half : y ≤ 15 = omega arith in let rows : y * width ≤ 15 * 16 = mul-le-mul half narrow in omega arith
+
+    by-row : (p : Parity) → number-of p ≡ row → (q : Parity) → number-of q ≡ column → in-row width p q ≡ edge e → first e < 256
+    by-row (even y) ey (even x) ex h = zero≢one (cc)
+    by-row (odd y) ey (odd x) ex h = zero≢one (cc)
+    by-row (even y) ey (odd x) ex h = let is : right (pad-index width y x) ≡ e = cc in rw (← is) (small y x (omega arith) (omega arith))
+    by-row (odd y) ey (even x) ex h = let is : down (pad-index width y x) ≡ e = cc in rw (← is) (small y x (omega arith) (omega arith))
 
 -- COLUMNS: the next pad of a row stands one column further, and it is a pad; a pad that is not first in its row follows one that is not last
 module _ (width v : ℕ) where
@@ -102,39 +141,39 @@ module _ (g : Grid) (wide : 2 ≤ g .width) where
     pub its-row : row-of (g .width) e ≡ row
     pub its-column : column-of (g .width) e ≡ column
 
-  -- by the parity of the row and of the column; where both are even or both odd there is no edge
-  by-parity : (row column : ℕ) → row < field-side (g .height) → column < field-side (g .width) → (e : Edge)
-      → (r : ℕ) → row % 2 ≡ r → (c : ℕ) → column % 2 ≡ c → place-by-parity r c (pad-index (g .width) (row / 2) (column / 2)) ≡ edge e → PlaceOf row column e
-  unfolding place-by-parity OnBoard
-  by-parity row column row-in column-in e zero er zero ec h = zero≢one (cc)
-  by-parity row column row-in column-in e (suc r) er (suc c) ec h = zero≢one (cc)
-  by-parity row column row-in column-in e zero er (suc c) ec h =
-      let is : e ≡ right (pad-index (g .width) (row / 2) (column / 2)) = cc in
-      let inside : column / 2 + 1 < g .width = omega arith in
-      let its-row = row-of-pad (row / 2) (column / 2) (omega arith) in
-      let its-column = column-of-pad (row / 2) (column / 2) (omega arith) in
+  -- by the two cases, even row and odd row
+  by-row : (row column : ℕ) → row < field-side (g .height) → column < field-side (g .width) → (e : Edge)
+      → (r : Parity) → number-of r ≡ row → (c : Parity) → number-of c ≡ column → in-row (g .width) r c ≡ edge e → PlaceOf row column e
+  unfolding OnBoard
+  by-row row column row-in column-in e (even y) er (even x) ec h = zero≢one (cc)
+  by-row row column row-in column-in e (odd y) er (odd x) ec h = zero≢one (cc)
+  by-row row column row-in column-in e (even y) er (odd x) ec h =
+      let is : e ≡ right (pad-index (g .width) y x) = cc in
+      let inside : x + 1 < g .width = omega arith in
+      let its-row = row-of-pad y x (omega arith) in
+      let its-column = column-of-pad y x (omega arith) in
       rw is (record {
-        on-board = (pad-in-grid (row / 2) (column / 2) (omega arith) (omega arith), rw its-column inside);
-        its-row = rw its-row (omega arith);
-        its-column = rw its-column (omega arith);
+        on-board = (pad-in-grid y x (omega arith) (omega arith), rw its-column inside);
+        its-row = rw its-row er;
+        its-column = rw its-column ec;
       })
-  by-parity row column row-in column-in e (suc r) er zero ec h =
-      let is : e ≡ down (pad-index (g .width) (row / 2) (column / 2)) = cc in
-      let inside : column / 2 < g .width = omega arith in
-      let its-row = row-of-pad (row / 2) (column / 2) inside in
-      let its-column = column-of-pad (row / 2) (column / 2) inside in
-      let below = pad-in-grid (row / 2 + 1) (column / 2) (omega arith) inside in
-      let next-row = suc-mul (row / 2) (g .width) in
+  by-row row column row-in column-in e (odd y) er (even x) ec h =
+      let is : e ≡ down (pad-index (g .width) y x) = cc in
+      let inside : x < g .width = omega arith in
+      let its-row = row-of-pad y x inside in
+      let its-column = column-of-pad y x inside in
+      let below = pad-in-grid (y + 1) x (omega arith) inside in
+      let next-row = suc-mul y (g .width) in
       rw is (record {
         on-board = omega arith;
-        its-row = rw its-row (omega arith);
-        its-column = rw its-column (omega arith);
+        its-row = rw its-row er;
+        its-column = rw its-column ec;
       })
 
   pub edge-of-place : (row column : ℕ) → row < field-side (g .height) → column < field-side (g .width)
       → (e : Edge) → place-at (g .width) row column ≡ edge e → PlaceOf row column e
   unfolding place-at
-  edge-of-place row column row-in column-in e held = by-parity row column row-in column-in e (row % 2) refl (column % 2) refl held
+  edge-of-place row column row-in column-in e held = by-row row column row-in column-in e (parity row) (its-number row) (parity column) (its-number column) held
 
   -- TWO NEIGHBOURING PADS HAVE ONE EDGE between them: the first and the second pad of an edge tell which edge it is
   pub edge-of-pads : (a b : Edge) → first a ≡ first b → second (g .width) a ≡ second (g .width) b → a ≡ b
@@ -149,19 +188,3 @@ module _ (g : Grid) (wide : 2 ≤ g .width) where
   no-edge-back (right u) (down v) p q = omega arith
   no-edge-back (down u) (right v) p q = omega arith
   no-edge-back (down u) (down v) p q = omega arith
-
-  -- PADS BESIDE EACH OTHER AND ONE ABOVE THE OTHER have an edge of the board between them
-  pub edge-beside : (y x : ℕ) → y < g .height → x + 1 < g .width
-      → OnBoard g (right (pad-index (g .width) y x)) × (second (g .width) (right (pad-index (g .width) y x)) ≡ pad-index (g .width) y (x + 1))
-  unfolding OnBoard
-  edge-beside y x below inside =
-      let its-column = column-of-pad y x (omega arith) in
-      ((pad-in-grid y x below (omega arith), rw its-column inside), omega arith)
-
-  pub edge-below : (y x : ℕ) → y + 1 < g .height → x < g .width
-      → OnBoard g (down (pad-index (g .width) y x)) × (second (g .width) (down (pad-index (g .width) y x)) ≡ pad-index (g .width) (y + 1) x)
-  unfolding OnBoard
-  edge-below y x below inside =
-      let lower = pad-in-grid (y + 1) x below inside in
-      let next-row = suc-mul y (g .width) in
-      ((omega arith), (omega arith))

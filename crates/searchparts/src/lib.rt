@@ -1,4 +1,4 @@
-// The leaves of the search: what only reads the board's lent arrays and chooses, and what writes one record. Each equals a definition of
+// The leaves of the search: what only reads the board's lent arrays and chooses, and what adds one layout. Each equals a definition of
 // searchview's Shown.antt. Nothing here decides an edge.
 ghost use mathlib.Core.Path.{_≡_};
 ghost use Prim.Native.Nat.{_+_, _*_, _-_, _≤_, _<_};
@@ -6,11 +6,10 @@ ghost use lib.Dec.{eqb};
 ghost use lib.ListN.{length, getD};
 ghost use Rattle.rules.specs.Grid.{places};
 ghost use Rattle.rules.specs.Drawing.{num};
-ghost use Rattle.rules.specs.Record.{record-lines};
 ghost use Rattle.model.specs.Search as model;
 ghost use Rattle.boardview.specs.View.{grid-in, Kinds, has-bit, clue-bit};
-ghost use Rattle.searchview.specs.Progress.{put-bytes};
-ghost use Rattle.searchview.specs.Shown.{EdgesReady, edges-only, is-tried, place-shown, record-shown, last-row, NextPad, Added};
+ghost use Rattle.boardview.specs.ShownRecord.{edges-only};
+ghost use Rattle.searchview.specs.Shown.{EdgesReady, is-tried, last-row, NextPad, Added};
 use grid::Edge;
 
 // The bytes of an edge's states, as the edge type names them.
@@ -24,14 +23,6 @@ pub fn first_of_last_row(kind: &[u8; 1024]) -> usize
     ensures { λ r. ⌜ r ≡ last-row (grid-in (now (kind .entry))) ⌝ }
 {
     (boardparts::height(kind) - 1) * boardparts::width(kind)
-}
-
-// The number of places, which is the length of a record.
-fn record_size(kind: &[u8; 1024]) -> usize
-    requires { ⌜ Kinds (now kind) ⌝ }
-    ensures { λ r. ⌜ r ≡ places (grid-in (now (kind .entry)) .height) (grid-in (now (kind .entry)) .width) ⌝ }
-{
-    (2 * boardparts::height(kind) - 1) * (2 * boardparts::width(kind) - 1)
 }
 
 // 1 for a clue, 0 for a blank pad.
@@ -83,44 +74,6 @@ pub fn next_pad(edges: &[u8; 1024], last: usize, from: usize) -> usize
     v
 }
 
-// The byte at a place of the record; a place that is no edge holds undecided.
-fn place_byte(edges: &[u8; 1024], kind: &[u8; 1024], row: usize, column: usize) -> u8
-    requires { ⌜ (row < 31) × (column < 31) × Kinds (now kind) × EdgesReady (grid-in (now kind)) (now edges) ⌝ }
-    ensures { λ r. ⌜ r ≡ place-shown (grid-in (now (kind .entry)) .width) (now (edges .entry)) row column ⌝ }
-{
-    let v = row / 2 * boardparts::width(kind) + column / 2;
-    if row % 2 == 0 {
-        if column % 2 == 0 {
-            return UNDECIDED;
-        }
-        return edges[32 + 2 * v];
-    }
-    if column % 2 == 0 {
-        return edges[33 + 2 * v];
-    }
-    UNDECIDED
-}
-
-// Writes the record into the buffer and counts its lines.
-fn write_record(edges: &[u8; 1024], kind: &[u8; 1024], buffer: &mut [u8], at: usize) -> usize
-    requires { ⌜ Kinds (now kind) × EdgesReady (grid-in (now kind)) (now edges)
-        × (at + places (grid-in (now kind) .height) (grid-in (now kind) .width) ≤ length (now buffer)) ⌝ }
-    ensures { λ r. ⌜ (now (buffer .exit) ≡ put-bytes at (record-shown (grid-in (now (kind .entry))) (now (edges .entry))) (now (buffer .entry)))
-        × (r ≡ record-lines (record-shown (grid-in (now (kind .entry))) (now (edges .entry)))) ⌝ }
-{
-    let size = record_size(kind);
-    let side = 2 * boardparts::width(kind) - 1;
-    let mut lines: usize = 0;
-    let mut i = 0;
-    while i < size {
-        let byte = place_byte(edges, kind, i / side, i % side);
-        buffer[at + i] = byte;
-        lines += boardparts::wide(boardparts::one_if(byte == LINE));
-        i += 1;
-    }
-    lines
-}
-
 // The lesser of two.
 fn least(a: usize, b: usize) -> usize
     ensures { λ r. ⌜ r ≡ model.least a b ⌝ }
@@ -142,12 +95,12 @@ pub fn add_layout(
         (now (layouts .entry)) (now (fewest .entry)) (now (buffer .entry))
         r (now (layouts .exit)) (now (fewest .exit)) (now (buffer .exit)) ⌝ }
 {
-    let size = record_size(kind);
+    let size = boardrecord::record_size(kind);
     let at = *layouts * size;
     if buffer.len() - at < size {
         return 2;
     }
-    let lines = write_record(edges, kind, buffer, at);
+    let lines = boardrecord::put_record(edges, kind, buffer, at);
     *fewest = least(*fewest, lines);
     *layouts += 1;
     0

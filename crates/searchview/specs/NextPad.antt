@@ -15,7 +15,8 @@ use Rattle.model.specs.Board.{State, isUndecided, has-right, has-down}
 use Rattle.model.specs.Search.{next-pad}
 use Rattle.boardview.specs.View.{slot-on, view}
 use Rattle.boardview.specs.Bytes.{default-free, undecided-byte-test, edge-on}
-use Rattle.searchview.specs.Shown.{edges-only, EdgesReady, last-row, NextPad}
+use Rattle.boardview.specs.ShownRecord.{edges-only}
+use Rattle.searchview.specs.Shown.{EdgesReady, last-row, NextPad}
 
 -- the rows above the last: a pad above it has one below
 module _ (g : Grid) (high : 2 ≤ g .height) where

@@ -13,6 +13,8 @@ use lib.ListN.{length, take, drop, length-append, length-drop, take-append-drop}
 use lib.Seq.{length-take-le, take-at, drop-at, drop-drop}
 use native.Mathlib.Nat.{add-assoc, add-zero, zero-add}
 use Rattle.rules.specs.Record.{record-lines}
+use Rattle.boardview.specs.ShownRecord.{put-bytes}
+use Rattle.boardview.specs.ShownRecordLaws.{put-length, put-none, put-put}
 use Rattle.model.specs.Search.{Event, visit, layout, Run, scan, with-record, fewest, least, no-fewest, concat, Solved, solved}
 
 pub record Progress : Type 0 where
@@ -22,10 +24,6 @@ pub record Progress : Type 0 where
   pub fewest-lines : ℕ
   pub used : ℕ
   pub buffer : List ℕ
-
--- a list of bytes put at an index
-unfoldable pub put-bytes : ℕ → List ℕ → List ℕ → List ℕ
-put-bytes at bytes buffer = take at buffer ++ (bytes ++ drop (at + length bytes) buffer)
 
 abbrev pub stopped : ℕ → Progress → Progress
 stopped outcome P = record { outcome = outcome; visited = P .visited; layouts = P .layouts; fewest-lines = P .fewest-lines; used = P .used; buffer = P .buffer }
@@ -72,46 +70,6 @@ module _ (limit size : ℕ) where
           → advance P (layout r ∷ (a ++ b)) ≡ goes-on b (advance P (layout r ∷ a))
       go true h rest = rw (h, advance) refl
       go false h rest = rw (h, advance) rest
-
--- BYTES PUT INTO A BUFFER, one list after another
-pub put-length : (at : ℕ) (bytes buffer : List ℕ) → at + length bytes ≤ length buffer → length (put-bytes at bytes buffer) ≡ length buffer
-unfolding put-bytes
-put-length at bytes buffer fits =
-    length-append (take at buffer) (bytes ++ drop (at + length bytes) buffer)
-    ∙ (let a = length-take-le at buffer (omega arith) in
-    let b = length-append bytes (drop (at + length bytes) buffer) in
-    let c = length-drop (at + length bytes) buffer in omega arith)
-
-pub put-none : (at : ℕ) (buffer : List ℕ) → put-bytes at [] buffer ≡ buffer
-unfolding put-bytes
-put-none at buffer = let same : at + 0 ≡ at = omega arith in rw same (take-append-drop at buffer)
-
-pub put-put : (at : ℕ) (first second buffer : List ℕ) → at + length first ≤ length buffer
-    → put-bytes (at + length first) second (put-bytes at first buffer) ≡ put-bytes at (first ++ second) buffer
-unfolding put-bytes
-put-put at first second buffer fits =
-    rw (
-      take-both,
-      sym (drop-drop (length second) (at + length first) (take at buffer ++ (first ++ drop (at + length first) buffer))),
-      drop-both,
-      drop-drop (length second) (at + length first) buffer,
-      append-assoc,
-      length-append first second,
-      append-assoc first second,
-      add-assoc,
-    ) refl
-  where
-    joined : take at buffer ++ (first ++ drop (at + length first) buffer) ≡ (take at buffer ++ first) ++ drop (at + length first) buffer
-    joined = sym (append-assoc (take at buffer) first (drop (at + length first) buffer))
-
-    joined-length : length (take at buffer ++ first) ≡ at + length first
-    joined-length = length-append (take at buffer) first ∙ (let a = length-take-le at buffer (omega arith) in omega arith)
-
-    take-both : take (at + length first) (take at buffer ++ (first ++ drop (at + length first) buffer)) ≡ take at buffer ++ first
-    take-both = ap (take (at + length first)) joined ∙ take-at (take at buffer ++ first) (drop (at + length first) buffer) (at + length first) joined-length
-
-    drop-both : drop (at + length first) (take at buffer ++ (first ++ drop (at + length first) buffer)) ≡ drop (at + length first) buffer
-    drop-both = ap (drop (at + length first)) joined ∙ drop-at (take at buffer ++ first) (drop (at + length first) buffer) (at + length first) joined-length
 
 -- THE LEAST OF TWO
 pub least-left : (a b : ℕ) → a ≤ b → least a b ≡ a

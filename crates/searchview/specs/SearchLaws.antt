@@ -18,7 +18,8 @@ use Rattle.model.specs.Search.{Event, layout, board-record, degree-so-far, next
 use Rattle.boardview.specs.View.{Arrays, logged, view, unwound, Entry, Since, Ready, Decided}
 use Rattle.boardview.specs.Unwind.{kept-unwound}
 use Rattle.searchview.specs.Progress.{Progress, advance, entered, stopped, goes-on, advance-append}
-use Rattle.searchview.specs.Shown.{EdgesReady, edges-only, is-tried, place-shown, record-shown, last-row, NextPad, Restored, progress}
+use Rattle.boardview.specs.ShownRecord.{edges-only, record-shown}
+use Rattle.searchview.specs.Shown.{EdgesReady, is-tried, last-row, NextPad, Restored, progress}
 use Rattle.searchview.specs.Searched.{Above, Entered, Attempted, Backtracked, Going, events-left}
 use Rattle.boardview.specs.Undecided.{enough-here}
 use Rattle.searchview.specs.EdgeSet.{right-decided}
@@ -160,7 +161,7 @@ module _ (g : Grid) (v : ℕ) (go-right go-down : Bool) (s : Arrays) where
 
 -- the record that the arrays show is the model's
 record-same : (g : Grid) (s : Arrays) → record-shown g (s .edges) ≡ board-record g (view s)
-unfolding record-shown place-shown edges-only view board-record field
+unfolding record-shown edges-only view board-record
 record-same g s = refl
 
 -- ALL OF A PAD

@@ -1,25 +1,19 @@
--- What the lent arrays show of the search: the state of the edges alone, whether an m is tried, the record of a layout byte by byte, and
--- which pad comes next. The contracts of the search's small functions cite these; Laws about them stand in ShownLaws.antt. Nothing is
--- proved here.
-use Prim.Native.Nat.{ℕ, _+_, _*_, _-_, _%_, _/_, _≤_, _<_}
+-- What the lent arrays show of the search: whether an m is tried, which pad comes next, and what a layout put into the buffer does to the
+-- counts. The contracts of the search's small functions cite these; laws about them stand in ShownLaws.antt. Nothing is proved here.
+use Prim.Native.Nat.{ℕ, _+_, _*_, _-_, _≤_, _<_}
 use mathlib.Core.Path.{_≡_}
 use mathlib.Core.Bool.{Bool, false, _||_}
 use mathlib.Core.List.{List, [], _∷_}
 use lib.Dec.{eqb}
 use lib.ListN.{getD, length}
 use lib.IntN.{pos}
-use Rattle.rules.specs.Grid.{Grid, places, field-side, place-at}
+use Rattle.rules.specs.Grid.{Grid, places}
 use Rattle.rules.specs.Drawing.{num}
-use Rattle.rules.specs.Record.{byte-at-place, tabulate}
 use Rattle.model.specs.Board.{State}
-use Rattle.model.specs.Calls.{state-byte}
 use Rattle.model.specs.Search.{degree-so-far, layout}
+use Rattle.boardview.specs.View.{Arrays, slot-on, logged}
+use Rattle.boardview.specs.ShownRecord.{record-shown}
 use Rattle.searchview.specs.Progress.{Progress, advance}
-use Rattle.boardview.specs.View.{Arrays, slot-on, view, logged}
-
--- the state that the edges show, with nothing said of ends and flag
-unfoldable pub edges-only : List ℕ → State
-edges-only edges = view (record { edges = edges; ends = []; log = []; count = 0 })
 
 -- what is true of the edges of every board: as READY of the board says it
 pub record EdgesReady (g : Grid) (edges : List ℕ) : Type 0 where
@@ -30,13 +24,6 @@ pub record EdgesReady (g : Grid) (edges : List ℕ) : Type 0 where
 -- an m is tried where clue + lines is 0 or 2
 unfoldable pub is-tried : Grid → ℕ → State → Bool → Bool → Bool
 is-tried g v S go-right go-down = let degree = degree-so-far g v S + num go-right + num go-down in eqb degree 0 || eqb degree 2
-
--- the byte at a place of the record, and the whole record
-unfoldable pub place-shown : ℕ → List ℕ → ℕ → ℕ → ℕ
-place-shown width edges row column = byte-at-place (λ e. state-byte (edges-only edges .edge e)) (place-at width row column)
-
-unfoldable pub record-shown : Grid → List ℕ → List ℕ
-record-shown g edges = tabulate (λ i. place-shown (g .width) edges (i / field-side (g .width)) (i % field-side (g .width))) 0 (places (g .height) (g .width))
 
 -- the first pad of the last row
 abbrev pub last-row : Grid → ℕ

@@ -1,30 +1,27 @@
--- Laws of what the arrays show: the degree that an m is tried by, the byte at a place of the record, the record byte by byte, and what a
--- layout put into the buffer does to the counts. They rest on Shown.antt and on the board's view.
-use Prim.Native.Nat.{ℕ, zero, suc, _+_, _*_, _-_, _%_, _/_, _≤_, _<_}
+-- Laws of what the arrays show: the degree that an m is tried by, and what a layout put into the buffer does to the counts. They rest on
+-- Shown.antt and on the board's view.
+use Prim.Native.Nat.{ℕ, zero, suc, _+_, _*_, _-_, _%_, _≤_, _<_}
 use mathlib.Core.Path.{_≡_, refl, sym, ap, _∙_}
 use mathlib.Core.Bool.{Bool, true, false, _&&_, _||_, not}
-use mathlib.Core.List.{List, [], _∷_, _++_}
+use mathlib.Core.List.{List}
 use native.Mathlib.Omega.{arith}
-use native.Mathlib.Nat.{div-lt-iff-lt-mul, mod-lt, add-assoc, zero-add}
 use lib.Dec.{eqb, ltb}
-use lib.ListN.{getD, set, length, length-set}
-use lib.Seq.{set-split}
+use lib.ListN.{getD, length}
 use borrow.Author.Tests.{lt-ltb, le-ltb, ltb-true, ltb-false, leb-true, leb-false}
-use Rattle.rules.specs.Grid.{Edge, right, down, Grid, pads, places, field-side, place-at, place-by-parity}
+use Rattle.rules.specs.Grid.{Edge, right, down, Grid, pads, places}
 use Rattle.rules.specs.Places.{some-places}
 use Rattle.rules.specs.Drawing.{num}
-use Rattle.rules.specs.Record.{tabulate, record-lines, line-byte}
-use Rattle.rules.specs.RecordLaws.{length-tabulate}
-use Rattle.rules.specs.Tests.{num-small}
+use Rattle.rules.specs.Record.{record-lines}
+use Rattle.rules.specs.RecordLaws.{length-field}
 use Rattle.model.specs.Board.{isLine, isBlank, has-left, has-up}
-use Rattle.model.specs.Calls.{state-byte}
 use Rattle.model.specs.Search.{degree-so-far, least}
 use Rattle.boardview.specs.View.{slot, slot-on, view, grid-in, has-bit, clue-bit, cell-in, Kinds}
 use Rattle.boardview.specs.Bytes.{default-free, line-byte-test}
 use Rattle.boardview.specs.Geometry.{last-before, low-off, slot-is}
-use Rattle.boardview.specs.Places.{byte-back, one-more}
-use Rattle.searchview.specs.Progress.{advance, put-bytes, put-length, put-put, put-none}
-use Rattle.searchview.specs.Shown.{EdgesReady, edges-only, is-tried, place-shown, record-shown, Added}
+use Rattle.boardview.specs.ShownRecord.{edges-only, bytes-shown, record-shown, put-bytes}
+use Rattle.boardview.specs.ShownRecordLaws.{put-length}
+use Rattle.searchview.specs.Progress.{advance}
+use Rattle.searchview.specs.Shown.{EdgesReady, is-tried, Added}
 
 -- THE DEGREE SO FAR
 module _ (g : Grid) (wide : 2 ≤ g .width) (narrow : g .width ≤ 16) (edges : List ℕ) (ready : EdgesReady g edges) where
@@ -97,115 +94,6 @@ module _ (kind : List ℕ) where
     unfolding is-tried
     tried-as go-right go-down degree is = rw (is, degree-shown) refl
 
--- THE BYTE AT A PLACE
-module _ (width : ℕ) (edges : List ℕ) (long : length edges ≡ 1024) (bytes : (n : ℕ) → getD edges n 2 ≤ 2) (row column : ℕ) where
-  abbrev pad : ℕ
-  pad = row / 2 * width + column / 2
-
-  edge-byte : (e : Edge) → slot e < 1024 → state-byte (edges-only edges .edge e) ≡ getD edges (slot e) 0
-  unfolding edges-only view
-  edge-byte e inside = byte-back (getD edges (slot e) 2) (bytes (slot e)) ∙ default-free edges (slot e) 2 0 (omega arith)
-
-  pub even-even : row % 2 ≡ 0 → column % 2 ≡ 0 → 0 ≡ place-shown width edges row column
-  unfolding place-shown place-at place-by-parity
-  even-even r c = rw (r, c) refl
-
-  pub even-odd : row % 2 ≡ 0 → (column % 2 ≡ 0 → ⊥) → 32 + 2 * pad < 1024 → getD edges (32 + 2 * pad) 0 ≡ place-shown width edges row column
-  unfolding place-shown place-at place-by-parity
-  even-odd r c inside = let odd : column % 2 ≡ 1 = omega arith in rw (r, odd) (sym (edge-byte (right pad) inside))
-
-  pub odd-even : (row % 2 ≡ 0 → ⊥) → column % 2 ≡ 0 → 33 + 2 * pad < 1024 → getD edges (33 + 2 * pad) 0 ≡ place-shown width edges row column
-  unfolding place-shown place-at place-by-parity
-  odd-even r c inside = let odd : row % 2 ≡ 1 = omega arith in rw (odd, c) (sym (edge-byte (down pad) inside))
-
-  pub odd-odd : (row % 2 ≡ 0 → ⊥) → (column % 2 ≡ 0 → ⊥) → 0 ≡ place-shown width edges row column
-  unfolding place-shown place-at place-by-parity
-  odd-odd r c = let odd : row % 2 ≡ 1 = omega arith in let odd-column : column % 2 ≡ 1 = omega arith in rw (odd, odd-column) refl
-
--- THE RECORD BYTE BY BYTE
-pub lines-append : (a b : List ℕ) → record-lines (a ++ b) ≡ record-lines a + record-lines b
-unfolding record-lines
-lines-append [] b = sym (zero-add (record-lines b))
-lines-append (x ∷ a) b = ap (λ (k : ℕ). num (eqb x line-byte) + k) (lines-append a b) ∙ sym (add-assoc (num (eqb x line-byte)) (record-lines a) (record-lines b))
-
-pub lines-at-most : (l : List ℕ) → record-lines l ≤ length l
-unfolding record-lines
-lines-at-most [] = omega arith
-lines-at-most (x ∷ l) = let a = lines-at-most l in let b = num-small (eqb x line-byte) in omega arith
-
--- one byte put at an index
-pub put-one : (at b : ℕ) (buffer : List ℕ) → at < length buffer → set buffer at b ≡ put-bytes at (b ∷ []) buffer
-unfolding put-bytes
-put-one at b buffer inside = rw (native.Mathlib.Numerals.add-one at) (set-split buffer at b inside)
-
--- the next byte of a record, and the lines so far
-one-byte-more : (f : ℕ → ℕ) (i : ℕ) → tabulate f 0 (i + 1) ≡ tabulate f 0 i ++ (f i ∷ [])
-one-byte-more f i = ap (tabulate f 0) (native.Mathlib.Numerals.add-one i) ∙ one-more f 0 i ∙ ap (λ (k : ℕ). tabulate f 0 i ++ (f k ∷ [])) (zero-add i)
-
-module _ (f : ℕ → ℕ) (at i : ℕ) (buffer now-there : List ℕ) (so-far : now-there ≡ put-bytes at (tabulate f 0 i) buffer) (room : at + i < length buffer) where
-  pub next-byte : set now-there (at + i) (f i) ≡ put-bytes at (tabulate f 0 (i + 1)) buffer
-  next-byte =
-      ap (λ l. set l (at + i) (f i)) so-far
-      ∙ put-one (at + i) (f i) (put-bytes at (tabulate f 0 i) buffer) (let k = put-length at (tabulate f 0 i) buffer (omega (arith, long)) in omega arith)
-      ∙ ap (λ (n : ℕ). put-bytes (at + n) (f i ∷ []) (put-bytes at (tabulate f 0 i) buffer)) (sym long)
-      ∙ put-put at (tabulate f 0 i) (f i ∷ []) buffer (omega (arith, long))
-      ∙ ap (λ l. put-bytes at l buffer) (sym (one-byte-more f i))
-    where
-      long : length (tabulate f 0 i) ≡ i
-      long = length-tabulate f 0 i
-
-pub next-line : (f : ℕ → ℕ) (i lines : ℕ) → lines ≡ record-lines (tabulate f 0 i) → lines + num (eqb (f i) 1) ≡ record-lines (tabulate f 0 (i + 1))
-next-line f i lines so-far = sym (ap record-lines (one-byte-more f i) ∙ lines-append (tabulate f 0 i) (f i ∷ []) ∙ last)
-  where
-    one : record-lines (f i ∷ []) ≡ num (eqb (f i) 1) + 0
-    one = unfold record-lines in refl
-
-    last : record-lines (tabulate f 0 i) + record-lines (f i ∷ []) ≡ lines + num (eqb (f i) 1)
-    last = omega (arith, one)
-
--- the first i bytes of a record have been written, and their lines counted
-pub record Writing (g : Grid) (edges : List ℕ) (at : ℕ) (buffer : List ℕ) (i lines : ℕ) (buffer′ : List ℕ) : Type 0 where
-  pub some : i ≤ places (g .height) (g .width)
-  pub few : lines ≤ i
-  pub counted : lines ≡ record-lines (tabulate (λ i. place-shown (g .width) edges (i / field-side (g .width)) (i % field-side (g .width))) 0 i)
-  pub written : buffer′ ≡ put-bytes at (tabulate (λ i. place-shown (g .width) edges (i / field-side (g .width)) (i % field-side (g .width))) 0 i) buffer
-  pub same-length : length buffer′ ≡ length buffer
-
-module _ (g : Grid) (edges : List ℕ) (at : ℕ) (buffer : List ℕ) where
-  abbrev byte : ℕ → ℕ
-  byte i = place-shown (g .width) edges (i / field-side (g .width)) (i % field-side (g .width))
-
-  pub none-written : Writing g edges at buffer 0 0 buffer
-  unfolding tabulate record-lines
-  none-written = record { some = omega arith; few = omega arith; counted = refl; written = sym (put-none at buffer); same-length = refl }
-
-  pub one-written : (i lines : ℕ) (buffer′ : List ℕ) → Writing g edges at buffer i lines buffer′ → at + places (g .height) (g .width) ≤ length buffer
-      → i < places (g .height) (g .width) → (b n : ℕ) → b ≡ byte i → n ≡ num (eqb b 1) → n ≤ 1 → Writing g edges at buffer (i + 1) (lines + n) (set buffer′ (at + i) b)
-  one-written i lines buffer′ w room less b n b-is n-is one = record {
-    some = omega arith;
-    few = let k = w .few in omega arith;
-    counted = ap (λ (k : ℕ). lines + k) (n-is ∙ ap (λ (k : ℕ). num (eqb k 1)) b-is) ∙ next-line byte i lines (w .counted);
-    written = ap (λ (k : ℕ). set buffer′ (at + i) k) b-is ∙ next-byte byte at i buffer buffer′ (w .written) (omega arith);
-    same-length = length-set buffer′ (at + i) b ∙ w .same-length;
-  }
-
-  pub all-written : (i lines : ℕ) (buffer′ : List ℕ) → Writing g edges at buffer i lines buffer′ → places (g .height) (g .width) ≤ i
-      → (buffer′ ≡ put-bytes at (record-shown g edges) buffer) × (lines ≡ record-lines (record-shown g edges))
-  unfolding record-shown
-  all-written i lines buffer′ w done =
-      let same : i ≡ places (g .height) (g .width) = let k = w .some in omega arith in
-      (w .written ∙ ap (λ (k : ℕ). put-bytes at (tabulate byte 0 k) buffer) same, w .counted ∙ ap (λ (k : ℕ). record-lines (tabulate byte 0 k)) same)
-
--- the row and the column of a place number
-pub place-inside : (height width i w size : ℕ) → w ≡ width → size ≡ places height width → 2 ≤ width → width ≤ 16 → height ≤ 16 → i < size
-    → (i / (2 * w - 1) < 31) × (i % (2 * w - 1) < 31)
-place-inside height width i w size w-is size-is wide narrow low less =
-    let some : 0 < 2 * w - 1 = omega arith in
-    let sides : size ≡ field-side height * (2 * w - 1) = size-is ∙ ap (λ (k : ℕ). field-side height * (2 * k - 1)) (sym w-is) in
-    let row : i / (2 * w - 1) < field-side height = div-lt-iff-lt-mul some .1 (omega arith) in
-    let column = mod-lt i some in
-    (omega arith, omega arith)
-
 -- A LAYOUT PUT INTO THE BUFFER
 module _ (g : Grid) (edges buffer : List ℕ) (layouts fewest-lines : ℕ) where
   abbrev size : ℕ
@@ -225,7 +113,7 @@ module _ (g : Grid) (edges buffer : List ℕ) (layouts fewest-lines : ℕ) where
   unfolding advance record-shown
   added at lines least-lines buffer′ at-is inside room is lines-are least-is =
       let next : (layouts + 1) * size ≡ layouts * size + size = omega (arith, native.Mathlib.Nat.suc-mul layouts size, ap (λ (k : ℕ). k * size) (native.Mathlib.Numerals.add-one layouts)) in
-      let long : length (record-shown g edges) ≡ size = length-tabulate _ 0 size in
+      let long : length (record-shown g edges) ≡ size = length-field (g .height) (g .width) (bytes-shown edges) in
       let there : buffer′ ≡ put-bytes (layouts * size) (record-shown g edges) buffer = is ∙ ap (λ (k : ℕ). put-bytes k (record-shown g edges) buffer) at-is in
       let same : length buffer′ ≡ length buffer = ap length there ∙ put-length (layouts * size) (record-shown g edges) buffer (omega arith) in
       record {

@@ -4,14 +4,14 @@ use borrow.Author.Needs.{needs}
 use Rattle.board.proofs.decided.Statement.{statement}
 use Rattle.board.proofs.decided.Tie as tie
 
-decide-slot-requires : tie.Need-decide-slot-requires
-decide-slot-requires c κs = search needs
+decide-pads-requires : tie.Need-decide-pads-requires
+decide-pads-requires c κs = search needs
 
 flag-number-requires : tie.Need-flag-number-requires
 flag-number-requires c κs = search needs
 
 returns : tie.Need-returns
-returns c = λ B held. decided-says _ B held _ _ _ (c .before .decide-slot .ensures) (c .flag-number .ensures)
+returns c = λ B held e is. decided-says _ B held e _ _ (c .before .decide-pads .ensures e is) (c .flag-number .ensures)
 
 pub decided-spec : {M : Type 1} → statement M
-decided-spec = tie.close (tie.spec decide-slot-requires flag-number-requires returns)
+decided-spec = tie.close (tie.spec decide-pads-requires flag-number-requires returns)

@@ -21,11 +21,11 @@ sub-if1 c = let at : c .before .before .before .args .layouts .now * c .before .
 returns : tie.Need-returns
 returns c = let at : c .before .before .before .before .args .layouts .now * c .before .before .record-size .result ≡ c .before .before .before .before .args .layouts .now * places (grid-in (c .before .before .before .before .args .kind .now) .height) (grid-in (c .before .before .before .before .args .kind .now) .width) = ap (λ (k : ℕ). c .before .before .before .before .args .layouts .now * k) (c .before .before .record-size .ensures) in full _ _ _ _ _ (c .before .before .before .before .pre .2) (omega (arith, c .if1 .taken, c .before .before .record-size .ensures, c .before .before .before .before .pre .2))
 
-write-record-requires : tie.Need-write-record-requires
-write-record-requires c κs =
+put-record-requires : tie.Need-put-record-requires
+put-record-requires c κs =
     let start = c .before .before .before .before .before in
     let record-size-says = c .before .before .before .record-size .ensures in
-    let at : start .args .layouts .now * c .before .before .before .record-size .result ≡ start .args .layouts .now * places (grid-in (start .args .kind .now) .height) (grid-in (start .args .kind .now) .width) = ap (λ (k : ℕ). start .args .layouts .now * k) (record-size-says) in (start .pre .0, start .pre .1, omega (arith, c .before .if1 .left, record-size-says, start .pre .2))
+    let at : start .args .layouts .now * c .before .before .before .record-size .result ≡ start .args .layouts .now * places (grid-in (start .args .kind .now) .height) (grid-in (start .args .kind .now) .width) = ap (λ (k : ℕ). start .args .layouts .now * k) (record-size-says) in (start .pre .0, start .pre .1 .long, start .pre .1 .bytes, omega (arith, c .before .if1 .left, record-size-says, start .pre .2))
 
 least-requires : tie.Need-least-requires
 least-requires c κs = search needs
@@ -43,8 +43,8 @@ returns-2 : tie.Need-returns-2
 returns-2 c =
     let start = c .before .before .before .before .before .before .before .before .before .before in
     let record-size-says = c .before .before .before .before .before .before .before .before .record-size .ensures in
-    let write-record-says = c .before .before .before .before .write-record .ensures in
-    let at : start .args .layouts .now * c .before .before .before .before .before .before .before .before .record-size .result ≡ start .args .layouts .now * places (grid-in (start .args .kind .now) .height) (grid-in (start .args .kind .now) .width) = ap (λ (k : ℕ). start .args .layouts .now * k) (record-size-says) in added _ _ _ _ _ _ _ _ _ at (start .pre .2) (omega (arith, c .before .before .before .before .before .before .if1 .left, record-size-says, start .pre .2)) (write-record-says .0) (write-record-says .1) (c .least .ensures)
+    let put-record-says = c .before .before .before .before .put-record .ensures in
+    let at : start .args .layouts .now * c .before .before .before .before .before .before .before .before .record-size .result ≡ start .args .layouts .now * places (grid-in (start .args .kind .now) .height) (grid-in (start .args .kind .now) .width) = ap (λ (k : ℕ). start .args .layouts .now * k) (record-size-says) in added _ _ _ _ _ _ _ _ _ at (start .pre .2) (omega (arith, c .before .before .before .before .before .before .if1 .left, record-size-says, start .pre .2)) (put-record-says .0) (put-record-says .1) (c .least .ensures)
 
 pub add-layout-spec : {M : Type 1} → statement M
 add-layout-spec =
@@ -54,7 +54,7 @@ add-layout-spec =
     mul-at
     sub-if1
     returns
-    write-record-requires
+    put-record-requires
     least-requires
     add-layouts
     same-length

@@ -3,8 +3,8 @@ use native.Mathlib.Omega.{arith}
 use mathlib.Core.Path.{refl}
 use borrow.Author.Needs.{needs}
 use Rattle.rules.specs.Places.{few-places}
-use Rattle.searchparts.proofs.record_size.Statement.{statement}
-use Rattle.searchparts.proofs.record_size.Tie as tie
+use Rattle.boardrecord.proofs.record_size.Statement.{statement}
+use Rattle.boardrecord.proofs.record_size.Tie as tie
 
 height-requires : tie.Need-height-requires
 height-requires c κs = search needs

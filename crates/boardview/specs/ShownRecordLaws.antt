@@ -1,0 +1,189 @@
+-- Laws of laying out a record from the arrays: the byte of a state and of a place, bytes put into a buffer one after the other, and their
+-- lines counted. They rest on ShownRecord.antt.
+use Prim.Native.Nat.{ℕ, zero, suc, _+_, _*_, _-_, _%_, _/_, _≤_, _<_}
+use mathlib.Core.Path.{_≡_, refl, sym, ap, _∙_}
+use mathlib.Core.List.{List, [], _∷_, _++_, append-assoc}
+use native.Mathlib.Omega.{arith}
+use native.Mathlib.Nat.{div-lt-iff-lt-mul, mod-lt, add-assoc, add-zero, zero-add}
+use native.Mathlib.Numerals.{add-one}
+use lib.Dec.{eqb}
+use lib.ListN.{getD, set, length, take, drop, length-set, length-append, length-drop, take-append-drop}
+use lib.Seq.{length-take-le, take-at, drop-at, drop-drop, set-split}
+use Rattle.rules.specs.Grid.{Edge, right, down, first, field-side, places, Place, edge, no-edge, place-at, Grid}
+use Rattle.rules.specs.Drawing.{num}
+use Rattle.rules.specs.Record.{byte-at-place, field, tabulate, record-lines, line-byte}
+use Rattle.rules.specs.RecordLaws.{plus-suc, length-tabulate}
+use Rattle.rules.specs.Tests.{num-small}
+use Rattle.model.specs.Calls.{state-byte}
+use Rattle.boardview.specs.View.{slot, state-of, view}
+use Rattle.boardview.specs.Bytes.{default-free}
+use Rattle.boardview.specs.ShownRecord.{edges-only, bytes-shown, record-shown, slot-of-place, put-bytes}
+
+-- a byte is that of its state
+pub byte-back : (b : ℕ) → b ≤ 2 → state-byte (state-of b) ≡ b
+unfolding state-of
+byte-back zero h = refl
+byte-back (suc zero) h = refl
+byte-back (suc (suc zero)) h = refl
+byte-back (suc (suc (suc b))) h = absurd (omega arith)
+
+-- THE BYTE AT A PLACE
+slot-some : (e : Edge) → 0 ≡ slot e → ⊥
+slot-some (right v) is = omega arith
+slot-some (down v) is = omega arith
+
+pub slot-inside : (p : Place) → ((e : Edge) → p ≡ edge e → first e < 256) → slot-of-place p < 1024
+unfolding slot-of-place
+slot-inside no-edge small = omega arith
+slot-inside (edge (right v)) small = omega (arith, small (right v) refl)
+slot-inside (edge (down v)) small = omega (arith, small (down v) refl)
+
+pub no-edge-at-0 : (p : Place) → 0 ≡ slot-of-place p → p ≡ no-edge
+unfolding slot-of-place
+no-edge-at-0 no-edge is = refl
+no-edge-at-0 (edge e) is = absurd (slot-some e is)
+
+module _ (edges : List ℕ) (long : length edges ≡ 1024) (bytes : (n : ℕ) → getD edges n 2 ≤ 2) where
+  pub edge-byte : (e : Edge) → slot e < 1024 → getD edges (slot e) 0 ≡ bytes-shown edges e
+  unfolding edges-only view
+  edge-byte e inside = default-free edges (slot e) 0 2 (omega arith) ∙ sym (byte-back (getD edges (slot e) 2) (bytes (slot e)))
+
+  pub byte-at-slot : (p : Place) (n : ℕ) → n ≡ slot-of-place p → (n ≡ 0 → ⊥) → n < 1024 → getD edges n 0 ≡ byte-at-place (bytes-shown edges) p
+  unfolding slot-of-place
+  byte-at-slot no-edge n is some inside = absurd (some is)
+  byte-at-slot (edge e) n is some inside = rw is (edge-byte e (rw is at inside))
+
+pub no-byte : (edges : List ℕ) (p : Place) → 0 ≡ slot-of-place p → 0 ≡ byte-at-place (bytes-shown edges) p
+no-byte edges p is = rw (no-edge-at-0 p is) refl
+
+-- one more of a list that is laid out
+pub one-more : {A : Type 0} (f : ℕ → A) (start n : ℕ) → tabulate f start (suc n) ≡ tabulate f start n ++ (f (start + n) ∷ [])
+unfolding tabulate
+one-more f start zero = ap (λ (k : ℕ). f k ∷ []) (sym (add-zero start))
+one-more f start (suc n) = ap (λ l. f start ∷ l) (one-more f (start + 1) n ∙ ap (λ (k : ℕ). tabulate f (start + 1) n ++ (f k ∷ [])) (plus-suc start n))
+
+-- BYTES PUT INTO A BUFFER, one list after another
+pub put-length : (at : ℕ) (bytes buffer : List ℕ) → at + length bytes ≤ length buffer → length (put-bytes at bytes buffer) ≡ length buffer
+unfolding put-bytes
+put-length at bytes buffer fits =
+    length-append (take at buffer) (bytes ++ drop (at + length bytes) buffer)
+    ∙ (let a = length-take-le at buffer (omega arith) in
+    let b = length-append bytes (drop (at + length bytes) buffer) in
+    let c = length-drop (at + length bytes) buffer in omega arith)
+
+pub put-none : (at : ℕ) (buffer : List ℕ) → put-bytes at [] buffer ≡ buffer
+unfolding put-bytes
+put-none at buffer = let same : at + 0 ≡ at = omega arith in rw same (take-append-drop at buffer)
+
+pub put-put : (at : ℕ) (first second buffer : List ℕ) → at + length first ≤ length buffer
+    → put-bytes (at + length first) second (put-bytes at first buffer) ≡ put-bytes at (first ++ second) buffer
+unfolding put-bytes
+put-put at first second buffer fits =
+    rw (
+      take-both,
+      sym (drop-drop (length second) (at + length first) (take at buffer ++ (first ++ drop (at + length first) buffer))),
+      drop-both,
+      drop-drop (length second) (at + length first) buffer,
+      append-assoc,
+      length-append first second,
+      append-assoc first second,
+      add-assoc,
+    ) refl
+  where
+    joined : take at buffer ++ (first ++ drop (at + length first) buffer) ≡ (take at buffer ++ first) ++ drop (at + length first) buffer
+    joined = sym (append-assoc (take at buffer) first (drop (at + length first) buffer))
+
+    joined-length : length (take at buffer ++ first) ≡ at + length first
+    joined-length = length-append (take at buffer) first ∙ (let a = length-take-le at buffer (omega arith) in omega arith)
+
+    take-both : take (at + length first) (take at buffer ++ (first ++ drop (at + length first) buffer)) ≡ take at buffer ++ first
+    take-both = ap (take (at + length first)) joined ∙ take-at (take at buffer ++ first) (drop (at + length first) buffer) (at + length first) joined-length
+
+    drop-both : drop (at + length first) (take at buffer ++ (first ++ drop (at + length first) buffer)) ≡ drop (at + length first) buffer
+    drop-both = ap (drop (at + length first)) joined ∙ drop-at (take at buffer ++ first) (drop (at + length first) buffer) (at + length first) joined-length
+
+-- one byte put at an index
+pub put-one : (at b : ℕ) (buffer : List ℕ) → at < length buffer → set buffer at b ≡ put-bytes at (b ∷ []) buffer
+unfolding put-bytes
+put-one at b buffer inside = rw (native.Mathlib.Numerals.add-one at) (set-split buffer at b inside)
+
+-- LINES of a record that is laid out part by part
+pub lines-append : (a b : List ℕ) → record-lines (a ++ b) ≡ record-lines a + record-lines b
+unfolding record-lines
+lines-append [] b = sym (zero-add (record-lines b))
+lines-append (x ∷ a) b = ap (λ (k : ℕ). num (eqb x line-byte) + k) (lines-append a b) ∙ sym (add-assoc (num (eqb x line-byte)) (record-lines a) (record-lines b))
+
+pub lines-at-most : (l : List ℕ) → record-lines l ≤ length l
+unfolding record-lines
+lines-at-most [] = omega arith
+lines-at-most (x ∷ l) = let a = lines-at-most l in let b = num-small (eqb x line-byte) in omega arith
+
+-- the next byte of a record, and the lines so far
+one-byte-more : (f : ℕ → ℕ) (i : ℕ) → tabulate f 0 (i + 1) ≡ tabulate f 0 i ++ (f i ∷ [])
+one-byte-more f i = ap (tabulate f 0) (native.Mathlib.Numerals.add-one i) ∙ one-more f 0 i ∙ ap (λ (k : ℕ). tabulate f 0 i ++ (f k ∷ [])) (zero-add i)
+
+module _ (f : ℕ → ℕ) (at i : ℕ) (buffer now-there : List ℕ) (so-far : now-there ≡ put-bytes at (tabulate f 0 i) buffer) (room : at + i < length buffer) where
+  pub next-byte : set now-there (at + i) (f i) ≡ put-bytes at (tabulate f 0 (i + 1)) buffer
+  next-byte =
+      ap (λ l. set l (at + i) (f i)) so-far
+      ∙ put-one (at + i) (f i) (put-bytes at (tabulate f 0 i) buffer) (let k = put-length at (tabulate f 0 i) buffer (omega (arith, long)) in omega arith)
+      ∙ ap (λ (n : ℕ). put-bytes (at + n) (f i ∷ []) (put-bytes at (tabulate f 0 i) buffer)) (sym long)
+      ∙ put-put at (tabulate f 0 i) (f i ∷ []) buffer (omega (arith, long))
+      ∙ ap (λ l. put-bytes at l buffer) (sym (one-byte-more f i))
+    where
+      long : length (tabulate f 0 i) ≡ i
+      long = length-tabulate f 0 i
+
+pub next-line : (f : ℕ → ℕ) (i lines : ℕ) → lines ≡ record-lines (tabulate f 0 i) → lines + num (eqb (f i) 1) ≡ record-lines (tabulate f 0 (i + 1))
+next-line f i lines so-far = sym (ap record-lines (one-byte-more f i) ∙ lines-append (tabulate f 0 i) (f i ∷ []) ∙ last)
+  where
+    one : record-lines (f i ∷ []) ≡ num (eqb (f i) 1) + 0
+    one = unfold record-lines in refl
+
+    last : record-lines (tabulate f 0 i) + record-lines (f i ∷ []) ≡ lines + num (eqb (f i) 1)
+    last = omega (arith, one)
+
+-- WRITING: the first i bytes have been put at an index, and their lines counted
+pub record Writing (byte : ℕ → ℕ) (at : ℕ) (buffer : List ℕ) (i lines : ℕ) (buffer′ : List ℕ) : Type 0 where
+  pub few : lines ≤ i
+  pub counted : lines ≡ record-lines (tabulate byte 0 i)
+  pub written : buffer′ ≡ put-bytes at (tabulate byte 0 i) buffer
+  pub same-length : length buffer′ ≡ length buffer
+
+module _ (byte : ℕ → ℕ) (at : ℕ) (buffer : List ℕ) where
+  pub none-written : Writing byte at buffer 0 0 buffer
+  unfolding tabulate record-lines
+  none-written = record { few = omega arith; counted = refl; written = sym (put-none at buffer); same-length = refl }
+
+  pub one-written : (i lines : ℕ) (buffer′ : List ℕ) → Writing byte at buffer i lines buffer′ → at + i < length buffer
+      → (b n : ℕ) → b ≡ byte i → n ≡ num (eqb b 1) → n ≤ 1 → Writing byte at buffer (i + 1) (lines + n) (set buffer′ (at + i) b)
+  one-written i lines buffer′ w room b n b-is n-is one = record {
+    few = let k = w .few in omega arith;
+    counted = ap (λ (k : ℕ). lines + k) (n-is ∙ ap (λ (k : ℕ). num (eqb k 1)) b-is) ∙ next-line byte i lines (w .counted);
+    written = ap (λ (k : ℕ). set buffer′ (at + i) k) b-is ∙ next-byte byte at i buffer buffer′ (w .written) room;
+    same-length = length-set buffer′ (at + i) b ∙ w .same-length;
+  }
+
+-- all of a record
+abbrev pub byte-number : Grid → List ℕ → ℕ → ℕ
+byte-number g edges i = byte-at-place (bytes-shown edges) (place-at (g .width) (i / field-side (g .width)) (i % field-side (g .width)))
+
+pub all-written : (g : Grid) (edges : List ℕ) (at : ℕ) (buffer : List ℕ) (i lines : ℕ) (buffer′ : List ℕ) → Writing (byte-number g edges) at buffer i lines buffer′
+    → i ≡ places (g .height) (g .width) → (buffer′ ≡ put-bytes at (record-shown g edges) buffer) × (lines ≡ record-lines (record-shown g edges))
+unfolding record-shown field
+all-written g edges at buffer i lines buffer′ w done =
+    (w .written ∙ ap (λ (k : ℕ). put-bytes at (tabulate (byte-number g edges) 0 k) buffer) done, w .counted ∙ ap (λ (k : ℕ). record-lines (tabulate (byte-number g edges) 0 k)) done)
+
+-- the row and the column of a place number, where the code has the sizes in numbers of its own
+pub place-inside : (height width i w size : ℕ) → w ≡ width → size ≡ places height width → 2 ≤ width → width ≤ 16 → height ≤ 16 → i < size
+    → (i / field-side w < 31) × (i % field-side w < 31)
+place-inside height width i w size w-is size-is wide narrow low less =
+    let some : 0 < field-side w = omega arith in
+    let sides : size ≡ field-side height * field-side w = size-is ∙ ap (λ (k : ℕ). field-side height * field-side k) (sym w-is) in
+    let row : i / field-side w < field-side height = div-lt-iff-lt-mul some .1 (omega arith) in
+    let column = mod-lt i some in
+    (omega arith, omega arith)
+
+pub byte-as-numbered : (g : Grid) (edges : List ℕ) (i w : ℕ) → w ≡ g .width
+    → {b : ℕ} → b ≡ byte-at-place (bytes-shown edges) (place-at w (i / field-side w) (i % field-side w)) → b ≡ byte-number g edges i
+byte-as-numbered g edges i w w-is is = is ∙ ap (λ (k : ℕ). byte-at-place (bytes-shown edges) (place-at k (i / field-side k) (i % field-side k))) w-is
