@@ -1,7 +1,7 @@
 -- The calls on the pads that the code finds at a place: declined where there are none, else the call on the edge between them. It rests on
 -- PlaceLaws.antt and DecisionLaws.antt.
-use Prim.Native.Nat.{ℕ, _≤_, _<_}
-use mathlib.Core.Path.{_≡_, refl, sym, ap, _∙_}
+use Prim.Native.Nat.{ℕ, _<_}
+use mathlib.Core.Path.{_≡_, sym, ap, _∙_}
 use mathlib.Core.Bool.{Bool, true, false, not}
 use native.Mathlib.Omega.{arith}
 use lib.ListN.{getD}
@@ -15,7 +15,7 @@ use Rattle.grid.specs.declared.Pads.{Pads}
 use Rattle.boardview.specs.View.{slot, grid-in, view}
 use Rattle.boardview.specs.ShownRecord.{slot-of-place, edges-only}
 use Rattle.boardview.specs.ShownRecordLaws.{edge-byte}
-use Rattle.board.specs.PlaceLaws.{told-place, told-on-board, none-there, one-there}
+use Rattle.board.specs.PlaceLaws.{told-edge, told-on-board, none-there, one-there}
 use Rattle.board.specs.Held.{Held, Says}
 use Rattle.board.specs.DecisionLaws.{no-place-decided, no-place-read, no-state, line-decided, none-decided, edge-read}
 use Rattle.board.specs.declared.Board.{Board}
@@ -44,7 +44,7 @@ module _ (b : Board) (B : model.Board) (held : Held b B) (y x : ℕ) (there : Pa
     found = one-there (grid-in (b .kind)) y x there are (sym asked ∙ not-false answer on)
 
     its-edge : place-of there ≡ edge (found .0)
-    its-edge = told-place (grid-in (b .kind)) y x there are ∙ found .1
+    its-edge = told-edge (grid-in (b .kind)) y x there are ∙ found .1
 
     pub says-line : (byte : ℕ) → byte ≡ 1 → {r : Answer} → IfEdge (place-of there) (λ e. Says r (model.decided B e (line-or-none true))) → Says r (model.decide-edge B y x byte)
     says-line byte one says = line-decided b B held y x (found .0) (found .1) byte one (says (found .0) its-edge)

@@ -4,13 +4,13 @@ use Prim.Native.Nat.{ℕ, _≤_, _<_}
 use mathlib.Core.Path.{_≡_, refl, sym, ap, _∙_}
 use mathlib.Core.Bool.{true, false, true≢false}
 use native.Mathlib.Omega.{arith}
-use Rattle.rules.specs.Grid.{Edge, right, down, first, Place, edge, no-edge, place-at, field-side, Grid, pads, OnBoard}
+use Rattle.rules.specs.Grid.{Edge, right, down, Place, edge, no-edge, place-at, field-side, Grid, pads, OnBoard}
 use Rattle.rules.specs.Places.{first-inside, zero≢one}
 use Rattle.model.specs.Board.{EdgeState, on-board}
 use Rattle.model.specs.BoardLaws.{on-board-test}
 use Rattle.model.specs.Calls.{edge-at}
 use Rattle.model.specs.EdgeAtLaws.{row-outside, column-outside, in-field, edge-at-on}
-use Rattle.grid.specs.PadsAt.{pads-of, place-of, has-edge, IfEdge, place-back}
+use Rattle.grid.specs.PadsAt.{pads-of, place-of, has-edge, IfEdge, edge-beside, edge-above, edge-nowhere, told-place}
 use Rattle.grid.specs.declared.Pads.{Pads}
 use Rattle.grid.specs.declared.Pads.the-variants.{Beside, Above, NoEdge}
 use Rattle.boardview.specs.View.{Arrays, Decided}
@@ -32,11 +32,11 @@ module _ (g : Grid) (y x : ℕ) where
 
 -- WHAT THE PADS TELL OF
 module _ (g : Grid) (y x : ℕ) (there : Pads) (are : there ≡ pads-of (g .width) (edge-at g y x)) where
-  pub told-place : place-of there ≡ edge-at g y x
-  told-place = ap place-of are ∙ place-back (g .width) (edge-at g y x)
+  pub told-edge : place-of there ≡ edge-at g y x
+  told-edge = told-place (g .width) (edge-at g y x) are
 
   pub told-on-board : 2 ≤ g .width → IfEdge (place-of there) (λ e. OnBoard g e)
-  told-on-board wide e is = edge-at-on g y x wide e (sym told-place ∙ is)
+  told-on-board wide e is = edge-at-on g y x wide e (sym told-edge ∙ is)
 
   pub none-there : has-edge (place-of there) ≡ false → edge-at g y x ≡ no-edge
   unfolding has-edge
@@ -44,7 +44,7 @@ module _ (g : Grid) (y x : ℕ) (there : Pads) (are : there ≡ pads-of (g .widt
     where
       go : (p : Place) → edge-at g y x ≡ p → edge-at g y x ≡ no-edge
       go no-edge at = at
-      go (edge e) at = let is : place-of there ≡ edge e = told-place ∙ at in absurd (true≢false (sym (ap has-edge is) ∙ none))
+      go (edge e) at = let is : place-of there ≡ edge e = told-edge ∙ at in absurd (true≢false (sym (ap has-edge is) ∙ none))
 
   pub one-there : has-edge (place-of there) ≡ true → (e : Edge) × (edge-at g y x ≡ edge e)
   unfolding has-edge
@@ -52,32 +52,23 @@ module _ (g : Grid) (y x : ℕ) (there : Pads) (are : there ≡ pads-of (g .widt
     where
       go : (p : Place) → edge-at g y x ≡ p → (e : Edge) × (edge-at g y x ≡ edge e)
       go (edge e) at = (e, at)
-      go no-edge at = let is : place-of there ≡ no-edge = told-place ∙ at in absurd (true≢false (sym some ∙ ap has-edge is))
+      go no-edge at = let is : place-of there ≡ no-edge = told-edge ∙ at in absurd (true≢false (sym some ∙ ap has-edge is))
 
 -- THE EDGE OF TWO PADS, by how they stand
 module _ (g : Grid) (few : pads g ≤ 256) (there : Pads) (on : IfEdge (place-of there) (λ e. OnBoard g e)) {a b : ℕ} where
   module _ (are : there ≡ Beside a b) where
-    beside : place-of there ≡ edge (right a)
-    unfolding place-of
-    beside = ap place-of are
-
     pub beside-on : (on-board g (right a) ≡ true) × (a < 256)
-    beside-on = let h = on (right a) beside in (on-board-test g (right a) h, omega (arith, first-inside g (right a) h))
+    beside-on = let h = on (right a) (edge-beside there are) in (on-board-test g (right a) h, omega (arith, first-inside g (right a) h))
 
     pub beside-decided : {s s′ : Arrays} {m : EdgeState} → Decided g s (right a) m s′ → IfEdge (place-of there) (λ e. Decided g s e m s′)
-    beside-decided did e is = let same : right a ≡ e = cc beside in rw (← same) did
+    beside-decided did e is = let same : right a ≡ e = cc (edge-beside there are) in rw (← same) did
 
   module _ (are : there ≡ Above a b) where
-    above : place-of there ≡ edge (down a)
-    unfolding place-of
-    above = ap place-of are
-
     pub above-on : (on-board g (down a) ≡ true) × (a < 256)
-    above-on = let h = on (down a) above in (on-board-test g (down a) h, omega (arith, first-inside g (down a) h))
+    above-on = let h = on (down a) (edge-above there are) in (on-board-test g (down a) h, omega (arith, first-inside g (down a) h))
 
     pub above-decided : {s s′ : Arrays} {m : EdgeState} → Decided g s (down a) m s′ → IfEdge (place-of there) (λ e. Decided g s e m s′)
-    above-decided did e is = let same : down a ≡ e = cc above in rw (← same) did
+    above-decided did e is = let same : down a ≡ e = cc (edge-above there are) in rw (← same) did
 
 pub nothing-decided : (there : Pads) → there ≡ NoEdge → (So : Edge → Type 0) → IfEdge (place-of there) So
-unfolding place-of
-nothing-decided there none So e is = let k : no-edge ≡ edge e = sym (ap place-of none) ∙ is in zero≢one (cc)
+nothing-decided there none So e is = let k : no-edge ≡ edge e = sym (edge-nowhere there none) ∙ is in zero≢one (cc)

@@ -3,9 +3,9 @@ use Prim.Native.Nat.{ℕ, _+_, _*_, _≤_, _<_}
 use mathlib.Core.Path.{_≡_, refl, sym, ap, _∙_}
 use mathlib.Core.List.{List}
 use lib.ListN.{getD, length}
-use Rattle.rules.specs.Grid.{right, down, first, edge, Place}
+use Rattle.rules.specs.Grid.{right, down, first, Place}
 use Rattle.rules.specs.Record.{byte-at-place}
-use Rattle.grid.specs.PadsAt.{pads-of, place-of, IfEdge, place-back}
+use Rattle.grid.specs.PadsAt.{pads-of, place-of, IfEdge, edge-beside, edge-above, edge-nowhere, told-place}
 use Rattle.grid.specs.declared.Pads.{Pads}
 use Rattle.grid.specs.declared.Pads.the-variants.{Beside, Above, NoEdge}
 use Rattle.boardview.specs.ShownRecord.{bytes-shown, slot-of-place}
@@ -14,29 +14,27 @@ use Rattle.boardview.specs.ShownRecordLaws.{no-byte, byte-at-slot}
 module _ (pads : Pads) where
   module _ (small : IfEdge (place-of pads) (λ e. first e < 256)) where
     pub beside-small : {a b : ℕ} → pads ≡ Beside a b → a < 256
-    unfolding place-of
-    beside-small {a} p = small (right a) (ap place-of p)
+    beside-small {a} are = small (right a) (edge-beside pads are)
 
     pub above-small : {a b : ℕ} → pads ≡ Above a b → a < 256
-    unfolding place-of
-    above-small {a} p = small (down a) (ap place-of p)
+    above-small {a} are = small (down a) (edge-above pads are)
 
   pub slot-beside : {a b : ℕ} → pads ≡ Beside a b → 32 + 2 * a ≡ slot-of-place (place-of pads)
-  unfolding place-of slot-of-place
-  slot-beside p = rw p refl
+  unfolding slot-of-place
+  slot-beside are = rw (edge-beside pads are) refl
 
   pub slot-above : {a b : ℕ} → pads ≡ Above a b → 33 + 2 * a ≡ slot-of-place (place-of pads)
-  unfolding place-of slot-of-place
-  slot-above p = rw p refl
+  unfolding slot-of-place
+  slot-above are = rw (edge-above pads are) refl
 
   pub no-slot : pads ≡ NoEdge → 0 ≡ slot-of-place (place-of pads)
-  unfolding place-of slot-of-place
-  no-slot p = rw p refl
+  unfolding slot-of-place
+  no-slot none = rw (edge-nowhere pads none) refl
 
 -- the slot that was found for the pads of a place
 module _ (width : ℕ) (p : Place) {pads : Pads} (are : pads ≡ pads-of width p) where
-  pub told : place-of pads ≡ p
-  told = ap place-of are ∙ place-back width p
+  told : place-of pads ≡ p
+  told = told-place width p are
 
   pub told-small : IfEdge p (λ e. first e < 256) → IfEdge (place-of pads) (λ e. first e < 256)
   told-small small = λ e is. small e (sym told ∙ is)

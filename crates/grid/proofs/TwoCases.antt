@@ -4,7 +4,7 @@ use mathlib.Core.Path.{_≡_, refl, ap, _∙_}
 use native.Mathlib.Omega.{arith}
 use native.Mathlib.Nat.{mul-le-mul, suc-mul}
 use native.Mathlib.Numerals.{add-one}
-use Rattle.rules.specs.Grid.{right, down, pad-index, place-at}
+use Rattle.rules.specs.Grid.{pad-index, place-at}
 use Rattle.rules.specs.Places.{place-right, place-down, place-of-pad, place-in-the-middle}
 use Rattle.grid.specs.PadsAt.{pads-of}
 use Rattle.grid.specs.declared.Pads.the-variants.{Beside, Above, NoEdge}

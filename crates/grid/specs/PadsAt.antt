@@ -1,6 +1,6 @@
 -- The two pads of a place as the code's answer, and the place that such an answer tells of. Assumes nothing.
-use Prim.Native.Nat.{ℕ, _+_}
-use mathlib.Core.Path.{_≡_, refl}
+use Prim.Native.Nat.{ℕ}
+use mathlib.Core.Path.{_≡_, refl, ap, _∙_}
 use mathlib.Core.Bool.{Bool, true, false}
 use Rattle.rules.specs.Grid.{Edge, right, down, first, second, Place, edge, no-edge}
 use Rattle.grid.specs.declared.Pads.{Pads}
@@ -32,3 +32,21 @@ unfolding pads-of place-of
 place-back width (edge (right v)) = refl
 place-back width (edge (down v)) = refl
 place-back width no-edge = refl
+
+-- by how the pads stand
+module _ (pads : Pads) where
+  pub edge-beside : {a b : ℕ} → pads ≡ Beside a b → place-of pads ≡ edge (right a)
+  unfolding place-of
+  edge-beside are = ap place-of are
+
+  pub edge-above : {a b : ℕ} → pads ≡ Above a b → place-of pads ≡ edge (down a)
+  unfolding place-of
+  edge-above are = ap place-of are
+
+  pub edge-nowhere : pads ≡ NoEdge → place-of pads ≡ no-edge
+  unfolding place-of
+  edge-nowhere none = ap place-of none
+
+-- the pads of a place tell of it
+pub told-place : (width : ℕ) (p : Place) {pads : Pads} → pads ≡ pads-of width p → place-of pads ≡ p
+told-place width p are = ap place-of are ∙ place-back width p

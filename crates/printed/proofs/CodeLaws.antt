@@ -4,12 +4,12 @@ use mathlib.Core.Path.{_≡_, refl, ap, _∙_}
 use mathlib.Core.Bool.{Bool, true, false}
 use mathlib.Core.List.{List, [], _∷_, _++_}
 use Prim.Native.Nat.{ℕ, zero, suc, _+_, _*_, _-_, _/_, _%_, _≤_, _<_}
-use native.Mathlib.Nat.{mul-le-mul, mod-lt, div-lt-iff-lt-mul, add-zero, zero-add, add-suc}
+use native.Mathlib.Nat.{mul-le-mul, add-zero, zero-add, add-suc}
 use native.Mathlib.Numerals.{add-one}
 use native.Mathlib.Omega.{arith}
-use lib.ListN.{length, getD, set, List·getD-eq-default}
+use lib.ListN.{length, getD, set}
 use lib.Dec.{eqb, ltb}
-use borrow.Author.Tests.{lt-ltb, le-ltb, eq-eqb, ne-eqb}
+use borrow.Author.Tests.{lt-ltb, le-ltb}
 use Rattle.model.specs.Bounds.{is-size}
 use Rattle.model.specs.RefusalLaws.{size-of-test}
 use Rattle.model.specs.Decimal.{digit-byte}
@@ -19,32 +19,13 @@ use Rattle.text.specs.PutLaws.{put-both, put-one, put-same}
 
 -- ## A place of a record
 
-module _ (width : ℕ) (layout : List ℕ) (row column : ℕ) where
-  pub past-the-end : length layout ≤ row * (2 * width - 1) + column → 0 ≡ line-at width layout row column
-  unfolding line-at
-  past-the-end h = rw (List·getD-eq-default layout 0 h)
-
-  pub a-line : getD layout (row * (2 * width - 1) + column) 0 ≡ 1 → 1 ≡ line-at width layout row column
-  unfolding line-at
-  a-line e = simp (eq-eqb _ _ e)
-
-  pub no-line : (getD layout (row * (2 * width - 1) + column) 0 ≡ 1 → ⊥) → 0 ≡ line-at width layout row column
-  unfolding line-at
-  no-line e = simp (ne-eqb _ _ e)
-
-  pub at-most-1 : line-at width layout row column ≤ 1
-  unfolding line-at
-  at-most-1 = go (eqb (getD layout (row * (2 * width - 1) + column) 0) 1)
-    where
-      go : (t : Bool) → (if t then 1 else 0) ≤ 1
-      go true = omega arith
-      go false = omega arith
-
-pub place-small : (width row : ℕ) → is-size width ≡ true → row < 32 → row * (2 * width - 1) ≤ 1024
-place-small width row w r =
-    let a : row ≤ 32 = omega arith in
-    let b : 2 * width - 1 ≤ 32 = omega (arith, size-of-test width w .1) in
-    mul-le-mul a b
+pub at-most-1 : (width : ℕ) (layout : List ℕ) (row column : ℕ) → line-at width layout row column ≤ 1
+unfolding line-at
+at-most-1 width layout row column = go (eqb (getD layout (row * (2 * width - 1) + column) 0) 1)
+  where
+    go : (t : Bool) → (if t then 1 else 0) ≤ 1
+    go true = omega arith
+    go false = omega arith
 
 -- ## The lines of a pad
 
@@ -77,6 +58,10 @@ module _ (height width : ℕ) (layout : List ℕ) (y x : ℕ) where
   unfolding down-line
   down-at-most-1 = either (ltb (y + 1) height) _ (at-most-1 width layout (2 * y + 1) (2 * x))
 
+  pub code-at-most-3 : code-of-pad height width layout y x ≤ 3
+  unfolding code-of-pad
+  code-at-most-3 = omega (arith, right-at-most-1, down-at-most-1)
+
 -- ## The codes in index order
 
 module _ (height width : ℕ) (layout : List ℕ) where
@@ -93,18 +78,12 @@ module _ (height width : ℕ) (layout : List ℕ) where
   codes-length zero index = refl
   codes-length (suc more) index = ap suc (codes-length more (index + 1))
 
-module _ (height width index : ℕ) (h : is-size height ≡ true) (w : is-size width ≡ true) where
+module _ (height width : ℕ) (h : is-size height ≡ true) (w : is-size width ≡ true) where
   pub some-columns : 0 < width
   some-columns = omega (arith, size-of-test width w .0)
 
   pub all-pads : height * width ≤ 256
   all-pads = mul-le-mul (size-of-test height h .1) (size-of-test width w .1)
-
-  pub row-below-16 : index < height * width → index / width < 16
-  row-below-16 i = let r : index / width < height = div-lt-iff-lt-mul some-columns .1 i in omega (arith, size-of-test height h .1)
-
-  pub column-below-16 : index % width < 16
-  column-below-16 = omega (arith, mod-lt index some-columns, size-of-test width w .1)
 
 -- ## The loop of `put_codes`
 

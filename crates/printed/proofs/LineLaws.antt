@@ -64,7 +64,7 @@ field-4 number byte h = rw length-append (omega (arith, digits-3 number h))
 
 pub codes-256 : (height width : ℕ) (layout : List ℕ) → is-size height ≡ true → is-size width ≡ true → length (code-digits height width layout) ≤ 256
 unfolding code-digits
-codes-256 height width layout h w = rw (codes-length height width layout (height * width) 0) (all-pads height width 0 h w)
+codes-256 height width layout h w = rw (codes-length height width layout (height * width) 0) (all-pads height width h w)
 
 -- ## The lines
 

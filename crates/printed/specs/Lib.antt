@@ -1,2 +1,3 @@
 -- What the contracts of the crate cite beside the model.
 pub mod Written
+pub mod Coded

@@ -2,13 +2,17 @@
 // longest such line fits. What the lines say is in the crate `model`, specs/Printed.antt there.
 ghost use mathlib.Core.Path.{_≡_};
 ghost use mathlib.Core.Bool.{true};
-ghost use Prim.Native.Nat.{_+_, _*_, _-_, _/_, _%_, _≤_, _<_};
+ghost use Prim.Native.Nat.{_+_, _*_, _-_, _/_, _≤_, _<_};
 ghost use lib.ListN.{length};
+ghost use Rattle.rules.specs.Grid.{first, field-side};
 ghost use Rattle.model.specs.Bounds.{is-size};
-ghost use Rattle.model.specs.Printed.{line-at, right-line, down-line, code-of-pad, code-digits, summary-line, refusal-line};
+ghost use Rattle.model.specs.Printed.{code-digits, summary-line, refusal-line};
+ghost use Rattle.grid.specs.PadsAt.{pads-of, place-of, IfEdge};
 ghost use Rattle.text.specs.Put.{Put};
-ghost use Rattle.printed.specs.Written.{Written, layout-text};
+ghost use Rattle.printed.specs.Coded.{line-place, line-added, Codes, CodesOf};
+ghost use Rattle.printed.specs.Written.{zeros, Written, layout-text};
 use grid::Edge;
+use grid::Pads;
 
 const ZERO: u8 = 48;
 
@@ -34,49 +38,56 @@ pub struct RefusalLine {
     pub length: usize,
 }
 
-// The byte of an edge's place in a record: 1 if it holds a line, else 0.
-fn line_at(layout: &[u8], width: usize, row: usize, column: usize) -> u8
-    requires { ⌜ (is-size width ≡ true) × (row < 32) × (column < 32) ⌝ }
-    ensures { λ r. ⌜ r ≡ line-at width (now (layout .entry)) row column ⌝ }
+// The pads of the line at a place of a layout, by the place's number; none where there is no line.
+fn line_at(layout: &[u8], width: usize, i: usize) -> Pads
+    requires { ⌜ (is-size width ≡ true) × (i / field-side width < 31) ⌝ }
+    ensures { λ r. ⌜ r ≡ pads-of width (line-place width (now (layout .entry)) i) ⌝ }
 {
-    let place = row * (2 * width - 1) + column;
-    if layout.len() <= place {
-        return 0;
+    if layout.len() <= i {
+        return Pads::NoEdge;
     }
-    if layout[place] == Edge::LINE.0 {
-        return 1;
+    if layout[i] == Edge::LINE.0 {
+        let side = 2 * width - 1;
+        return grid::pads_at(width, i / side, i % side);
     }
-    0
+    Pads::NoEdge
 }
 
-// 1 if pad (y, x) has a line to the right, else 0.
-fn right_line(layout: &[u8], width: usize, y: usize, x: usize) -> u8
-    requires { ⌜ (is-size width ≡ true) × (y < 16) × (x < 16) ⌝ }
-    ensures { λ r. ⌜ r ≡ right-line width (now (layout .entry)) y x ⌝ }
+// Adds a line to the code of its first pad: 1 for a line to the right, 2 for one downward.
+fn add_line(codes: &mut [u8; 256], pads: Pads)
+    requires { ⌜ IfEdge (place-of pads) (λ e. first e < 256) × Codes (now codes) ⌝ }
+    ensures { λ _. ⌜ now (codes .exit) ≡ line-added (place-of pads) (now (codes .entry)) ⌝ }
 {
-    if x + 1 < width {
-        return line_at(layout, width, 2 * y, 2 * x + 1);
+    match pads {
+        Pads::Beside(first, _) => {
+            codes[first] += 1;
+        }
+        Pads::Above(first, _) => {
+            codes[first] += 2;
+        }
+        Pads::NoEdge => {}
     }
-    0
 }
 
-// 1 if pad (y, x) has a line downward, else 0.
-fn down_line(layout: &[u8], height: usize, width: usize, y: usize, x: usize) -> u8
-    requires { ⌜ (is-size width ≡ true) × (y < 16) × (x < 16) ⌝ }
-    ensures { λ r. ⌜ r ≡ down-line height width (now (layout .entry)) y x ⌝ }
+fn no_codes() -> [u8; 256]
+    ensures { λ r. ⌜ r ≡ zeros 256 ⌝ }
 {
-    if y + 1 < height {
-        return line_at(layout, width, 2 * y + 1, 2 * x);
-    }
-    0
+    [0; 256]
 }
 
-// The code of pad (y, x): right + 2 * down.
-fn pad_code(layout: &[u8], height: usize, width: usize, y: usize, x: usize) -> u8
-    requires { ⌜ (is-size width ≡ true) × (y < 16) × (x < 16) ⌝ }
-    ensures { λ r. ⌜ (r ≡ code-of-pad height width (now (layout .entry)) y x) × (r ≤ 3) ⌝ }
+// The codes of the pads by their indexes, right + 2 * down: each line of the layout is added to the code of its first pad.
+fn codes_of(height: usize, width: usize, layout: &[u8]) -> [u8; 256]
+    requires { ⌜ (is-size height ≡ true) × (is-size width ≡ true) ⌝ }
+    ensures { λ r. ⌜ CodesOf height width (now (layout .entry)) r ⌝ }
 {
-    right_line(layout, width, y, x) + 2 * down_line(layout, height, width, y, x)
+    let places = (2 * height - 1) * (2 * width - 1);
+    let mut codes = no_codes();
+    let mut i = 0;
+    while i < places {
+        add_line(&mut codes, line_at(layout, width, i));
+        i += 1;
+    }
+    codes
 }
 
 // The codes of the pads in index order, one digit each, from a place on; the place after them.
@@ -84,10 +95,10 @@ fn put_codes(out: &mut [u8], at: usize, height: usize, width: usize, layout: &[u
     requires { ⌜ (is-size height ≡ true) × (is-size width ≡ true) × (at + height * width ≤ length (now out)) ⌝ }
     ensures { λ r. ⌜ Put (now (out .entry)) (now (out .exit)) at (code-digits height width (now (layout .entry))) r ⌝ }
 {
+    let codes = codes_of(height, width, layout);
     let mut index = 0;
     while index < height * width {
-        let code = pad_code(layout, height, width, index / width, index % width);
-        out[at + index] = ZERO + code;
+        out[at + index] = ZERO + codes[index];
         index += 1;
     }
     at + index

@@ -1,19 +1,17 @@
 -- The boards that the calls hand out, from a new one on, with the decisions that stand on them: every call, accepted or declined, hands
 -- out such a board, and says which decisions stand. An accepted decision stands from its call on, also where it only set the flag; undo
 -- takes back those since the last checkpoint, or all. A declined call changes nothing.
-use Prim.Native.Nat.{ℕ, _≤_}
+use Prim.Native.Nat.{ℕ}
 use mathlib.Core.Path.{_≡_, refl, ap}
-use mathlib.Core.Bool.{Bool, true, false, _&&_}
+use mathlib.Core.Bool.{Bool, true, false}
 use mathlib.Core.List.{List, [], _∷_}
 use native.Mathlib.Omega.{arith}
-use borrow.Author.Tests.{eqb-true, ltb-true}
+use borrow.Author.Tests.{eqb-true}
 use lib.Dec.{eqb, ltb}
 use lib.ListN.{List·getD-eq-default, length}
 use lib.IntN.{ℤ}
-use Rattle.rules.specs.Grid.{Edge, field-side, Place, place-at, cell-of, blank-cell, Grid, grid-of, OnBoard, edge, no-edge}
+use Rattle.rules.specs.Grid.{Edge, Place, cell-of, blank-cell, Grid, grid-of, OnBoard, edge, no-edge}
 use Rattle.rules.specs.Record.{line-byte, none-byte}
-use Rattle.rules.specs.Places.{zero≢one, edge-of-place}
-use Rattle.rules.specs.Tests.{both}
 use Rattle.model.specs.Board.{State, line-or-none}
 use Rattle.model.specs.Calls.{Board, fresh-board, blank-board, new, edge-at, decided, decide-at, decide-edge, read-at, read-edge, most-checkpoints, add-checkpoint, undo-to, undo}
 use Rattle.model.specs.EdgeAtLaws.{edge-at-on}

@@ -7,7 +7,6 @@ use mathlib.Core.Logic.{_⊎_, inl, inr, _↔_}
 use mathlib.Core.List.{List, [], _∷_}
 use native.Mathlib.Omega.{arith}
 use native.Mathlib.Nat.{div-add-mod', div-lt-iff-lt-mul, add-div-right, mod-lt, suc-mul}
-use native.Mathlib.Numerals.{add-one}
 use Rattle.rules.specs.Grid.{Edge, right, down, first, second, pad-index, field-side, Place, edge, no-edge, parity, place-at, row-of, column-of, Grid, OnBoard}
 use Rattle.rules.specs.Record.{tabulate}
 use Rattle.rules.specs.Places.{zero≢one, place-right, place-down, edge-of-place, edge-of-pads, no-edge-back}

@@ -6,7 +6,7 @@ use mathlib.Core.Path.{_≡_, refl, sym, _∙_, ap}
 use mathlib.Core.Bool.{Bool, true, false}
 use native.Mathlib.Omega.{arith}
 use native.Mathlib.Decide.{decLt}
-use native.Mathlib.Nat.{mod-lt, mod-eq-of-lt, div-eq-of-lt, div-lt-iff-lt-mul, le-div-iff-mul-le, add-div-right, mul-add-div-right, mul-add-mod-self-right, mul-le-mul-right, suc-mul, add-zero, zero-add}
+use native.Mathlib.Nat.{div-add-mod', mod-lt, mod-eq-of-lt, div-eq-of-lt, div-lt-iff-lt-mul, le-div-iff-mul-le, add-div-right, mul-add-div-right, mul-add-mod-self-right, mul-le-mul-right, suc-mul, add-zero, zero-add}
 use borrow.Author.Tests.{lt-ltb, le-ltb}
 use lib.Dec.{eqb}
 use lib.ListN.{getD, length, List·getD-eq-default}
@@ -40,20 +40,28 @@ unfolding tabulate
 tabulate-same f h start zero same = refl
 tabulate-same f h start (suc n) same = rw (same start (omega arith) (omega arith), tabulate-same f h (start + 1) n (λ i l k. same i (omega arith) (omega arith)))
 
+-- PLACE NUMBERS count the field row by row: the row and the column of a number
+module _ (width row column : ℕ) (column-in : column < field-side width) where
+  pub row-of-number : (row * field-side width + column) / field-side width ≡ row
+  row-of-number = mul-add-div-right (omega arith) row column ∙ (let none : column / field-side width ≡ 0 = div-eq-of-lt column-in in omega arith)
+
+  pub column-of-number : (row * field-side width + column) % field-side width ≡ column
+  column-of-number = mul-add-mod-self-right row (field-side width) column ∙ mod-eq-of-lt column-in
+
+  pub number-in-field : (height : ℕ) → row < field-side height → row * field-side width + column < places height width
+  number-in-field height row-in =
+      let rows : suc row * field-side width ≤ places height width = mul-le-mul-right (field-side width) row-in in
+      let next-row = suc-mul row (field-side width) in
+      omega arith
+
 -- THE FIELD row by row: the byte at a row and a column
 pub field-at : (height width : ℕ) (bytes : Edge → ℕ) (row column : ℕ) → row < field-side height → column < field-side width
     → getD (field height width bytes) (row * field-side width + column) undecided-byte ≡ byte-at-place bytes (place-at width row column)
 unfolding field
 field-at height width bytes row column row-in column-in =
-    let rows : suc row * field-side width ≤ places height width = mul-le-mul-right (field-side width) row-in in
-    let next-row = suc-mul row (field-side width) in
-    let its-row : (row * field-side width + column) / field-side width ≡ row =
-    mul-add-div-right (omega arith) row column ∙ (let none : column / field-side width ≡ 0 = div-eq-of-lt column-in in omega arith) in
-    let its-column : (row * field-side width + column) % field-side width ≡ column =
-    mul-add-mod-self-right row (field-side width) column ∙ mod-eq-of-lt column-in in
     getD-from-zero (λ i. byte-at-place bytes (place-at width (i / field-side width) (i % field-side width))) (places height width)
-    (row * field-side width + column) undecided-byte (omega arith)
-    ∙ (rw (its-row, its-column) refl)
+    (row * field-side width + column) undecided-byte (number-in-field width row column column-in height row-in)
+    ∙ (rw (row-of-number width row column column-in, column-of-number width row column column-in) refl)
 
 pub length-field : (height width : ℕ) (bytes : Edge → ℕ) → length (field height width bytes) ≡ places height width
 unfolding field
@@ -62,6 +70,25 @@ length-field height width bytes = length-tabulate (λ i. byte-at-place bytes (pl
 module _ (g : Grid) (wide : 2 ≤ g .width) where
   some : 0 < g .width
   some = omega arith
+
+  -- at the place number of an edge of the board that edge is found, and a place number tells the edge that is found there
+  module _ (e : Edge) (on : OnBoard g e) where
+    pub edge-number-in-field : place-number (g .width) e < places (g .height) (g .width)
+    edge-number-in-field = number-in-field (g .width) (row-of (g .width) e) (column-of (g .width) e) (column-in-field g wide e on) (g .height) (row-in-field g wide e on)
+
+    pub edge-at-number : place-at (g .width) (place-number (g .width) e / field-side (g .width)) (place-number (g .width) e % field-side (g .width)) ≡ edge e
+    edge-at-number =
+        rw (
+          row-of-number (g .width) (row-of (g .width) e) (column-of (g .width) e) (column-in-field g wide e on),
+          column-of-number (g .width) (row-of (g .width) e) (column-of (g .width) e) (column-in-field g wide e on),
+        ) (place-of-edge (g .width) e)
+
+  pub number-of-edge : (i : ℕ) → i < places (g .height) (g .width) → (e : Edge) → place-at (g .width) (i / field-side (g .width)) (i % field-side (g .width)) ≡ edge e
+      → OnBoard g e × (place-number (g .width) e ≡ i)
+  number-of-edge i inside e held =
+      let side : 0 < field-side (g .width) = omega arith in
+      let its = edge-of-place g wide (i / field-side (g .width)) (i % field-side (g .width)) (div-lt-iff-lt-mul side .1 inside) (mod-lt i side) e held in
+      (its .on-board, rw (its .its-row, its .its-column) (div-add-mod' i (field-side (g .width))))
 
   -- the byte of each edge of the board stands at its place
   pub field-edge : (bytes : Edge → ℕ) (e : Edge) → OnBoard g e → getD (field (g .height) (g .width) bytes) (place-number (g .width) e) undecided-byte ≡ bytes e
@@ -80,9 +107,7 @@ module _ (g : Grid) (wide : 2 ≤ g .width) where
 
       at : (i : ℕ) → i < 0 + places (g .height) (g .width)
           → byte-at-place bytes (place-at (g .width) (i / field-side (g .width)) (i % field-side (g .width))) ≡ byte-at-place others (place-at (g .width) (i / field-side (g .width)) (i % field-side (g .width)))
-      at i high = by-place (place-at (g .width) (i / field-side (g .width)) (i % field-side (g .width)))
-          (λ e held. edge-of-place g wide (i / field-side (g .width)) (i % field-side (g .width))
-          (div-lt-iff-lt-mul (omega arith) .1 (omega arith)) (mod-lt i (omega arith)) e held .on-board)
+      at i high = by-place (place-at (g .width) (i / field-side (g .width)) (i % field-side (g .width))) (λ e held. number-of-edge i (omega arith) e held .0)
 
   -- nothing stands past the field
   pub past-field : (bytes : Edge → ℕ) (i : ℕ) → places (g .height) (g .width) ≤ i → getD (field (g .height) (g .width) bytes) i undecided-byte ≡ undecided-byte

@@ -4,14 +4,13 @@
 use Prim.Native.Nat.{ℕ, suc, _+_, _-_, _≤_, _<_}
 use mathlib.Core.Path.{_≡_, refl, sym, _∙_, ap}
 use mathlib.Core.Bool.{Bool, true, false}
-use mathlib.Core.List.{List, [], _∷_, _++_, append-assoc}
+use mathlib.Core.List.{List, [], _∷_, _++_}
 use native.Mathlib.Omega.{arith}
 use native.Mathlib.Decide.{decLe}
 use borrow.Author.Tests.{ltb-false, lt-ltb, le-ltb, le-leb, lt-leb, eq-eqb}
 use lib.Dec.{eqb, ltb}
-use lib.ListN.{length, take, drop, length-append, length-drop, take-append-drop}
-use lib.Seq.{length-take-le, take-at, drop-at, drop-drop}
-use native.Mathlib.Nat.{add-assoc, add-zero, zero-add}
+use lib.ListN.{length, drop, length-append}
+use native.Mathlib.Nat.{add-zero, zero-add}
 use Rattle.rules.specs.Record.{record-lines}
 use Rattle.boardview.specs.ShownRecord.{put-bytes}
 use Rattle.boardview.specs.ShownRecordLaws.{put-length, put-none, put-put}

@@ -12,7 +12,6 @@ use lib.IntN.{ℤ}
 use borrow.Author.Tests.{lt-ltb, le-ltb, eq-eqb, ne-eqb, le-leb, lt-leb}
 use Rattle.rules.specs.Grid.{right, down, Grid, pads, places}
 use Rattle.rules.specs.Drawing.{num}
-use Rattle.rules.specs.Record.{field}
 use Rattle.model.specs.Board.{State, isUndecided, on-board, line-or-none, decide, enough}
 use Rattle.model.specs.Search.{Event, layout, board-record, degree-so-far, next-pad, try, backtrack}
 use Rattle.boardview.specs.View.{Arrays, logged, view, unwound, Entry, Since, Ready, Decided}

@@ -46,7 +46,7 @@ put-codes-requires c κs =
     let if1-left = c .before .before .before .before .before .before .before .before .before .before .if1 .left in
     let is-size2-says = c .before .before .before .before .before .before .before .before .before .is-size2 .ensures in
     let if2-left = c .before .before .before .before .before .before .before .before .if2 .left in
-    ((sym (is-size-says) ∙ not-false _ (if1-left)), (sym (is-size2-says) ∙ not-false _ (if2-left)), omega (arith, all-pads _ _ 0 (sym (is-size-says) ∙ not-false _ (if1-left)) (sym (is-size2-says) ∙ not-false _ (if2-left)), filled-room (filled-more (filled-first 299 21 (c .before .before .before .before .before .before .put-field .ensures) (field-21 _ _ (c .before .before .before .before .before .before .before .before .before .before .before .before .before .fits .number))) (c .before .before .put-field2 .ensures) (field-21 _ _ (record { fits = c .before .before .before .lines .ok }))) 256 (omega arith)))
+    ((sym (is-size-says) ∙ not-false _ (if1-left)), (sym (is-size2-says) ∙ not-false _ (if2-left)), omega (arith, all-pads _ _ (sym (is-size-says) ∙ not-false _ (if1-left)) (sym (is-size2-says) ∙ not-false _ (if2-left)), filled-room (filled-more (filled-first 299 21 (c .before .before .before .before .before .before .put-field .ensures) (field-21 _ _ (c .before .before .before .before .before .before .before .before .before .before .before .before .before .fits .number))) (c .before .before .put-field2 .ensures) (field-21 _ _ (record { fits = c .before .before .before .lines .ok }))) 256 (omega arith)))
 
 slice-aggregate-put-byte : tie.Need-slice-aggregate-put-byte
 slice-aggregate-put-byte c = search needs
