@@ -3,11 +3,11 @@
 ghost use mathlib.Core.Path.{_≡_};
 ghost use Prim.Native.Nat.{ℕ, _+_, _*_, _≤_, _<_};
 ghost use lib.ListN.{length, getD};
-ghost use Rattle.rules.specs.Grid.{first, places, place-at};
+ghost use Rattle.rules.specs.Grid.{first, field-side, places, place-at};
 ghost use Rattle.rules.specs.Record.{byte-at-place, record-lines};
 ghost use Rattle.grid.specs.PadsAt.{place-of, IfEdge};
 ghost use Rattle.boardview.specs.View.{grid-in, Kinds};
-ghost use Rattle.boardview.specs.ShownRecord.{bytes-shown, record-shown, slot-of-place, put-bytes};
+ghost use Rattle.boardview.specs.ShownRecord.{bytes-shown, row-shown, record-shown, slot-of-place, put-bytes};
 use grid::Edge;
 use grid::Pads;
 
@@ -48,23 +48,39 @@ fn byte_at(edges: &[u8; 1024], width: usize, row: usize, column: usize) -> u8
     edges[slot]
 }
 
-// Puts the record into the buffer from an index on and counts its lines.
+// Puts one row of the record into the buffer from an index on and counts its lines.
+fn put_row(edges: &[u8; 1024], width: usize, row: usize, buffer: &mut [u8], at: usize) -> usize
+    requires { ⌜ (2 ≤ width) × (width ≤ 16) × (row < 31) × (length (now edges) ≡ 1024) × ((n : ℕ) → getD (now edges) n 2 ≤ 2) × (at + field-side width ≤ length (now buffer)) ⌝ }
+    ensures { λ r. ⌜ (now (buffer .exit) ≡ put-bytes at (row-shown width (now (edges .entry)) row) (now (buffer .entry)))
+        × (r ≡ record-lines (row-shown width (now (edges .entry)) row)) ⌝ }
+{
+    let side = 2 * width - 1;
+    let mut lines: usize = 0;
+    let mut column = 0;
+    while column < side {
+        let byte = byte_at(edges, width, row, column);
+        buffer[at + column] = byte;
+        lines += boardparts::wide(boardparts::one_if(byte == LINE));
+        column += 1;
+    }
+    lines
+}
+
+// Puts the record into the buffer from an index on, row by row, and counts its lines.
 pub fn put_record(edges: &[u8; 1024], kind: &[u8; 1024], buffer: &mut [u8], at: usize) -> usize
     requires { ⌜ Kinds (now kind) × (length (now edges) ≡ 1024) × ((n : ℕ) → getD (now edges) n 2 ≤ 2)
         × (at + places (grid-in (now kind) .height) (grid-in (now kind) .width) ≤ length (now buffer)) ⌝ }
     ensures { λ r. ⌜ (now (buffer .exit) ≡ put-bytes at (record-shown (grid-in (now (kind .entry))) (now (edges .entry))) (now (buffer .entry)))
         × (r ≡ record-lines (record-shown (grid-in (now (kind .entry))) (now (edges .entry)))) ⌝ }
 {
-    let size = record_size(kind);
     let width = boardparts::width(kind);
+    let rows = 2 * boardparts::height(kind) - 1;
     let side = 2 * width - 1;
     let mut lines: usize = 0;
-    let mut i = 0;
-    while i < size {
-        let byte = byte_at(edges, width, i / side, i % side);
-        buffer[at + i] = byte;
-        lines += boardparts::wide(boardparts::one_if(byte == LINE));
-        i += 1;
+    let mut row = 0;
+    while row < rows {
+        lines += put_row(edges, width, row, buffer, at + row * side);
+        row += 1;
     }
     lines
 }

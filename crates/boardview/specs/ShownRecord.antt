@@ -3,8 +3,8 @@
 use Prim.Native.Nat.{ℕ, _+_}
 use mathlib.Core.List.{List, [], _++_}
 use lib.ListN.{length, take, drop}
-use Rattle.rules.specs.Grid.{Edge, Place, edge, no-edge, Grid}
-use Rattle.rules.specs.Record.{field}
+use Rattle.rules.specs.Grid.{Edge, Place, edge, no-edge, place-at, field-side, Grid}
+use Rattle.rules.specs.Record.{field, tabulate, byte-at-place}
 use Rattle.model.specs.Board.{State}
 use Rattle.model.specs.Calls.{state-byte}
 use Rattle.boardview.specs.View.{slot, view}
@@ -13,9 +13,12 @@ use Rattle.boardview.specs.View.{slot, view}
 unfoldable pub edges-only : List ℕ → State
 edges-only edges = view (record { edges = edges; ends = []; log = []; count = 0 })
 
--- the byte of each edge, and the record of them
+-- the byte of each edge, one row of the record, and the whole of it
 abbrev pub bytes-shown : List ℕ → Edge → ℕ
 bytes-shown edges e = state-byte (edges-only edges .edge e)
+
+unfoldable pub row-shown : ℕ → List ℕ → ℕ → List ℕ
+row-shown width edges row = tabulate (λ column. byte-at-place (bytes-shown edges) (place-at width row column)) 0 (field-side width)
 
 unfoldable pub record-shown : Grid → List ℕ → List ℕ
 record-shown g edges = field (g .height) (g .width) (bytes-shown edges)

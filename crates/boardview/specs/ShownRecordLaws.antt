@@ -4,19 +4,19 @@ use Prim.Native.Nat.{ℕ, zero, suc, _+_, _*_, _-_, _%_, _/_, _≤_, _<_}
 use mathlib.Core.Path.{_≡_, refl, sym, ap, _∙_}
 use mathlib.Core.List.{List, [], _∷_, _++_, append-assoc}
 use native.Mathlib.Omega.{arith}
-use native.Mathlib.Nat.{div-lt-iff-lt-mul, mod-lt, add-assoc, add-zero, zero-add}
+use native.Mathlib.Nat.{add-assoc, add-zero, zero-add, zero-mul, suc-mul, mul-le-mul-right}
 use lib.Dec.{eqb}
 use lib.ListN.{getD, set, length, take, drop, length-set, length-append, length-drop, take-append-drop}
 use lib.Seq.{length-take-le, take-at, drop-at, drop-drop, set-split}
 use Rattle.rules.specs.Grid.{Edge, right, down, first, field-side, places, Place, edge, no-edge, place-at, Grid}
 use Rattle.rules.specs.Drawing.{num}
 use Rattle.rules.specs.Record.{byte-at-place, field, tabulate, record-lines, line-byte}
-use Rattle.rules.specs.RecordLaws.{plus-suc, length-tabulate}
+use Rattle.rules.specs.RecordLaws.{plus-suc, length-tabulate, tabulate-same, tabulate-parts, tabulate-from, row-of-number, column-of-number}
 use Rattle.rules.specs.Tests.{num-small}
 use Rattle.model.specs.Calls.{state-byte}
 use Rattle.boardview.specs.View.{slot, state-of, view}
 use Rattle.boardview.specs.Bytes.{default-free}
-use Rattle.boardview.specs.ShownRecord.{edges-only, bytes-shown, record-shown, slot-of-place, put-bytes}
+use Rattle.boardview.specs.ShownRecord.{edges-only, bytes-shown, row-shown, record-shown, slot-of-place, put-bytes}
 
 -- a byte is that of its state
 pub byte-back : (b : ℕ) → b ≤ 2 → state-byte (state-of b) ≡ b
@@ -163,26 +163,98 @@ module _ (byte : ℕ → ℕ) (at : ℕ) (buffer : List ℕ) where
     same-length = length-set buffer′ (at + i) b ∙ w .same-length;
   }
 
--- all of a record
-abbrev pub byte-number : Grid → List ℕ → ℕ → ℕ
-byte-number g edges i = byte-at-place (bytes-shown edges) (place-at (g .width) (i / field-side (g .width)) (i % field-side (g .width)))
+-- a row of the record
+pub row-written : (width : ℕ) (edges : List ℕ) (row at : ℕ) (buffer : List ℕ) (i lines : ℕ) (buffer′ : List ℕ)
+    → Writing (λ column. byte-at-place (bytes-shown edges) (place-at width row column)) at buffer i lines buffer′ → i ≡ field-side width
+    → (buffer′ ≡ put-bytes at (row-shown width edges row) buffer) × (lines ≡ record-lines (row-shown width edges row))
+unfolding row-shown
+row-written width edges row at buffer i lines buffer′ w done =
+    (w .written ∙ ap (λ (k : ℕ). put-bytes at (tabulate byte 0 k) buffer) done, w .counted ∙ ap (λ (k : ℕ). record-lines (tabulate byte 0 k)) done)
+  where
+    byte : ℕ → ℕ
+    byte column = byte-at-place (bytes-shown edges) (place-at width row column)
 
-pub all-written : (g : Grid) (edges : List ℕ) (at : ℕ) (buffer : List ℕ) (i lines : ℕ) (buffer′ : List ℕ) → Writing (byte-number g edges) at buffer i lines buffer′
-    → i ≡ places (g .height) (g .width) → (buffer′ ≡ put-bytes at (record-shown g edges) buffer) × (lines ≡ record-lines (record-shown g edges))
-unfolding record-shown field
-all-written g edges at buffer i lines buffer′ w done =
-    (w .written ∙ ap (λ (k : ℕ). put-bytes at (tabulate (byte-number g edges) 0 k) buffer) done, w .counted ∙ ap (λ (k : ℕ). record-lines (tabulate (byte-number g edges) 0 k)) done)
+pub few-in-row : (width : ℕ) (edges : List ℕ) (row : ℕ) → record-lines (row-shown width edges row) ≤ field-side width
+unfolding row-shown
+few-in-row width edges row = omega (arith, lines-at-most (row-shown width edges row), length-tabulate (λ column. byte-at-place (bytes-shown edges) (place-at width row column)) 0 (field-side width))
 
--- the row and the column of a place number, where the code has the sizes in numbers of its own
-pub place-inside : (height width i w size : ℕ) → w ≡ width → size ≡ places height width → 2 ≤ width → width ≤ 16 → height ≤ 16 → i < size
-    → (i / field-side w < 31) × (i % field-side w < 31)
-place-inside height width i w size w-is size-is wide narrow low less =
-    let some : 0 < field-side w = omega arith in
-    let sides : size ≡ field-side height * field-side w = size-is ∙ ap (λ (k : ℕ). field-side height * field-side k) (sym w-is) in
-    let row : i / field-side w < field-side height = div-lt-iff-lt-mul some .1 (omega arith) in
-    let column = mod-lt i some in
-    (omega arith, omega arith)
+-- ROW BY ROW: the first rows of the record have been put at an index, and their lines counted
+unfoldable pub rows-shown : Grid → List ℕ → ℕ → List ℕ
+rows-shown g edges rows = tabulate (λ i. byte-at-place (bytes-shown edges) (place-at (g .width) (i / field-side (g .width)) (i % field-side (g .width)))) 0 (rows * field-side (g .width))
 
-pub byte-as-numbered : (g : Grid) (edges : List ℕ) (i w : ℕ) → w ≡ g .width
-    → {b : ℕ} → b ≡ byte-at-place (bytes-shown edges) (place-at w (i / field-side w) (i % field-side w)) → b ≡ byte-number g edges i
-byte-as-numbered g edges i w w-is is = is ∙ ap (λ (k : ℕ). byte-at-place (bytes-shown edges) (place-at k (i / field-side k) (i % field-side k))) w-is
+pub record RowsWritten (g : Grid) (edges : List ℕ) (at : ℕ) (buffer : List ℕ) (rows lines : ℕ) (buffer′ : List ℕ) : Type 0 where
+  pub written : buffer′ ≡ put-bytes at (rows-shown g edges rows) buffer
+  pub counted : lines ≡ record-lines (rows-shown g edges rows)
+  pub same-length : length buffer′ ≡ length buffer
+
+module _ (g : Grid) (edges : List ℕ) (at : ℕ) (buffer : List ℕ) where
+  rows-long : (rows : ℕ) → length (rows-shown g edges rows) ≡ rows * field-side (g .width)
+  unfolding rows-shown
+  rows-long rows = length-tabulate _ 0 (rows * field-side (g .width))
+
+  pub no-rows : RowsWritten g edges at buffer 0 0 buffer
+  unfolding record-lines
+  no-rows = record { written = sym (ap (λ l. put-bytes at l buffer) empty ∙ put-none at buffer); counted = sym (ap record-lines empty); same-length = refl }
+    where
+      empty : rows-shown g edges 0 ≡ []
+      empty = unfold rows-shown tabulate in ap (tabulate _ 0) (zero-mul (field-side (g .width)))
+
+  pub few-lines : (rows lines : ℕ) (buffer′ : List ℕ) → RowsWritten g edges at buffer rows lines buffer′ → lines ≤ rows * field-side (g .width)
+  few-lines rows lines buffer′ w = omega (arith, w .counted, lines-at-most (rows-shown g edges rows), rows-long rows)
+
+  -- one row more
+  next-rows : 0 < field-side (g .width) → (rows : ℕ) → rows-shown g edges (rows + 1) ≡ rows-shown g edges rows ++ row-shown (g .width) edges rows
+  unfolding rows-shown row-shown
+  next-rows some rows =
+      ap (tabulate byte 0) (ap (λ (n : ℕ). n * side) (native.Mathlib.Numerals.add-one rows) ∙ suc-mul rows side)
+      ∙ tabulate-parts byte 0 (rows * side) side
+      ∙ ap (λ l. tabulate byte 0 (rows * side) ++ l) (
+      ap (λ (n : ℕ). tabulate byte n side) (zero-add (rows * side) ∙ sym (add-zero (rows * side)))
+      ∙ tabulate-from byte (rows * side) 0 side
+      ∙ tabulate-same _ _ 0 side (λ column low high.
+      rw (row-of-number (g .width) rows column (omega arith), column-of-number (g .width) rows column (omega arith)) refl))
+    where
+      side : ℕ
+      side = field-side (g .width)
+
+      byte : ℕ → ℕ
+      byte i = byte-at-place (bytes-shown edges) (place-at (g .width) (i / field-side (g .width)) (i % field-side (g .width)))
+
+  one-row : (rows lines : ℕ) (buffer′ : List ℕ) → RowsWritten g edges at buffer rows lines buffer′ → 0 < field-side (g .width) → at + (rows * field-side (g .width) + field-side (g .width)) ≤ length buffer
+      → (start more : ℕ) (after : List ℕ) → start ≡ at + rows * field-side (g .width) → after ≡ put-bytes start (row-shown (g .width) edges rows) buffer′
+      → more ≡ record-lines (row-shown (g .width) edges rows) → RowsWritten g edges at buffer (rows + 1) (lines + more) after
+  one-row rows lines buffer′ w some room start more after start-is put counted = record {
+    written = all-put;
+    counted = omega (arith, w .counted, counted, ap record-lines (next-rows some rows), lines-append (rows-shown g edges rows) (row-shown (g .width) edges rows));
+    same-length = ap length all-put ∙ put-length at (rows-shown g edges (rows + 1)) buffer (omega (arith, rows-long (rows + 1), next));
+  }
+    where
+      next : (rows + 1) * field-side (g .width) ≡ rows * field-side (g .width) + field-side (g .width)
+      next = ap (λ (n : ℕ). n * field-side (g .width)) (native.Mathlib.Numerals.add-one rows) ∙ suc-mul rows (field-side (g .width))
+
+      all-put : after ≡ put-bytes at (rows-shown g edges (rows + 1)) buffer
+      all-put = put ∙ ap (λ (n : ℕ). put-bytes n (row-shown (g .width) edges rows) buffer′) (start-is ∙ ap (λ (n : ℕ). at + n) (sym (rows-long rows)))
+          ∙ ap (put-bytes (at + length (rows-shown g edges rows)) (row-shown (g .width) edges rows)) (w .written)
+          ∙ put-put at (rows-shown g edges rows) (row-shown (g .width) edges rows) buffer (omega (arith, rows-long rows))
+          ∙ ap (λ l. put-bytes at l buffer) (sym (next-rows some rows))
+
+  -- where the code has the width in a number of its own
+  pub row-put : (rows lines : ℕ) (buffer′ : List ℕ) → RowsWritten g edges at buffer rows lines buffer′ → 0 < field-side (g .width) → at + (rows * field-side (g .width) + field-side (g .width)) ≤ length buffer
+      → (w : ℕ) → w ≡ g .width → {more : ℕ} {after : List ℕ} → after ≡ put-bytes (at + rows * field-side w) (row-shown w edges rows) buffer′ → more ≡ record-lines (row-shown w edges rows)
+      → RowsWritten g edges at buffer (rows + 1) (lines + more) after
+  row-put rows lines buffer′ so-far some room w w-is {more} {after} put counted = one-row rows lines buffer′ so-far some room (at + rows * field-side (g .width)) more after refl
+      (put ∙ ap (λ (k : ℕ). put-bytes (at + rows * field-side k) (row-shown k edges rows) buffer′) w-is)
+      (counted ∙ ap (λ (k : ℕ). record-lines (row-shown k edges rows)) w-is)
+
+  pub all-rows : (rows lines : ℕ) (buffer′ : List ℕ) → RowsWritten g edges at buffer rows lines buffer′ → rows ≡ field-side (g .height)
+      → (buffer′ ≡ put-bytes at (record-shown g edges) buffer) × (lines ≡ record-lines (record-shown g edges))
+  unfolding rows-shown record-shown field
+  all-rows rows lines buffer′ w done =
+      (w .written ∙ ap (λ (k : ℕ). put-bytes at (rows-shown g edges k) buffer) done, w .counted ∙ ap (λ (k : ℕ). record-lines (rows-shown g edges k)) done)
+
+-- a row of the field, where the code has the sizes in numbers of its own
+pub row-fits : (height width h w row : ℕ) → h ≡ height → w ≡ width → row < field-side h → row * field-side w + field-side w ≤ places height width
+row-fits height width h w row h-is w-is below =
+    let rows : suc row * field-side w ≤ field-side h * field-side w = mul-le-mul-right (field-side w) below in
+    let same : field-side h * field-side w ≡ places height width = (λ i. field-side (h-is i) * field-side (w-is i)) in
+    omega (arith, suc-mul row (field-side w))

@@ -4,9 +4,10 @@
 use Prim.Native.Nat.{ℕ, zero, suc, _+_, _*_, _%_, _/_, _≤_, _<_}
 use mathlib.Core.Path.{_≡_, refl, sym, _∙_, ap}
 use mathlib.Core.Bool.{Bool, true, false}
+use mathlib.Core.List.{_∷_, _++_}
 use native.Mathlib.Omega.{arith}
 use native.Mathlib.Decide.{decLt}
-use native.Mathlib.Nat.{div-add-mod', mod-lt, mod-eq-of-lt, div-eq-of-lt, div-lt-iff-lt-mul, le-div-iff-mul-le, add-div-right, mul-add-div-right, mul-add-mod-self-right, mul-le-mul-right, suc-mul, add-zero, zero-add}
+use native.Mathlib.Nat.{div-add-mod', mod-lt, mod-eq-of-lt, div-eq-of-lt, div-lt-iff-lt-mul, le-div-iff-mul-le, add-div-right, mul-add-div-right, mul-add-mod-self-right, mul-le-mul-right, suc-mul, suc-add, add-zero, zero-add, add-assoc}
 use borrow.Author.Tests.{lt-ltb, le-ltb}
 use lib.Dec.{eqb}
 use lib.ListN.{getD, length, List·getD-eq-default}
@@ -34,6 +35,19 @@ getD-tabulate f start (suc n) (suc i) default below = getD-tabulate f (start + 1
 
 pub getD-from-zero : {A : Type 0} (f : ℕ → A) (n i : ℕ) (default : A) → i < n → getD (tabulate f 0 n) i default ≡ f i
 getD-from-zero f n i default below = getD-tabulate f 0 n i default below ∙ ap f (zero-add i)
+
+-- in two parts, and counted on from a number
+pub tabulate-parts : {A : Type 0} (f : ℕ → A) (start n m : ℕ) → tabulate f start (n + m) ≡ tabulate f start n ++ tabulate f (start + n) m
+unfolding tabulate
+tabulate-parts f start zero m = ap (tabulate f start) (zero-add m) ∙ ap (λ (k : ℕ). tabulate f k m) (sym (add-zero start))
+tabulate-parts f start (suc n) m =
+    ap (tabulate f start) (suc-add n m)
+    ∙ ap (λ l. f start ∷ l) (tabulate-parts f (start + 1) n m ∙ ap (λ (k : ℕ). tabulate f (start + 1) n ++ tabulate f k m) (plus-suc start n))
+
+pub tabulate-from : {A : Type 0} (f : ℕ → A) (by start n : ℕ) → tabulate f (by + start) n ≡ tabulate (λ i. f (by + i)) start n
+unfolding tabulate
+tabulate-from f by start zero = refl
+tabulate-from f by start (suc n) = ap (λ l. f (by + start) ∷ l) (ap (λ (k : ℕ). tabulate f k n) (add-assoc by start 1) ∙ tabulate-from f by (start + 1) n)
 
 pub tabulate-same : {A : Type 0} (f h : ℕ → A) (start n : ℕ) → ((i : ℕ) → start ≤ i → i < start + n → f i ≡ h i) → tabulate f start n ≡ tabulate h start n
 unfolding tabulate
