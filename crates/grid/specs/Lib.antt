@@ -2,3 +2,4 @@
 pub mod Edges
 pub mod Answers
 pub mod PadsAt
+pub mod PadsLaws

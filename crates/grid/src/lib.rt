@@ -36,7 +36,8 @@ fn pad(width: usize, y: usize, x: usize) -> usize
 }
 
 // The pads that a place of the field joins, by two cases. In an even row 2y they stand beside each other: place (2y, 2x+1) joins pad (y, x)
-// to the right. In an odd row 2y+1 they stand one above the other: place (2y+1, 2x) joins pad (y, x) downward.
+// to the right. In an odd row 2y+1 they stand one above the other: place (2y+1, 2x) joins pad (y, x) downward. Other places join none.
+// specs/PadsLaws.antt says both ways that these are the pads.
 pub fn pads_at(width: usize, row: usize, column: usize) -> Pads
     requires { ⌜ (width ≤ 16) × (row < 31) × (column < 31) ⌝ }
     ensures { λ r. ⌜ r ≡ pads-of width (place-at width row column) ⌝ }
