@@ -2,7 +2,7 @@
 -- pad that it joins, a place that is no edge place gives none, and each two neighbouring pads have exactly one place. They are the rules'
 -- PadsOfEdges.antt, by way of the function's contract.
 use Prim.Native.Nat.{ℕ, _≤_, _<_}
-use mathlib.Core.Path.{_≡_, refl, sym, ap, _∙_}
+use mathlib.Core.Path.{_≡_, refl, ap, _∙_}
 use mathlib.Core.Logic.{_⊎_, inl, inr, _↔_}
 use Rattle.rules.specs.Grid.{Edge, right, down, first, second, field-side, Place, edge, no-edge, place-at, Grid}
 use Rattle.rules.specs.Places.{zero≢one}

@@ -24,7 +24,7 @@ use Rattle.grid.specs.PadsAt.{pads-of, place-of, IfEdge, edge-beside, edge-abov
 use Rattle.grid.specs.declared.Pads.{Pads}
 use Rattle.grid.specs.declared.Pads.the-variants.{Beside, Above, NoEdge}
 use Rattle.printed.specs.Written.{zeros}
-use Rattle.printed.specs.Coded.{line-place, line-added, Codes, CodesOf}
+use Rattle.printed.specs.Coded.{line-place, line-added, CodesOf}
 use Rattle.printed.proofs.CodeLaws.{right-there, no-right, down-there, no-down, code-at-most-3, all-pads}
 
 -- ## One byte more of a layout

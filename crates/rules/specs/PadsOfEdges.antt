@@ -6,10 +6,10 @@ use mathlib.Core.Path.{_≡_, refl, sym, _∙_, ap}
 use mathlib.Core.Logic.{_⊎_, inl, inr, _↔_}
 use mathlib.Core.List.{List, [], _∷_}
 use native.Mathlib.Omega.{arith}
-use native.Mathlib.Nat.{div-add-mod', div-lt-iff-lt-mul, add-div-right, mod-lt, suc-mul}
-use Rattle.rules.specs.Grid.{Edge, right, down, first, second, pad-index, field-side, Place, edge, no-edge, parity, place-at, row-of, column-of, Grid, OnBoard}
+use native.Mathlib.Nat.{suc-mul}
+use Rattle.rules.specs.Grid.{Edge, right, down, first, second, pad-index, field-side, Place, edge, no-edge, parity, place-at, row-of, column-of, Grid}
 use Rattle.rules.specs.Record.{tabulate}
-use Rattle.rules.specs.Places.{zero≢one, place-right, place-down, edge-of-place, edge-of-pads, no-edge-back}
+use Rattle.rules.specs.Places.{zero≢one, place-right, place-down, FoundAt, in-an-even-row, in-an-odd-row, found-at, edge-of-place, edge-of-pads, no-edge-back}
 
 -- NEIGHBOURS: pad (y, x) with the pad to the right of it, or with the pad below it
 pub data Neighbours (g : Grid) (a b : ℕ) : Type 0 where
@@ -56,9 +56,6 @@ module _ (g : Grid) (wide : 2 ≤ g .width) where
   abbrev w : ℕ
   w = g .width
 
-  some : 0 < w
-  some = omega arith
-
   -- what is joined is given
   given : (row column a b : ℕ) → Joins g row column a b → Gives g row column a b
   given row column a b (to-the-right y x r c below inside p q) = record {
@@ -80,22 +77,18 @@ module _ (g : Grid) (wide : 2 ≤ g .width) where
 
   -- what is given is joined
   joined : (row column a b : ℕ) → Gives g row column a b → Joins g row column a b
-  unfolding OnBoard
-  joined row column a b gives = go (gives .found) (gives .there) (gives .first-pad) (gives .second-pad)
+  joined row column a b gives = go (gives .found) (found-at w row column (gives .found) (gives .there)) (gives .first-pad) (gives .second-pad)
     where
-      go : (e : Edge) → place-at w row column ≡ edge e → first e ≡ a → second w e ≡ b → Joins g row column a b
-      go (right v) at p q =
-          let its = edge-of-place g wide row column (gives .row-in-field) (gives .column-in-field) (right v) at in
-          let pad = div-add-mod' v w in
-          let y-below : v / w < g .height = div-lt-iff-lt-mul some .1 (its .on-board .0) in
-          to-the-right (v / w) (v % w) (sym (its .its-row)) (sym (its .its-column)) y-below (its .on-board .1) (omega arith) (omega arith)
-      go (down v) at p q =
-          let its = edge-of-place g wide row column (gives .row-in-field) (gives .column-in-field) (down v) at in
-          let pad = div-add-mod' v w in
-          let y-below : (v + w) / w < g .height = div-lt-iff-lt-mul some .1 (its .on-board) in
-          let next : (v + w) / w ≡ v / w + 1 = add-div-right v some in
-          let next-row = suc-mul (v / w) w in
-          downward (v / w) (v % w) (sym (its .its-row)) (sym (its .its-column)) (omega arith) (mod-lt v some) (omega arith) (omega arith)
+      go : (e : Edge) → FoundAt w row column e → first e ≡ a → second w e ≡ b → Joins g row column a b
+      go e (in-an-even-row y x r c is) p q =
+          let pad : pad-index w y x ≡ a = sym (ap first is) ∙ p in
+          let next : pad-index w y x + 1 ≡ b = sym (ap (second w) is) ∙ q in
+          to-the-right y x r c (omega (arith, gives .row-in-field)) (omega (arith, gives .column-in-field)) (sym pad) (omega arith)
+      go e (in-an-odd-row y x r c is) p q =
+          let pad : pad-index w y x ≡ a = sym (ap first is) ∙ p in
+          let below : pad-index w y x + w ≡ b = sym (ap (second w) is) ∙ q in
+          let next-row = suc-mul y w in
+          downward y x r c (omega (arith, gives .row-in-field)) (omega (arith, gives .column-in-field)) (sym pad) (omega arith)
 
   -- EACH EDGE PLACE GIVES EXACTLY THE FIRST AND THE SECOND PAD THAT IT JOINS
   pub edge-place-gives-its-pads : (row column a b : ℕ) → Joins g row column a b ↔ Gives g row column a b

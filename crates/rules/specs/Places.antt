@@ -56,6 +56,21 @@ module _ (width y x : ℕ) where
   unfolding place-at
   place-in-the-middle = rw (parity-odd y, parity-odd x) refl
 
+-- and an edge is found at these places only
+pub data FoundAt (width row column : ℕ) (e : Edge) : Type 0 where
+  in-an-even-row : (y x : ℕ) → row ≡ 2 * y → column ≡ 2 * x + 1 → e ≡ right (pad-index width y x) → FoundAt width row column e
+  in-an-odd-row : (y x : ℕ) → row ≡ 2 * y + 1 → column ≡ 2 * x → e ≡ down (pad-index width y x) → FoundAt width row column e
+
+pub found-at : (width row column : ℕ) (e : Edge) → place-at width row column ≡ edge e → FoundAt width row column e
+unfolding place-at
+found-at width row column e held = by-row (parity row) (its-number row) (parity column) (its-number column) held
+  where
+    by-row : (r : Parity) → number-of r ≡ row → (c : Parity) → number-of c ≡ column → in-row width r c ≡ edge e → FoundAt width row column e
+    by-row (even y) er (even x) ec h = zero≢one (cc)
+    by-row (even y) er (odd x) ec h = in-an-even-row y x (sym er) (sym ec) (cc)
+    by-row (odd y) er (even x) ec h = in-an-odd-row y x (sym er) (sym ec) (cc)
+    by-row (odd y) er (odd x) ec h = zero≢one (cc)
+
 -- EACH EDGE OF THE BOARD HAS A PLACE of the field, and this place holds it
 pub place-of-edge : (width : ℕ) (e : Edge) → place-at width (row-of width e) (column-of width e) ≡ edge e
 place-of-edge width (right v) = place-right width (v / width) (v % width) ∙ ap (λ n. edge (right n)) (div-add-mod' v width)
@@ -70,17 +85,14 @@ few-places height width h w = mul-le-mul {n₂ = 31} {m₂ = 31} (omega arith) (
 
 -- in a field of at most 31 by 31 places the first pad of an edge is below 256
 pub first-small : (width row column : ℕ) → width ≤ 16 → row < 31 → column < 31 → (e : Edge) → place-at width row column ≡ edge e → first e < 256
-unfolding place-at
-first-small width row column narrow r c e held = by-row (parity row) (its-number row) (parity column) (its-number column) held
+first-small width row column narrow r c e held = go (found-at width row column e held)
   where
     small : (y x : ℕ) → 2 * y ≤ row → 2 * x ≤ column → pad-index width y x < 256
     small y x below inside = let half : y ≤ 15 = omega arith in let rows : y * width ≤ 15 * 16 = mul-le-mul half narrow in omega arith
 
-    by-row : (p : Parity) → number-of p ≡ row → (q : Parity) → number-of q ≡ column → in-row width p q ≡ edge e → first e < 256
-    by-row (even y) ey (even x) ex h = zero≢one (cc)
-    by-row (odd y) ey (odd x) ex h = zero≢one (cc)
-    by-row (even y) ey (odd x) ex h = let is : right (pad-index width y x) ≡ e = cc in rw (← is) (small y x (omega arith) (omega arith))
-    by-row (odd y) ey (even x) ex h = let is : down (pad-index width y x) ≡ e = cc in rw (← is) (small y x (omega arith) (omega arith))
+    go : FoundAt width row column e → first e < 256
+    go (in-an-even-row y x er ec is) = rw is (small y x (omega arith) (omega arith))
+    go (in-an-odd-row y x er ec is) = rw is (small y x (omega arith) (omega arith))
 
 -- COLUMNS: the next pad of a row stands one column further, and it is a pad; a pad that is not first in its row follows one that is not last
 module _ (width v : ℕ) where
@@ -141,39 +153,32 @@ module _ (g : Grid) (wide : 2 ≤ g .width) where
     pub its-row : row-of (g .width) e ≡ row
     pub its-column : column-of (g .width) e ≡ column
 
-  -- by the two cases, even row and odd row
-  by-row : (row column : ℕ) → row < field-side (g .height) → column < field-side (g .width) → (e : Edge)
-      → (r : Parity) → number-of r ≡ row → (c : Parity) → number-of c ≡ column → in-row (g .width) r c ≡ edge e → PlaceOf row column e
-  unfolding OnBoard
-  by-row row column row-in column-in e (even y) er (even x) ec h = zero≢one (cc)
-  by-row row column row-in column-in e (odd y) er (odd x) ec h = zero≢one (cc)
-  by-row row column row-in column-in e (even y) er (odd x) ec h =
-      let is : e ≡ right (pad-index (g .width) y x) = cc in
-      let inside : x + 1 < g .width = omega arith in
-      let its-row = row-of-pad y x (omega arith) in
-      let its-column = column-of-pad y x (omega arith) in
-      rw is (record {
-        on-board = (pad-in-grid y x (omega arith) (omega arith), rw its-column inside);
-        its-row = rw its-row er;
-        its-column = rw its-column ec;
-      })
-  by-row row column row-in column-in e (odd y) er (even x) ec h =
-      let is : e ≡ down (pad-index (g .width) y x) = cc in
-      let inside : x < g .width = omega arith in
-      let its-row = row-of-pad y x inside in
-      let its-column = column-of-pad y x inside in
-      let below = pad-in-grid (y + 1) x (omega arith) inside in
-      let next-row = suc-mul y (g .width) in
-      rw is (record {
-        on-board = omega arith;
-        its-row = rw its-row er;
-        its-column = rw its-column ec;
-      })
-
   pub edge-of-place : (row column : ℕ) → row < field-side (g .height) → column < field-side (g .width)
       → (e : Edge) → place-at (g .width) row column ≡ edge e → PlaceOf row column e
-  unfolding place-at
-  edge-of-place row column row-in column-in e held = by-row row column row-in column-in e (parity row) (its-number row) (parity column) (its-number column) held
+  unfolding OnBoard
+  edge-of-place row column row-in column-in e held = go (found-at (g .width) row column e held)
+    where
+      go : FoundAt (g .width) row column e → PlaceOf row column e
+      go (in-an-even-row y x er ec is) =
+          let inside : x + 1 < g .width = omega arith in
+          let its-row = row-of-pad y x (omega arith) in
+          let its-column = column-of-pad y x (omega arith) in
+          rw is (record {
+            on-board = (pad-in-grid y x (omega arith) (omega arith), rw its-column inside);
+            its-row = rw its-row (sym er);
+            its-column = rw its-column (sym ec);
+          })
+      go (in-an-odd-row y x er ec is) =
+          let inside : x < g .width = omega arith in
+          let its-row = row-of-pad y x inside in
+          let its-column = column-of-pad y x inside in
+          let below = pad-in-grid (y + 1) x (omega arith) inside in
+          let next-row = suc-mul y (g .width) in
+          rw is (record {
+            on-board = omega arith;
+            its-row = rw its-row (sym er);
+            its-column = rw its-column (sym ec);
+          })
 
   -- TWO NEIGHBOURING PADS HAVE ONE EDGE between them: the first and the second pad of an edge tell which edge it is
   pub edge-of-pads : (a b : Edge) → first a ≡ first b → second (g .width) a ≡ second (g .width) b → a ≡ b
