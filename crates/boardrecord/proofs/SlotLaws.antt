@@ -3,7 +3,7 @@ use Prim.Native.Nat.{ℕ, _+_, _*_, _≤_, _<_}
 use mathlib.Core.Path.{_≡_, refl, sym, ap, _∙_}
 use mathlib.Core.List.{List}
 use lib.ListN.{getD, length}
-use Rattle.rules.specs.Grid.{right, down, first, Place}
+use Rattle.rules.specs.Grid.{first, Place}
 use Rattle.rules.specs.Record.{byte-at-place}
 use Rattle.grid.specs.PadsAt.{pads-of, place-of, IfEdge, edge-beside, edge-above, edge-nowhere, told-place}
 use Rattle.grid.specs.declared.Pads.{Pads}
@@ -12,13 +12,6 @@ use Rattle.boardview.specs.ShownRecord.{bytes-shown, slot-of-place}
 use Rattle.boardview.specs.ShownRecordLaws.{no-byte, byte-at-slot}
 
 module _ (pads : Pads) where
-  module _ (small : IfEdge (place-of pads) (λ e. first e < 256)) where
-    pub beside-small : {a b : ℕ} → pads ≡ Beside a b → a < 256
-    beside-small {a} are = small (right a) (edge-beside pads are)
-
-    pub above-small : {a b : ℕ} → pads ≡ Above a b → a < 256
-    above-small {a} are = small (down a) (edge-above pads are)
-
   pub slot-beside : {a b : ℕ} → pads ≡ Beside a b → 32 + 2 * a ≡ slot-of-place (place-of pads)
   unfolding slot-of-place
   slot-beside are = rw (edge-beside pads are) refl

@@ -11,7 +11,7 @@ use native.Mathlib.Nat.{div-lt-iff-lt-mul, add-div-right}
 use lib.Dec.{eqb, ltb}
 use lib.ListN.{getD, set, length, take, length-set, length-replicate, getD-replicate, List·getD-eq-default}
 use lib.Seq.{getD-take, getD-set-same, getD-set-other}
-use borrow.Author.Tests.{eq-eqb, ne-eqb, eqb-true, eqb-false}
+use borrow.Author.Tests.{eq-eqb, ne-eqb}
 use Rattle.rules.specs.Grid.{Edge, right, down, first, Place, edge, no-edge, place-at, field-side, places, blank, Grid, OnBoard}
 use Rattle.rules.specs.Drawing.{num}
 use Rattle.rules.specs.Record.{place-number}
@@ -70,34 +70,24 @@ here-same (down v) = rw (eq-eqb v v refl) refl
 here-other : (e : Edge) (p : Place) → (p ≡ edge e → ⊥) → here e p ≡ 0
 unfolding here
 here-other e no-edge other = refl
-here-other (right v) (edge (right u)) other = go (eqb v u) refl
-  where
-    go : (t : Bool) → eqb v u ≡ t → num t ≡ 0
-    go true h = absurd (other (ap (λ (n : ℕ). edge (right n)) (sym (eqb-true v u h))))
-    go false h = refl
+here-other (right v) (edge (right u)) other = rw (ne-eqb v u (λ same. other (ap (λ (n : ℕ). edge (right n)) (sym same)))) refl
 here-other (right v) (edge (down u)) other = refl
 here-other (down v) (edge (right u)) other = refl
-here-other (down v) (edge (down u)) other = go (eqb v u) refl
-  where
-    go : (t : Bool) → eqb v u ≡ t → num t ≡ 0
-    go true h = absurd (other (ap (λ (n : ℕ). edge (down n)) (sym (eqb-true v u h))))
-    go false h = refl
+here-other (down v) (edge (down u)) other = rw (ne-eqb v u (λ same. other (ap (λ (n : ℕ). edge (down n)) (sym same)))) refl
 
 -- what a line adds to the code of each pad
+adds : (codes : List ℕ) (u v k : ℕ) → u < length codes → getD (set codes u (getD codes u 0 + k)) v 0 ≡ getD codes v 0 + num (eqb v u) * k
+adds codes u v k inside = elim (ℕ-discrete v u) [
+  | yes same ↦ rw (eq-eqb v u same, same, getD-set-same codes u (getD codes u 0 + k) 0 inside) (omega arith)
+  | no other ↦ rw (ne-eqb v u other, getD-set-other codes u v (getD codes u 0 + k) 0 other) (omega arith)
+]
+
 added-at : (p : Place) (codes : List ℕ) → IfEdge p (λ e. first e < length codes) → (v : ℕ)
     → getD (line-added p codes) v 0 ≡ getD codes v 0 + here (right v) p + 2 * here (down v) p
 unfolding line-added here
 added-at no-edge codes inside v = omega arith
-added-at (edge (right u)) codes inside v = go (eqb v u) refl
-  where
-    go : (t : Bool) → eqb v u ≡ t → getD (set codes u (getD codes u 0 + 1)) v 0 ≡ getD codes v 0 + num t + 2 * 0
-    go true h = rw (eqb-true v u h, getD-set-same codes u (getD codes u 0 + 1) 0 (inside (right u) refl)) (omega arith)
-    go false h = getD-set-other codes u v (getD codes u 0 + 1) 0 (eqb-false v u h) ∙ (omega arith)
-added-at (edge (down u)) codes inside v = go (eqb v u) refl
-  where
-    go : (t : Bool) → eqb v u ≡ t → getD (set codes u (getD codes u 0 + 2)) v 0 ≡ getD codes v 0 + 0 + 2 * num t
-    go true h = rw (eqb-true v u h, getD-set-same codes u (getD codes u 0 + 2) 0 (inside (down u) refl)) (omega arith)
-    go false h = getD-set-other codes u v (getD codes u 0 + 2) 0 (eqb-false v u h) ∙ (omega arith)
+added-at (edge (right u)) codes inside v = omega (arith, adds codes u v 1 (inside (right u) refl))
+added-at (edge (down u)) codes inside v = omega (arith, adds codes u v 2 (inside (down u) refl))
 
 same-long : (p : Place) (codes : List ℕ) → length (line-added p codes) ≡ length codes
 unfolding line-added

@@ -1,5 +1,6 @@
 -- `boardrecord::slot_of` meets its contract: each kind of pads is a case of the definition. Assumes nothing.
-use Rattle.boardrecord.proofs.SlotLaws.{beside-small, above-small, slot-beside, slot-above, no-slot}
+use Rattle.boardrecord.proofs.SlotLaws.{slot-beside, slot-above, no-slot}
+use Rattle.grid.specs.PadsAt.{edge-beside, edge-above}
 use native.Mathlib.Omega.{arith}
 use borrow.Author.Needs.{needs}
 use Rattle.boardrecord.proofs.slot_of.Statement.{statement}
@@ -9,28 +10,28 @@ enum-known-pads : tie.Need-enum-known-pads
 enum-known-pads c = search needs
 
 mul-result : tie.Need-mul-result
-mul-result c = omega (arith, beside-small _ (c .before .before .before .pre) (c .before .pads .given .1))
+mul-result c = omega (arith, c .before .before .before .pre _ (edge-beside _ (c .before .pads .given .1)))
 
 add-result : tie.Need-add-result
-add-result c = omega (arith, beside-small _ (c .before .before .before .pre) (c .before .pads .given .1))
+add-result c = omega (arith, c .before .before .before .pre _ (edge-beside _ (c .before .pads .given .1)))
 
 enum-known-pads-2 : tie.Need-enum-known-pads-2
 enum-known-pads-2 c = search needs
 
 mul-result-2 : tie.Need-mul-result-2
-mul-result-2 c = omega (arith, above-small _ (c .before .before .before .pre) (c .before .pads2 .given .1))
+mul-result-2 c = omega (arith, c .before .before .before .pre _ (edge-above _ (c .before .pads2 .given .1)))
 
 add-result-2 : tie.Need-add-result-2
-add-result-2 c = omega (arith, above-small _ (c .before .before .before .pre) (c .before .pads2 .given .1))
+add-result-2 c = omega (arith, c .before .before .before .pre _ (edge-above _ (c .before .pads2 .given .1)))
 
 enum-told : tie.Need-enum-told
 enum-told c = search needs
 
 returns : tie.Need-returns
-returns c = (slot-beside _ (c .before .pads .given .1), omega (arith, beside-small _ (c .before .before .before .pre) (c .before .pads .given .1)))
+returns c = (slot-beside _ (c .before .pads .given .1), omega (arith, c .before .before .before .pre _ (edge-beside _ (c .before .pads .given .1))))
 
 returns-2 : tie.Need-returns-2
-returns-2 c = (slot-above _ (c .before .pads2 .given .1), omega (arith, above-small _ (c .before .before .before .pre) (c .before .pads2 .given .1)))
+returns-2 c = (slot-above _ (c .before .pads2 .given .1), omega (arith, c .before .before .before .pre _ (edge-above _ (c .before .pads2 .given .1))))
 
 returns-3 : tie.Need-returns-3
 returns-3 c = (no-slot _ (search needs), omega arith)
