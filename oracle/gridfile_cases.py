@@ -14,6 +14,7 @@ back, in shortest digits, and a line `past` for each cell past the last row that
 import random
 import sys
 
+DIGITS = b"0123456789"
 LARGEST = 2147483646
 LEAST_SIZE, LARGEST_SIZE = 2, 16
 
@@ -34,6 +35,16 @@ def field_text(file, at):
     return file[start:at]
 
 
+def is_disallowed(file, at):
+    """Whether the byte at a place is disallowed. A hole is `#` alone in its field, and the header has none."""
+    byte, before = file[at], field_text(file, at)
+    if byte in b",\n":
+        return False
+    if byte == ord("#"):
+        return before != b"" or b"\n" not in file[:at]
+    return byte not in DIGITS or b"#" in before
+
+
 def reading(file):
     """(number, line, field, rows): rows of texts where the number is 0."""
     found = []  # (byte, order of the test there, number, line, field)
@@ -49,8 +60,8 @@ def reading(file):
     height, width = (int(header[0]), int(header[1])) if sound else (None, None)
 
     for i, b in enumerate(file):
-        if b not in b"0123456789,\n":
-            has_digit = any(c in b"0123456789" for c in field_text(file, i))
+        if is_disallowed(file, i):
+            has_digit = any(c in DIGITS for c in field_text(file, i))
             applies(i, 1, 13 if has_digit else 1)
         if len(file[max(0, i - 10): i + 1]) == 11 and file[i - 10: i + 1].isdigit():
             applies(i, 2, 2)
@@ -90,7 +101,7 @@ def answer(file):
         return b"refused,%d,%d,%d\n" % (number, line, field)
     text = b"%d,%d\n" % (len(rows), len(rows[0]))
     for row in rows:
-        text += b",".join(b"%d" % int(f) if f else b"" for f in row) + b"\n"
+        text += b",".join(b"%d" % int(f) if f.isdigit() else f for f in row) + b"\n"
     return text
 
 
@@ -100,6 +111,7 @@ def grid(height, width, cell=b""):
 
 def cases():
     good = b"3,3\n5,,6\n,,\n6,,5\n"
+    drilled = b"3,3\n5,#,6\n#,,\n6,,#\n"
     # the example, K10 to K12
     yield b"2,2\n5,\n,5\n"
     yield b"2,2\n2147483646,\n,\n"
@@ -108,9 +120,11 @@ def cases():
     yield b"2,2\n,1O\n1O,\n"
     yield b"1,2\n,\n"
     # 1 and 13 in each field of the header and the rows: letters for digits, a space, a quote mark and a return before and
-    # after a digit; a letter after a 0, after ten digits and after eleven; a second disallowed byte
+    # after a digit; a letter after a 0, after ten digits and after eleven; a second disallowed byte; a hole, which is alone in
+    # its field, and what may not stand before or after its sign
     for text in (b"x", b"1x", b"1234567890x", b"12345678901x", b"1O", b"1o", b"O1", b"l0", b"1l", b"O", b"0O", b"007x", b" 5", b"5 ",
-                 b"\"5\"", b"5\"", b"\r", b"5\r", b"9999999999x", b"x1x", b"1 x"):
+                 b"\"5\"", b"5\"", b"\r", b"5\r", b"9999999999x", b"x1x", b"1 x",
+                 b"#", b"##", b"#5", b"5#", b"0#", b"# ", b" #", b"#\r", b"2#", b"#2", b"1234567890#", b"12345678901#", b"5##"):
         for place in range(6):
             fields = [b"2", b"2", b"", b"", b"", b""]
             fields[place] = text
@@ -122,16 +136,32 @@ def cases():
     yield b"2,2\n5,\n5x\n"
     yield b"2,2\n5,5x,\n"
     yield b"2,2\n5,5,x\n"
-    # an empty file, every beginning of a good one (the last 0A missing among them), and bytes after it
+    # holes where the file ends, where a row has too few fields or too many, and as a whole grid
+    yield b"#"
+    yield b"2,2\n#"
+    yield b"2,2\n#\n,\n"
+    yield b"2,2\n#,#,\n"
+    yield b"2,2\n#,#\n"
+    yield b"2,2\n#,#\n#,#"
+    yield b"2,2\n#,#\n#,#\n"
+    yield b"2,2\n#,#\n#,#\n#"
+    yield b"2,3\n5,,#\n#,0,5\n"
+    # an empty file, every beginning of two good ones (the last 0A missing among them), and bytes after them
     for end in range(len(good) + 1):
         yield good[:end]
-    for byte in (0, 10, 32, 44, 48, 57, 120, 255):
+    for end in range(len(drilled) + 1):
+        yield drilled[:end]
+    yield drilled + b"#"
+    for byte in (0, 10, 32, 35, 44, 48, 57, 120, 255):
         yield good + bytes([byte])
         yield grid(16, 16) + bytes([byte])
     # 1 and 13: a bad byte at each place of a good file, in place of the byte there
     for at in range(len(good)):
-        for byte in (0, 13, 45, 47, 58, 255):
+        for byte in (0, 13, 34, 35, 36, 45, 47, 58, 255):
             yield good[:at] + bytes([byte]) + good[at + 1:]
+    for at in range(len(drilled)):
+        for byte in b"#7,\n ":
+            yield drilled[:at] + bytes([byte]) + drilled[at + 1:]
     # 2 and 3: ten and eleven digits, the largest code and one more, in the first, a middle and the last field
     for text in (b"0000000002", b"00000000002", b"2147483646", b"2147483647", b"9999999999", b"4294967296", b"10000000000",
                  b"007", b"0", b"0000000000", b"2147483646"):
@@ -173,6 +203,7 @@ def cases():
     yield longest[:-1]
     yield longest + b"0"
     yield grid(16, 16)
+    yield grid(16, 16, b"#")
     yield grid(2, 16, b"7")
     yield grid(16, 2, b"0")
     # 4,096 bytes of digits, of commas, of line ends
@@ -183,7 +214,7 @@ def cases():
     chance = random.Random(4711)
     for _ in range(600):
         h, w = chance.randint(2, 5), chance.randint(2, 5)
-        fields = lambda: b",".join(chance.choice([b"", b"", b"0", b"7", b"12", b"2147483646", b"0009"]) for _ in range(w))
+        fields = lambda: b",".join(chance.choice([b"", b"", b"#", b"0", b"7", b"12", b"2147483646", b"0009"]) for _ in range(w))
         file = bytearray(b"%d,%d\n" % (h, w) + b"".join(fields() + b"\n" for _ in range(h)))
         for _ in range(chance.choice([0, 1, 1, 1, 2, 3])):
             at = chance.randrange(len(file) + 1)
@@ -191,9 +222,9 @@ def cases():
             if kind == 0 and at < len(file):
                 del file[at]
             elif kind == 1 and at < len(file):
-                file[at] = chance.choice(b"0123456789,,,\n\n\nO -\x00\xff")
+                file[at] = chance.choice(b"0123456789,,,\n\n\n##O -\x00\xff")
             else:
-                file.insert(at, chance.choice(b"0123456789,,,\n\n\nO -\x00\xff"))
+                file.insert(at, chance.choice(b"0123456789,,,\n\n\n##O -\x00\xff"))
         yield bytes(file)
 
 

@@ -15,24 +15,26 @@
  * past the written part of a slice keeps its values.
  *
  * The words. A grid has `height` rows and `width` columns, each 2 to 16. Pad (y, x) has the index y * width + x, and a
- * grid is given by its cells in this order: -1 for a blank pad, or a code from 0 to 2147483646. An edge place is a row and
- * a column of the field of 2 * height - 1 rows and 2 * width - 1 columns: place (2y, 2x + 1) joins pad (y, x) to the pad
- * on its right, place (2y + 1, 2x) to the pad below. A record is this field row by row, one byte for each place: 1 a line,
- * 2 no line, 0 undecided; the places that are no edge hold 0. A layout is a wiring of the grid, held as a record.
+ * grid is given by its cells in this order: -1 for a blank pad, -2 for a hole, where no line may go, or a code from 0 to
+ * 2147483646. An edge place is a row and a column of the field of 2 * height - 1 rows and 2 * width - 1 columns: place
+ * (2y, 2x + 1) joins pad (y, x) to the pad on its right, place (2y + 1, 2x) to the pad below. A record is this field row by
+ * row, one byte for each place: 1 a line, 2 no line, 0 undecided; the places that are no edge hold 0. A layout is a wiring
+ * of the grid, held as a record.
  *
  * Numbers of refusals. Reading a file:
- *   1  a byte that is no digit, no comma and no line end (0A hexadecimal), at the start of its field: a stray byte
+ *   1  a byte that may not stand there, at the start of its field or after a `#`: a stray byte. A field of a row begins
+ *      with a digit or a `#`, one of the header with a digit, and after a `#` comes a comma or a line end (0A hexadecimal)
  *   2  an eleventh digit in a field
  *   3  a field above 2147483646
  *   4  too few fields in a line, or too many
  *   5  a height or width that is empty or outside 2 to 16
  *   6  the file ends before its last row does, or goes on after it
- *  13  a byte that is no digit, no comma and no line end, after a digit of its field: a letter typed for a digit, or a
+ *  13  a byte that is no digit, no comma and no line end, after a digit of its field: a letter typed for a digit, or a `#`, a
  *      space or a return (0D hexadecimal) behind a number
  * A grid, for a board, a search or writing:
  *   7  a height or width outside 2 to 16
  *   8  the number of cells is not height * width
- *   9  a cell below -1 or equal to 2147483647
+ *   9  a cell below -2 or equal to 2147483647
  * Writing a grid:
  *  14  the buffer is shorter than the text
  * A call on a board:
@@ -52,7 +54,7 @@ extern "C" {
 
 /*
  * Reads a grid file: lines of fields parted by commas, each line ended by 0A; `H,W` first, then H lines of W fields, an
- * empty field for a blank pad.
+ * empty field for a blank pad, `#` for a hole.
  *
  *   file, file_length      the bytes of the file
  *   answer, answer_length  at least 5 numbers
@@ -71,8 +73,9 @@ size_t hunekowha_read(const uint8_t *file, size_t file_length, uint64_t *answer,
 
 /*
  * Writes a grid as a grid file: `H,W` first, then H lines of W fields parted by commas, each line ended by 0A; a code in its
- * shortest digits, an empty field for a blank pad. Reading the text gives the same grid. Writing what was read gives the file
- * with each field in its shortest digits: the same bytes, where no field of two or more digits begins with 0.
+ * shortest digits, an empty field for a blank pad, `#` for a hole. Reading the text gives the same grid. Writing what was
+ * read gives the file with each field in its shortest digits: the same bytes, where no field of two or more digits begins
+ * with 0.
  *
  *   height, width          the size of the grid
  *   cells, cells_length    its cells, height * width of them
@@ -91,7 +94,8 @@ size_t hunekowha_write(size_t height, size_t width, const int32_t *cells, size_t
 
 /*
  * Lists the layouts of a grid: each once, in ascending order, until all are found, until `limit` boards are visited, or
- * until a layout is due and less than a record is left of the buffer.
+ * until a layout is due and less than a record is left of the buffer. Where the fresh board already has its flag set, the list
+ * is complete and empty, and no board is visited, whatever the limit.
  *
  *   height, width          the size of the grid
  *   cells, cells_length    its cells, height * width of them
@@ -130,7 +134,8 @@ size_t hunekowha_record(size_t height, size_t width, size_t count, size_t k, con
 
 /*
  * Makes calls on a board, one after another, and writes what the board shows after each. The board begins as the fresh
- * board of the grid.
+ * board of the grid: every edge at a hole has been decided to be none, holes in index order, each left, right, up, down. That
+ * may decide more edges and set the flag, and undo never goes behind it.
  *
  *   height, width          the size of the grid
  *   cells, cells_length    its cells, height * width of them

@@ -1,6 +1,7 @@
 // What the Rust reference answers: calls on a board replayed one by one, and
 // whole searches. Everything is asked of the reference's own public calls;
 // only the limit and the room of a search are added, as document 01 has them.
+// The reference knows no holes, and is never asked about a grid that has one.
 
 use reference::board::Board;
 use reference::solver::solve;
@@ -10,10 +11,13 @@ pub const UNDECIDED: u8 = 0;
 pub const LINE: u8 = 1;
 pub const NONE: u8 = 2;
 
+pub const BLANK: i32 = -1;
+pub const HOLE: i32 = -2;
+
 /// The fewest lines of a run that put no layout in its buffer.
 pub const NO_LAYOUT: usize = 481;
 
-/// A grid of pads, -1 for blank.
+/// A grid of pads, each cell BLANK, HOLE or a code.
 #[derive(Clone, Debug, PartialEq, Eq)]
 pub struct Pads {
     pub height: usize,
@@ -26,7 +30,12 @@ impl Pads {
         (2 * self.height - 1) * (2 * self.width - 1)
     }
 
+    pub fn has_hole(&self) -> bool {
+        self.cells.contains(&HOLE)
+    }
+
     pub fn problem(&self) -> Problem {
+        assert!(!self.has_hole(), "the reference knows no holes: {self:?}");
         let mut problem = Problem::new(self.height, self.width, None);
         for (index, cell) in self.cells.iter().enumerate() {
             if *cell >= 0 {
@@ -148,7 +157,8 @@ impl Run {
         }
     }
 
-    fn count_layout(&mut self, length: usize) {
+    /// Counts the layout whose record is the last of the bytes.
+    pub fn count_layout(&mut self, length: usize) {
         let start = self.bytes.len() - length;
         let lines = self.bytes[start..]
             .iter()

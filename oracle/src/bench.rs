@@ -84,6 +84,7 @@ pub fn print_table(files: &[(&str, Vec<u8>)]) {
         let Ok(pads) = read(bytes) else {
             panic!("{file} is refused");
         };
+        assert!(!pads.has_hole(), "{file} has holes");
         let row = measure(name, &pads);
         print_row(&row);
         total.visited += row.visited;

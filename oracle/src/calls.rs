@@ -4,7 +4,7 @@
 //   name: any text            distinguishes: any text
 //   grid: 2,2 ,/0,0           calls: decide 1 2 1; checkpoint; undo; read 0 1
 
-use crate::answers::{replay, Call, Pads};
+use crate::answers::{replay, Call, Pads, BLANK};
 
 struct Sequence {
     name: String,
@@ -22,7 +22,7 @@ pub fn read_pads(text: &str) -> Pads {
         .flat_map(|row| row.split(','))
         .map(|cell| {
             if cell.is_empty() {
-                -1
+                BLANK
             } else {
                 cell.parse().expect("a code")
             }

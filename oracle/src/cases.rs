@@ -6,8 +6,9 @@
 //   record H,W LENT COUNT K ROOM
 //   file LENT CELLS-LENT HEXADECIMAL
 //   write H,W CELLS LENT ROOM
-// CELLS are numbers parted by commas. LENT is the length of the slice that is
-// lent for the answer; `-` stands for an empty list.
+// CELLS are numbers parted by commas, -1 for blank and -2 for a hole. LENT is
+// the length of the slice that is lent for the answer; `-` stands for an empty
+// list.
 
 use std::fmt::Write;
 

@@ -1,8 +1,10 @@
 // Cases chosen at random: sequences of board calls on all sizes with declined
 // calls between them, searches with limits and rooms, records, damaged copies
-// of good files, and grids to be written with rooms about their texts.
+// of good files, and grids to be written with rooms about their texts. Files,
+// grids to be written and declined grids have holes here and there; boards and
+// searches that are held beside the reference have none.
 
-use crate::answers::{Call, Pads, LINE, NONE};
+use crate::answers::{Call, Pads, BLANK, HOLE, LINE, NONE};
 use crate::calls::grids_and_calls;
 use crate::cases::{Asked, Case, Given};
 use crate::expected::{board_room, grid_text, written_text};
@@ -31,7 +33,24 @@ fn any_lent(random: &mut Random, needed: usize) -> usize {
     }
 }
 
-/// A grid that is mostly declined.
+/// A bad cell; before every second one stands a hole, which is not bad.
+fn put_bad_cell(cells: &mut [i32], at: usize, bad: i32) {
+    cells[at] = bad;
+    if at % 2 == 1 {
+        cells[at - 1] = HOLE;
+    }
+}
+
+/// So many percent of the pads, or only of the blank ones, made holes.
+pub fn drill(random: &mut Random, cells: &mut [i32], percent: usize, only_blank: bool) {
+    for cell in cells.iter_mut() {
+        if random.chance(percent) && (!only_blank || *cell == BLANK) {
+            *cell = HOLE;
+        }
+    }
+}
+
+/// A grid that is mostly declined; one with holes always is.
 fn odd_grid(random: &mut Random) -> Given {
     let (height, width) = (2 + random.below(15), 2 + random.below(15));
     let mut grid = given(&any_pads(random, height, width));
@@ -41,12 +60,12 @@ fn odd_grid(random: &mut Random) -> Given {
         0 => grid.size.0 = odd_size,
         1 => grid.size.1 = odd_size,
         2 => grid.cells.truncate(random.below(pads)),
-        3 => grid.cells.resize(pads + 1 + random.below(3), -1),
+        3 => grid.cells.resize(pads + 1 + random.below(3), BLANK),
         4 => grid.cells.resize(random.choose(&[0, 256, 257]), 0),
         _ => {
             for _ in 0..1 + random.below(3) {
-                let bad = random.choose(&[-2, -3, i32::MIN, i32::MIN + 1, i32::MAX]);
-                grid.cells[random.below(pads)] = bad;
+                let bad = random.choose(&[-3, -4, i32::MIN, i32::MIN + 1, i32::MAX]);
+                put_bad_cell(&mut grid.cells, random.below(pads), bad);
             }
         }
     }
@@ -148,7 +167,7 @@ pub fn varied_case(random: &mut Random, known: &[(Pads, Vec<Call>)]) -> Case {
             random.choose(&[LINE, NONE]),
         );
         match random.below(6) {
-            0 => pads.cells[pad] = -1,
+            0 => pads.cells[pad] = BLANK,
             1 => pads.cells[pad] = random.below(4) as i32,
             2 if calls.len() > 1 => {
                 calls.remove(at);
@@ -252,7 +271,7 @@ fn file_text(random: &mut Random, pads: &Pads) -> Vec<u8> {
     text.into_bytes()
 }
 
-const FIELDS: [&str; 25] = [
+const FIELDS: [&str; 35] = [
     "",
     "0",
     "007",
@@ -278,6 +297,16 @@ const FIELDS: [&str; 25] = [
     "12345678901x",
     " 5",
     "\"5\"",
+    "#",
+    "##",
+    "#5",
+    "5#",
+    "0#",
+    "# ",
+    " #",
+    "#\r",
+    "1234567890#",
+    "#1234567890",
 ];
 
 /// One of the file's fields replaced; the header's as often as all others.
@@ -299,7 +328,7 @@ fn replace_field(random: &mut Random, file: &mut Vec<u8>) {
 
 fn damage(random: &mut Random, file: &mut Vec<u8>) {
     let at = random.below(file.len() + 1);
-    let byte = random.choose(b"0123456789,,,\n\n\nOl \r\t-\"#\0\xff/:");
+    let byte = random.choose(b"0123456789,,,\n\n\n######Ol \r\t-\"\0\xff/:");
     match random.below(9) {
         0 => file.truncate(at),
         1 => file.insert(at, byte),
@@ -333,6 +362,10 @@ pub fn file_case(random: &mut Random) -> Case {
             *cell = LARGEST_CODE - random.below(3) as i32;
         }
     }
+    if random.chance(33) {
+        let percent = random.choose(&[10, 30, 60, 100]);
+        drill(random, &mut pads.cells, percent, false);
+    }
     let mut bytes = file_text(random, &pads);
     for _ in 0..random.choose(&[0, 1, 1, 1, 1, 2, 3]) {
         damage(random, &mut bytes);
@@ -364,22 +397,25 @@ fn any_code(random: &mut Random) -> i32 {
 }
 
 /// A grid with blank pads and any codes; some are all blank, some have ten
-/// digits at every pad.
+/// digits at every pad, and some have holes, few or nothing else.
 fn grid_to_write(random: &mut Random, (height, width): (usize, usize)) -> Given {
     let blank = random.choose(&[0, 0, 20, 20, 50, 50, 90, 100]);
     let long = random.chance(25);
     let mut cell = || {
         if random.chance(blank) {
-            -1
+            BLANK
         } else if long {
             code_from(random, 1000000000)
         } else {
             any_code(random)
         }
     };
+    let mut cells: Vec<i32> = (0..height * width).map(|_| cell()).collect();
+    let holes = random.choose(&[0, 0, 0, 5, 20, 50, 90, 100]);
+    drill(random, &mut cells, holes, false);
     Given {
         size: (height, width),
-        cells: (0..height * width).map(|_| cell()).collect(),
+        cells,
     }
 }
 

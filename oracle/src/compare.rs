@@ -1,15 +1,17 @@
 // Compares the proved library with the reference: board calls, searches,
 // records, files and writes, chosen by a seed, until the time or the counts
-// are reached. The first case that differs is made smaller and printed.
+// are reached; and searches of grids with holes with the rules alone. The first
+// case that differs is made smaller and printed.
 
-use crate::answers::{limited, whole, Call, Pads, Run};
+use crate::answers::{limited, whole, Call, Pads, Run, HOLE};
 use crate::cases::{read_case, Asked, Case, Given};
 use crate::chosen::{
     board_case, declined_search, file_case, known_sequences, record_case, search_case, search_pads,
     varied_case, write_case,
 };
-use crate::expected::{by_library, expected, search_answer, written_text, Answer};
+use crate::expected::{by_library, expected, is_known, search_answer, written_text, Answer};
 use crate::grids::{check_beginning, runs_of};
+use crate::holes::{beginning, small_pads, whole_list};
 use crate::random::Random;
 use crate::smallest::smallest;
 use std::collections::BTreeMap;
@@ -58,10 +60,11 @@ impl ShownCalls {
 }
 
 /// How many files or writes were accepted (number 0), how many refused, by
-/// number, and how many were written or read back.
+/// number, how many had holes, and how many were written or read back.
 #[derive(Default)]
 struct ShownNumbers {
     numbers: BTreeMap<u64, usize>,
+    with_holes: usize,
     back: usize,
 }
 
@@ -71,11 +74,14 @@ impl ShownNumbers {
         if answer.returned > 0 {
             *self.numbers.entry(answer.numbers[0]).or_default() += 1;
         }
+        let mut grids = answer.back.iter().chain([answer]);
+        self.with_holes += grids.any(|grid| grid.cells.contains(&HOLE)) as usize;
         self.back += !answer.back.is_empty() as usize;
     }
 
     fn figures(&self) -> String {
-        format!("by number: {:?}; {} of them", self.numbers, self.back)
+        let (numbers, with_holes, back) = (&self.numbers, self.with_holes, self.back);
+        format!("by number: {numbers:?}; {with_holes} of the accepted with holes; {back} of them")
     }
 }
 
@@ -106,6 +112,29 @@ impl ShownRooms {
     }
 }
 
+/// Searches of small grids, how many grids had holes, and how many of these
+/// had layouts.
+#[derive(Default)]
+struct ShownHoles {
+    searches: usize,
+    grids: usize,
+    with_layouts: usize,
+}
+
+impl ShownHoles {
+    fn count(&mut self, pads: &Pads, all: &Run) {
+        self.grids += pads.has_hole() as usize;
+        self.with_layouts += (pads.has_hole() && all.layouts > 0) as usize;
+    }
+
+    fn figures(&self) -> String {
+        format!(
+            "{} searches by the rules alone; {} grids with holes, {} of them with layouts",
+            self.searches, self.grids, self.with_layouts
+        )
+    }
+}
+
 /// Each kind of case has numbers of its own, so that a seed gives the same
 /// cases however long the others take.
 struct Comparison {
@@ -113,11 +142,13 @@ struct Comparison {
     shown_files: ShownNumbers,
     shown_writes: ShownNumbers,
     shown_rooms: ShownRooms,
+    shown_holes: ShownHoles,
     boards: Random,
     grid_numbers: Random,
     declined: Random,
     file_numbers: Random,
     write_numbers: Random,
+    hole_numbers: Random,
     known: Vec<(Pads, Vec<Call>)>,
     done: Counts,
     whole_searches: usize,
@@ -138,11 +169,13 @@ impl Comparison {
             shown_files: ShownNumbers::default(),
             shown_writes: ShownNumbers::default(),
             shown_rooms: ShownRooms::default(),
+            shown_holes: ShownHoles::default(),
             boards: Random::new(seed),
             grid_numbers: Random::new(seed.wrapping_add(1 << 32)),
             declined: Random::new(seed.wrapping_add(2 << 32)),
             file_numbers: Random::new(seed.wrapping_add(3 << 32)),
             write_numbers: Random::new(seed.wrapping_add(4 << 32)),
+            hole_numbers: Random::new(seed.wrapping_add(5 << 32)),
             known: known_sequences(),
             done: Counts::default(),
             whole_searches: 0,
@@ -179,6 +212,7 @@ impl Comparison {
         println!("files {} written back", self.shown_files.figures());
         println!("writes {} read back", self.shown_writes.figures());
         println!("{}", self.shown_rooms.figures());
+        println!("{}", self.shown_holes.figures());
     }
 
     fn show_progress(&mut self) {
@@ -248,6 +282,29 @@ impl Comparison {
             let run = limited(&pads, limit, room);
             check_beginning(&all, &run, limit, room, length);
             self.compare_run(&pads, &run, limit, room);
+        }
+    }
+
+    /// A small grid, mostly with holes, by the rules alone; where it has none,
+    /// the list by the rules must be that of `solve`.
+    fn compare_holes(&mut self) {
+        let pads = small_pads(&mut self.hole_numbers);
+        let mut all = whole_list(&pads);
+        if !pads.has_hole() {
+            let list = whole(&pads);
+            assert!(all.bytes == list.bytes, "the rules differ: {pads:?}");
+            all = list;
+        }
+        self.shown_holes.count(&pads, &all);
+        let kind = self.hole_numbers.below(4);
+        let runs = runs_of(&mut self.hole_numbers, &all, pads.record_length(), kind);
+        for (limit, room) in runs {
+            let case = search_case(&mut self.hole_numbers, &pads, limit, room);
+            if let Case::Search { lent, .. } = case {
+                let run = beginning(&pads, &all, limit, room);
+                self.hold(&case, &search_answer((0, 0), &run, lent, room));
+            }
+            self.shown_holes.searches += 1;
         }
     }
 
@@ -336,12 +393,14 @@ fn show_first(name: &str, wanted: Vec<i128>, found: Vec<i128>) {
     }
 }
 
-/// Replays one case that was printed; true where nothing differs.
-pub fn replay_case(text: &str) -> bool {
-    show(&read_case(text))
+/// Replays one case that was printed; true where nothing differs, nothing
+/// where it is not known what the case must give.
+pub fn replay_case(text: &str) -> Option<bool> {
+    let case = read_case(text);
+    is_known(&case).then(|| show(&case))
 }
 
-/// Compares for so many seconds, a quarter of the time on each kind.
+/// Compares for so many seconds, a fifth of the time on each kind.
 pub fn compare_for(seconds: u64, seed: u64) {
     println!("seed {seed}");
     let mut comparison = Comparison::new(seed);
@@ -351,14 +410,15 @@ pub fn compare_for(seconds: u64, seed: u64) {
         comparison.turn(|comparison| comparison.compare_search());
         comparison.turn(|comparison| comparison.compare_write());
         comparison.turn(|comparison| comparison.compare_file());
+        comparison.turn(|comparison| comparison.compare_holes());
         comparison.compare_declined();
         comparison.show_progress();
     }
     comparison.print_end();
 }
 
-/// Compares until so many board calls, searches and files are done, and as
-/// many writes as files.
+/// Compares until so many board calls, searches and files are done, as many
+/// searches by the rules as searches, and as many writes as files.
 pub fn compare_counts(wanted: Counts, seed: u64) {
     println!("seed {seed}");
     let mut comparison = Comparison::new(seed);
@@ -367,7 +427,8 @@ pub fn compare_counts(wanted: Counts, seed: u64) {
         let more_calls = left(comparison.done.calls, wanted.calls);
         let more_searches = left(comparison.done.searches, wanted.searches);
         let more_files = left(comparison.done.files, wanted.files);
-        if !(more_calls || more_searches || more_files) {
+        let more_holes = left(comparison.shown_holes.searches, wanted.searches);
+        if !(more_calls || more_searches || more_files || more_holes) {
             break;
         }
         for _ in 0..10 {
@@ -380,6 +441,9 @@ pub fn compare_counts(wanted: Counts, seed: u64) {
             if more_files {
                 comparison.compare_write();
                 comparison.compare_file();
+            }
+            if more_holes {
+                comparison.compare_holes();
             }
         }
         comparison.compare_declined();

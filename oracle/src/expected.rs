@@ -1,12 +1,13 @@
 // What a case must give: by the reference where the call is accepted, by the
-// numbers of the documents where it is declined, for a file by the reader of
-// routes.rs, and for a grid that is written by Rust's own digits. And what the
-// library gives for the same case. A text that was written is read back, and a
-// grid that was read is written back.
+// numbers of the documents where it is declined, for a search of a grid with
+// holes by the rules alone (holes.rs), for a file by the reader of routes.rs,
+// and for a grid that is written by Rust's own digits. And what the library
+// gives for the same case. A text that was written is read back, and a grid
+// that was read is written back.
 
-use crate::answers::{limited, make_call, read_state, whole, Call, Pads, Run, State};
+use crate::answers::{limited, make_call, read_state, whole, Call, Pads, Run, State, BLANK, HOLE};
 use crate::cases::{Asked, Case, Given};
-use crate::{library, routes};
+use crate::{holes, library, routes};
 use reference::board::Board;
 
 /// What fills each lent slice before a call, so that a stray store shows.
@@ -37,7 +38,7 @@ pub fn grid_refusal(grid: &Given) -> (u64, u64) {
     if grid.cells.len() != height * width {
         return (8, 0);
     }
-    let bad = |cell: &i32| *cell < -1 || *cell > LARGEST_CODE;
+    let bad = |cell: &i32| *cell < HOLE || *cell > LARGEST_CODE;
     grid.cells
         .iter()
         .position(bad)
@@ -50,7 +51,7 @@ fn board_pads(grid: &Given) -> Pads {
         return Pads {
             height: 2,
             width: 2,
-            cells: vec![-1; 4],
+            cells: vec![BLANK; 4],
         };
     }
     Pads {
@@ -175,6 +176,10 @@ fn expected_search(grid: &Given, lent: usize, limit: u64, room: usize) -> Answer
         return search_answer(refusal, &Run::new(), lent, room);
     }
     let pads = board_pads(grid);
+    if pads.has_hole() {
+        let run = holes::beginning(&pads, &holes::whole_list(&pads), limit, room);
+        return search_answer(refusal, &run, lent, room);
+    }
     let run = limited(&pads, limit, room);
     if run.outcome == 0 {
         assert!(run == whole(&pads), "backtrack written again differs");
@@ -229,7 +234,7 @@ fn read_answer(
                 answer.numbers = vec![number as u64, line as u64, field as u64, 0, 0];
             }
         }
-        answer.cells.resize(256, -1);
+        answer.cells.resize(256, BLANK);
     }
     answer.numbers.resize(lent, FILL as u64);
     answer.cells.resize(cells_lent, FILL as i32);
@@ -275,13 +280,16 @@ fn expected_file(lent: usize, cells_lent: usize, bytes: &[u8]) -> Answer {
     answer
 }
 
-/// The text of a grid, its codes as `digits` gives them, its blank pads empty.
+/// The text of a grid, its codes as `digits` gives them, its blank pads empty,
+/// its holes as `#`.
 pub fn grid_text(grid: &Given, mut digits: impl FnMut(i32) -> String) -> String {
     let (height, width) = grid.size;
     let mut text = format!("{height},{width}\n");
     for (index, cell) in grid.cells.iter().enumerate() {
-        if *cell != -1 {
-            text += &digits(*cell);
+        match *cell {
+            BLANK => {}
+            HOLE => text.push('#'),
+            code => text += &digits(code),
         }
         let last = (index + 1) % width == 0;
         text.push(if last { '\n' } else { ',' });
@@ -310,6 +318,19 @@ fn expected_write(grid: &Given, lent: usize, room: usize) -> Answer {
         answer.back = vec![read_answer(Ok(board_pads(grid)), 5, 256); 2];
     }
     answer
+}
+
+/// Whether it is known what the case must give. The reference knows no holes:
+/// of a board with holes it is not, of a search only where the grid is small.
+pub fn is_known(case: &Case) -> bool {
+    match case {
+        Case::Board { grid, .. } => !board_pads(grid).has_hole(),
+        Case::Search { grid, .. } => {
+            let pads = board_pads(grid);
+            !pads.has_hole() || holes::is_small(&pads)
+        }
+        _ => true,
+    }
 }
 
 pub fn expected(case: &Case) -> Answer {

@@ -59,15 +59,16 @@ pub fn check_beginning(all: &Run, run: &Run, limit: u64, room: usize, length: us
     }
 }
 
-/// Limits and rooms about the places where a run ends.
+/// Limits and rooms about the places where a run ends; a run that visits no
+/// board ends at once.
 pub fn runs_of(random: &mut Random, all: &Run, length: usize, kind: usize) -> Vec<(u64, usize)> {
     let fitting = all.layouts.min(ROOM / length) * length;
     let mut runs = vec![(LIMIT, ROOM)];
     match kind % 4 {
-        0 => runs.extend([(all.visited - 1, ROOM), (all.visited, ROOM)]),
+        0 => runs.extend([(all.visited.saturating_sub(1), ROOM), (all.visited, ROOM)]),
         1 => runs.extend([(LIMIT, fitting), (LIMIT, fitting.saturating_sub(1))]),
         2 => {
-            runs.push((random.below(all.visited as usize) as u64, ROOM));
+            runs.push((random.below(all.visited.max(1) as usize) as u64, ROOM));
             runs.push((random.below(2) as u64, ROOM));
         }
         _ => {

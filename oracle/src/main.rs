@@ -23,6 +23,8 @@ mod compare;
 #[cfg(library)]
 mod expected;
 #[cfg(library)]
+mod holes;
+#[cfg(library)]
 mod library;
 #[cfg(library)]
 mod smallest;
@@ -39,6 +41,14 @@ and, where it is built with the library:
   oracle compare counts CALLS SEARCHES FILES [SEED]
   oracle case 'TEXT'                    one case, as the comparison printed it
   oracle bench GRID-FILE..              the table of times of the library and the reference";
+
+/// The exit status where the grid has holes, which the reference does not know.
+const NOT_KNOWN: i32 = 3;
+
+fn end_not_known() -> ! {
+    eprintln!("the grid has holes, which the reference does not know: no answer");
+    std::process::exit(NOT_KNOWN);
+}
 
 /// The commands that need the library; false for any other.
 #[cfg(library)]
@@ -57,11 +67,11 @@ fn with_library(words: &[&str]) -> bool {
             };
             compare::compare_counts(wanted, seed(given));
         }
-        ["case", text] => {
-            if !compare::replay_case(text) {
-                std::process::exit(1);
-            }
-        }
+        ["case", text] => match compare::replay_case(text) {
+            Some(true) => {}
+            Some(false) => std::process::exit(1),
+            None => end_not_known(),
+        },
         ["bench", files @ ..] => bench::print_table(&named(files)),
         _ => return false,
     }
@@ -115,7 +125,10 @@ fn main() {
             std::io::stdin()
                 .read_to_end(&mut file)
                 .expect("standard input");
-            print!("{}", routes::printed(&file));
+            match routes::printed(&file) {
+                Some(text) => print!("{text}"),
+                None => end_not_known(),
+            }
         }
         words => {
             if !with_library(words) {

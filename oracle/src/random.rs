@@ -2,7 +2,7 @@
 // every kind and sequences of board calls. The same seed gives the same
 // grids and calls on every machine.
 
-use crate::answers::{limited, make_call, Call, Pads, LINE, NONE, UNDECIDED};
+use crate::answers::{limited, make_call, Call, Pads, BLANK, LINE, NONE, UNDECIDED};
 use reference::board::Board;
 
 pub struct Random {
@@ -38,7 +38,7 @@ impl Random {
 /// The codes that a grid of the streams may hold: 0 to 249, and the five largest.
 pub const LARGEST_CODE: i32 = 2147483646;
 
-/// A grid of the given size, of a kind chosen at random.
+/// A grid of the given size without holes, of a kind chosen at random.
 pub fn any_pads(random: &mut Random, height: usize, width: usize) -> Pads {
     match random.below(10) {
         0 => blank_pads(height, width),
@@ -52,7 +52,7 @@ fn blank_pads(height: usize, width: usize) -> Pads {
     Pads {
         height,
         width,
-        cells: vec![-1; height * width],
+        cells: vec![BLANK; height * width],
     }
 }
 

@@ -1,9 +1,9 @@
-// What the program `routes` prints for a file. The file is read here in
-// another way than by a walk over its bytes: every refusal of the documents is
-// looked for by itself, and the one at the first byte counts, there the one
-// that is tested first.
+// What the program `routes` prints for a file, where the grid has no holes.
+// The file is read here in another way than by a walk over its bytes: every
+// refusal of the documents is looked for by itself, and the one at the first
+// byte counts, there the one that is tested first.
 
-use crate::answers::{limited, Pads, Run, LINE};
+use crate::answers::{limited, Pads, Run, BLANK, HOLE, LINE};
 use crate::grids::{LIMIT, ROOM};
 
 const LARGEST: u64 = 2147483646;
@@ -51,6 +51,28 @@ impl Field<'_> {
     fn value(&self) -> Option<u64> {
         std::str::from_utf8(self.text).ok()?.parse().ok()
     }
+
+    fn in_header(&self) -> bool {
+        self.line == 1
+    }
+
+    /// How many bytes stand before the first disallowed one. A field of a row
+    /// is fine as `#` alone; any other field has digits only.
+    fn before_disallowed(&self) -> Option<usize> {
+        match self.text {
+            [b'#', behind @ ..] if !self.in_header() => (!behind.is_empty()).then_some(1),
+            text => text.iter().position(|byte| !byte.is_ascii_digit()),
+        }
+    }
+
+    /// What an accepted field of a row says.
+    fn cell(&self) -> i32 {
+        match self.text {
+            [] => BLANK,
+            [b'#'] => HOLE,
+            _ => self.value().expect("digits") as i32,
+        }
+    }
 }
 
 /// The fields of the file, the last one being that in which the file ends.
@@ -76,7 +98,7 @@ fn fields(file: &[u8]) -> Vec<Field<'_>> {
 
 /// H and W, where the first line is in order.
 fn size(fields: &[Field]) -> Option<(usize, usize)> {
-    let header: Vec<&Field> = fields.iter().filter(|field| field.line == 1).collect();
+    let header: Vec<&Field> = fields.iter().filter(|field| field.in_header()).collect();
     let good = |field: &Field| field.value().filter(|value| (2..=16).contains(value));
     if header.len() != 2 || fields.len() == 2 {
         return None;
@@ -85,11 +107,12 @@ fn size(fields: &[Field]) -> Option<(usize, usize)> {
 }
 
 /// Refusals 1, 13, 2, 3 and 4 of one field, on a line that must have `wanted`
-/// fields. What stands before its first disallowed byte are digits.
+/// fields.
 fn field_refusals(field: &Field, wanted: usize, ended: bool, found: &mut Vec<Refusal>) {
     let (line, number) = (field.line, field.field);
-    if let Some(at) = field.text.iter().position(|byte| !byte.is_ascii_digit()) {
-        let disallowed = if at == 0 { 1 } else { 13 };
+    if let Some(at) = field.before_disallowed() {
+        let after_digit = field.text[..at].iter().any(u8::is_ascii_digit);
+        let disallowed = if after_digit { 13 } else { 1 };
         found.push(refusal(field.start + at, disallowed, line, number));
     }
     if field.text.len() > 10 {
@@ -131,7 +154,7 @@ pub fn read(file: &[u8]) -> Result<Pads, (usize, usize, usize)> {
     let mut found = Vec::new();
     for (index, field) in fields.iter().enumerate() {
         let ended = index + 1 < fields.len();
-        if field.line == 1 {
+        if field.in_header() {
             field_refusals(field, 2, ended, &mut found);
             header_refusals(file, field, &mut found);
         } else if let Some((_, width)) = size {
@@ -146,7 +169,7 @@ pub fn read(file: &[u8]) -> Result<Pads, (usize, usize, usize)> {
     let (height, width) = size.expect("a size where nothing is refused");
     let cells = fields[2..2 + height * width]
         .iter()
-        .map(|field| field.value().map_or(-1, |value| value as i32))
+        .map(Field::cell)
         .collect();
     Ok(Pads {
         height,
@@ -181,9 +204,11 @@ fn list(pads: &Pads, run: &Run) -> String {
     text
 }
 
-pub fn printed(file: &[u8]) -> String {
+/// Nothing where the grid has holes: the reference cannot search it.
+pub fn printed(file: &[u8]) -> Option<String> {
     match read(file) {
-        Ok(pads) => list(&pads, &limited(&pads, LIMIT, ROOM)),
-        Err((number, line, field)) => format!("refused,{number},{line},{field}\n"),
+        Ok(pads) if pads.has_hole() => None,
+        Ok(pads) => Some(list(&pads, &limited(&pads, LIMIT, ROOM))),
+        Err((number, line, field)) => Some(format!("refused,{number},{line},{field}\n")),
     }
 }

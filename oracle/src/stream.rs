@@ -1,7 +1,7 @@
 // The streams of bytes that a program replays with no Rust at hand, and the
 // checksum of what it must find. README.md beside this folder describes both.
 
-use crate::answers::{Call, Pads, State, LINE, NONE};
+use crate::answers::{Call, Pads, State, BLANK, LINE, NONE};
 use crate::random::LARGEST_CODE;
 
 const MODULUS: u64 = 4294967291;
@@ -41,13 +41,13 @@ impl Checksum {
 }
 
 /// A cell is one byte: 0 for blank, b - 1 for 1 to 250, and 2147483391 + b
-/// for 251 to 255.
+/// for 251 to 255. A hole has none.
 fn cell_byte(cell: i32) -> u8 {
     match cell {
-        -1 => 0,
+        BLANK => 0,
         0..=249 => cell as u8 + 1,
         _ => {
-            assert!(cell > LARGEST_CODE - 5, "code {cell} has no byte");
+            assert!(cell > LARGEST_CODE - 5, "cell {cell} has no byte");
             (cell - (LARGEST_CODE - 255)) as u8
         }
     }

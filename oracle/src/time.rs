@@ -64,11 +64,13 @@ fn line(name: &str, pads: &Pads) -> f64 {
 
 /// A line for each file: name, visited boards, seconds with limit and room,
 /// billionths of a second for each board, seconds of the reference's own
-/// `solve` where the search ends; then the sum of the seconds.
+/// `solve` where the search ends; then the sum of the seconds. A file that is
+/// refused or has holes only says so.
 pub fn print_times(files: &[(&str, Vec<u8>)]) {
     let mut sum = 0.0;
     for (name, file) in files {
         match read(file) {
+            Ok(pads) if pads.has_hole() => println!("{name} has holes"),
             Ok(pads) => sum += line(name, &pads),
             Err(refusal) => println!("{name} refused {refusal:?}"),
         }

@@ -1,6 +1,6 @@
 -- The fresh board, the reading and the decision: why the answers say what the model's do. A decision of the code knows of a grid only its sizes
--- and which pads are blank, and so does the model's (boardview's SameBlanks.antt); the number of undecided edges keeps it from needing more
--- than the model's bound (boardview's Undecided.antt).
+-- and whether each pad is blank, a clue or a hole, and so does the model's (boardview's SameKinds.antt); the number of undecided edges keeps
+-- it from needing more than the model's bound (boardview's Undecided.antt).
 use Prim.Native.Nat.{ℕ, _+_, _*_}
 use mathlib.Core.Path.{_≡_, refl, sym, ap, _∙_}
 use mathlib.Core.Bool.{true, false}
@@ -18,7 +18,7 @@ use Rattle.model.specs.RefusalLaws.{not-refused}
 use Rattle.model.specs.Calls as model
 use Rattle.boardview.specs.View.{Arrays, view, flag-in, grid-in, Decided}
 use Rattle.boardfresh.specs.FreshView.{FreshBoard}
-use Rattle.boardview.specs.SameBlanks.{shown-decides}
+use Rattle.boardview.specs.SameKinds.{shown-decides}
 use Rattle.boardview.specs.Undecided.{enough-here}
 use Rattle.board.specs.Past.{past-since, past-fresh, standing-marks}
 use Rattle.board.specs.Held.{arrays-of, Held, Says}
@@ -39,7 +39,7 @@ module _ (b : Board) (B : model.Board) (held : Held b B) (e : Edge) (m : EdgeSta
       ∙ ap (λ (f : ℕ). decide (B .grid) f e m (B .state)) same-bound
 
   pub decided-says : {answer : ℕ} → answer ≡ num (flag-in (s .count))
-      → Says (record { number = 0; answer = answer; board = record { edges = s .edges; ends = s .ends; log = s .log; kind = b .kind; count = s .count; marks = b .marks; standing = b .standing } }) (model.decided B e m)
+      → Says (record { number = 0; answer = answer; board = record { edges = s .edges; ends = s .ends; log = s .log; kind = b .kind; count = s .count; fresh = b .fresh; marks = b .marks; standing = b .standing } }) (model.decided B e m)
   unfolding view
   decided-says flag = record {
     number = refl;
@@ -51,7 +51,8 @@ module _ (b : Board) (B : model.Board) (held : Held b B) (e : Edge) (m : EdgeSta
       shows = state-after;
       few = held .few;
       many = held .many;
-      past = past-since (grid-in (b .kind)) (B .grid) (arrays-of b) s (did .since) (did .ready .log-long) (held .past);
+      no-entries = held .no-entries;
+      past = past-since (grid-in (b .kind)) (B .grid) (held .no-entries) (arrays-of b) s (did .since) (did .ready .log-long) (held .past);
     };
   }
 
@@ -91,17 +92,19 @@ module _ (b : Board) (B : model.Board) (held : Held b B) (y x : ℕ) where
     edge-read is = rw there (record { number = refl; answer = is ∙ ap (λ S. model.state-byte (S .edge e)) (held .shows); board = held })
 
 -- THE FRESH BOARD
-pub fresh-held : (g : Grid) (edges : List ℕ) (ends : List ℤ) (kind : List ℕ) (log : List ℤ) (marks : List ℕ) → FreshBoard g edges ends kind → length log ≡ 2048 → length marks ≡ 256
-    → Held (record { edges = edges; ends = ends; log = log; kind = kind; count = 0; marks = marks; standing = 0 }) (model.fresh-board g)
+pub fresh-held : (g : Grid) (edges : List ℕ) (ends : List ℤ) (kind : List ℕ) (count : ℕ) (log : List ℤ) (marks : List ℕ)
+    → FreshBoard g edges ends kind count → length log ≡ 2048 → length marks ≡ 256
+    → Held (record { edges = edges; ends = ends; log = log; kind = kind; count = count; fresh = count; marks = marks; standing = 0 }) (model.fresh-board g)
 unfolding model.fresh-board standing-marks
-fresh-held g edges ends kind log marks new long many = record {
+fresh-held g edges ends kind count log marks new long many = record {
   kinds = new .kinds;
-  told = record { height = new .same-height; width = new .same-width; blanks = new .same-blanks };
+  told = new .told;
   ready = new .ready log long;
   shows = new .shows log;
   few = omega arith;
   many = many;
-  past = past-fresh (grid-in kind) g (record { edges = edges; ends = ends; log = log; count = 0 }) refl (new .ready log long) (new .shows log);
+  no-entries = new .no-entries;
+  past = past-fresh (grid-in kind) g (record { edges = edges; ends = ends; log = log; count = count }) (new .ready log long) (new .shows log);
 }
 
 module _ (height width : ℕ) (cells : List ℤ) where

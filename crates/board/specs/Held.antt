@@ -1,12 +1,12 @@
 -- What a board of the code holds of the model's board, and what an answer says. A board that the calls handed out holds one (IsBoard); that,
 -- and no more, is given of it. It rests on Past.antt, boardview's View.antt and the model's Calls.antt.
-use Prim.Native.Nat.{ℕ, _*_, _≤_}
+use Prim.Native.Nat.{ℕ, _*_, _%_, _≤_}
 use mathlib.Core.Path.{_≡_}
 use lib.ListN.{length, take}
 use Rattle.rules.specs.Grid.{places}
 use Rattle.model.specs.Calls as model
 use Rattle.boardview.specs.View.{Arrays, grid-in, Kinds, Ready, view}
-use Rattle.boardview.specs.SameBlanks.{Shows as Told}
+use Rattle.boardview.specs.SameKinds.{Shows as Told}
 use Rattle.board.specs.Past.{Past, standing-marks}
 use Rattle.board.specs.declared.Board.{Board}
 use Rattle.board.specs.declared.Answer.{Answer}
@@ -16,7 +16,7 @@ use Rattle.board.specs.declared.Shown.{Shown}
 abbrev pub arrays-of : Board → Arrays
 arrays-of b = record { edges = b .edges; ends = b .ends; log = b .log; count = b .count }
 
--- HELD: the grid, the state, and the states at the standing checkpoints
+-- HELD: the grid, the state, and the states at the standing checkpoints; behind them the fresh board, whose log is empty
 pub record Held (b : Board) (B : model.Board) : Type 0 where
   pub kinds : Kinds (b .kind)
   pub told : Told (B .grid) (b .kind)
@@ -24,7 +24,8 @@ pub record Held (b : Board) (B : model.Board) : Type 0 where
   pub shows : view (arrays-of b) ≡ B .state
   pub few : b .standing ≤ 256
   pub many : length (b .marks) ≡ 256
-  pub past : Past (grid-in (b .kind)) (B .grid) (arrays-of b) (standing-marks (b .marks) (b .standing)) (B .standing)
+  pub no-entries : b .fresh % 1024 ≡ 0
+  pub past : Past (grid-in (b .kind)) (B .grid) (b .fresh) (arrays-of b) (standing-marks (b .marks) (b .standing)) (B .standing)
 
 -- A BOARD that the calls handed out
 abbrev pub IsBoard : Board → Type 0

@@ -1,8 +1,9 @@
 -- What undo gives back: the arrays of a board hold the state at each standing checkpoint, and the fresh board behind them all, in that
--- undoing the entries of the log made since gives them. A checkpoint is marked by the count that stood then: the log's length and the flag.
+-- undoing the entries of the log made since gives them. A checkpoint is marked by the count that stood then: the log's length and the flag;
+-- and so is the fresh board, whose log is empty and whose flag may be set.
 -- It rests on boardview's View.antt and Unwind.antt.
 use Prim.Native.Nat.{ℕ, zero, suc, _+_, _*_, _-_, _%_, _≤_, _<_}
-use mathlib.Core.Path.{_≡_, refl, sym, ap, _∙_}
+use mathlib.Core.Path.{_≡_, refl, ap, _∙_}
 use mathlib.Core.List.{List, [], _∷_}
 use native.Mathlib.Omega.{arith}
 use lib.ListN.{getD, set, length}
@@ -11,6 +12,7 @@ use lib.IntN.{ℤ, pos}
 use Rattle.rules.specs.Grid.{Grid}
 use Rattle.model.specs.Board.{State, fresh}
 use Rattle.boardview.specs.View.{Arrays, logged, view, Entry, Ready, unwound, Since}
+use Rattle.boardview.specs.Stores.{relogged}
 use Rattle.boardview.specs.Unwind.{unwound-split, kept-unwound}
 
 -- edges and ends as they were when the log had the length of this mark
@@ -21,14 +23,15 @@ before width s mark = unwound width (s .log) (mark % 1024) (logged s - mark % 10
 unfoldable pub back-to : ℕ → Arrays → ℕ → Arrays
 back-to width s mark = record { edges = before width s mark .0; ends = before width s mark .1; log = s .log; count = mark }
 
--- THE PAST of a board: the marks of the standing checkpoints, the last one first, and the states that stood then; behind them the fresh board
-pub data Past (told g : Grid) : Arrays → List ℕ → List State → Type 0 where
-  begun : {s : Arrays} → Ready told (back-to (told .width) s 0) → view (back-to (told .width) s 0) ≡ fresh g → Past told g s [] []
+-- THE PAST of a board: the marks of the standing checkpoints, the last one first, and the states that stood then; behind them the fresh board,
+-- at the mark `start`
+pub data Past (told g : Grid) (start : ℕ) : Arrays → List ℕ → List State → Type 0 where
+  begun : {s : Arrays} → Ready told (back-to (told .width) s start) → view (back-to (told .width) s start) ≡ fresh g → Past told g start s [] []
   marked : {s : Arrays} {mark : ℕ} {marks : List ℕ} {S : State} {states : List State}
       → mark % 1024 ≤ logged s → Ready told (back-to (told .width) s mark) → view (back-to (told .width) s mark) ≡ S
-      → Past told g (back-to (told .width) s mark) marks states → Past told g s (mark ∷ marks) (S ∷ states)
+      → Past told g start (back-to (told .width) s mark) marks states → Past told g start s (mark ∷ marks) (S ∷ states)
 
-pub same-many : {told g : Grid} {s : Arrays} {marks : List ℕ} {states : List State} → Past told g s marks states → length states ≡ length marks
+pub same-many : {told g : Grid} {start : ℕ} {s : Arrays} {marks : List ℕ} {states : List State} → Past told g start s marks states → length states ≡ length marks
 same-many (begun ready shows) = refl
 same-many (marked low ready shows past) = ap suc (same-many past)
 
@@ -61,21 +64,8 @@ entry-kept told log others k kept entry = record {
 
 ready-log : (told : Grid) (s : Arrays) (log : List ℤ) → length log ≡ 2048 → ((i : ℕ) → i < 4 * logged s → getD log i (pos 0) ≡ getD (s .log) i (pos 0))
     → Ready told s → Ready told (record { edges = s .edges; ends = s .ends; log = log; count = s .count })
-ready-log told s log long kept ready = record {
-  edges-long = ready .edges-long;
-  ends-long = ready .ends-long;
-  log-long = long;
-  least-width = ready .least-width;
-  largest-width = ready .largest-width;
-  few-pads = ready .few-pads;
-  mode = ready .mode;
-  room = ready .room;
-  entries = λ k below. entry-kept told (s .log) log k (λ i low. kept i (omega arith)) (ready .entries k below);
-  bytes = ready .bytes;
-  rim = ready .rim;
-  near = ready .near;
-  paired = ready .paired;
-}
+ready-log told s log long kept ready = relogged told s log (s .count) ready long (ready .mode) (omega arith)
+    (λ k below. entry-kept told (s .log) log k (λ i low. kept i (omega arith)) (ready .entries k below))
 
 module _ (told g : Grid) where
   ready-before : (s t : Arrays) → Since (told .width) s t → length (t .log) ≡ 2048 → (mark : ℕ) → mark % 1024 ≤ logged s
@@ -90,26 +80,28 @@ module _ (told g : Grid) where
   view-before s t since mark low = rw (same-before (told .width) s t since mark low) refl
 
   -- THE PAST STAYS: what is decided later is undone first
-  pub past-since : (s t : Arrays) {marks : List ℕ} {states : List State} → Since (told .width) s t → length (t .log) ≡ 2048 → Past told g s marks states → Past told g t marks states
+  pub past-since : {start : ℕ} → start % 1024 ≡ 0 → (s t : Arrays) {marks : List ℕ} {states : List State} → Since (told .width) s t → length (t .log) ≡ 2048
+      → Past told g start s marks states → Past told g start t marks states
   unfolding back-to
-  past-since s t since long (begun ready shows) = begun (ready-before s t since long 0 (omega arith) ready) (view-before s t since 0 (omega arith) ∙ shows)
-  past-since s t since long (marked {mark = mark} low ready shows past) = marked {s = t} {mark = mark} (omega (arith, since .longer)) (ready-before s t since long mark low ready)
-      (view-before s t since mark low ∙ shows) (past-since (back-to (told .width) s mark) (back-to (told .width) t mark) (since-before (told .width) s t since mark low) long past)
+  past-since {start} empty s t since long (begun ready shows) = begun (ready-before s t since long start (omega arith) ready) (view-before s t since start (omega arith) ∙ shows)
+  past-since empty s t since long (marked {mark = mark} low ready shows past) = marked {s = t} {mark = mark} (omega (arith, since .longer)) (ready-before s t since long mark low ready)
+      (view-before s t since mark low ∙ shows) (past-since empty (back-to (told .width) s mark) (back-to (told .width) t mark) (since-before (told .width) s t since mark low) long past)
 
   -- back to where the board stands
-  pub here : (s : Arrays) (mark : ℕ) → mark ≡ s .count → back-to (told .width) s mark ≡ s
+  here : (s : Arrays) → back-to (told .width) s (s .count) ≡ s
   unfolding back-to unwound
-  here s mark same = rw same (rw none refl)
+  here s = rw none refl
     where
       none : logged s - logged s ≡ 0
       none = omega arith
 
   -- A FRESH BOARD, and a checkpoint
-  pub past-fresh : (s : Arrays) → s .count ≡ 0 → Ready told s → view s ≡ fresh g → Past told g s [] []
-  past-fresh s zero-count ready shows = let at = here s 0 (sym zero-count) in begun {s = s} (rw at ready) (rw at shows)
+  pub past-fresh : (s : Arrays) → Ready told s → view s ≡ fresh g → Past told g (s .count) s [] []
+  past-fresh s ready shows = let at = here s in begun {s = s} (rw at ready) (rw at shows)
 
-  pub past-marked : (s : Arrays) {marks : List ℕ} {states : List State} → Ready told s → Past told g s marks states → Past told g s (s .count ∷ marks) (view s ∷ states)
-  past-marked s {marks} {states} ready past = let at = here s (s .count) refl in marked {s = s} {mark = s .count} {marks = marks} {states = states} (omega arith) (rw at ready) (ap view at) (rw at past)
+  pub past-marked : (s : Arrays) {start : ℕ} {marks : List ℕ} {states : List State} → Ready told s → Past told g start s marks states
+      → Past told g start s (s .count ∷ marks) (view s ∷ states)
+  past-marked s {marks} {states} ready past = let at = here s in marked {s = s} {mark = s .count} {marks = marks} {states = states} (omega arith) (rw at ready) (ap view at) (rw at past)
 
 -- THE MARKS that stand, the last one first
 unfoldable pub standing-marks : List ℕ → ℕ → List ℕ

@@ -22,14 +22,16 @@ use grid::Pads;
 // The most checkpoints that may stand.
 const MOST_CHECKPOINTS: usize = 256;
 
-// A byte for each edge, an end number for each pad, the log of decided edges, what is told of the grid, the log's length with the flag,
-// and the marks of the standing checkpoints: the count that stood then.
+// A byte for each edge, an end number for each pad, the log of decided edges, what is told of the grid, the log's length with the flag;
+// the count of the fresh board, to which undo with no checkpoint standing goes back, flag and all; and the marks of the standing
+// checkpoints: the count that stood then.
 pub struct Board {
     edges: [u8; 1024],
     ends: [i32; 512],
     log: [i32; 2048],
     kind: [u8; 1024],
     count: usize,
+    fresh: usize,
     marks: [usize; 256],
     standing: usize,
 }
@@ -141,7 +143,8 @@ fn fresh(height: usize, width: usize, cells: &[i32]) -> Board
         ends,
         log: no_entries(),
         kind,
-        count: 0,
+        count: arrays.count,
+        fresh: arrays.count,
         marks: no_marks(),
         standing: 0,
     }
@@ -182,6 +185,7 @@ fn decided(board: Board, pads: Pads, line: bool) -> Answer
             log,
             kind,
             count,
+            fresh: board.fresh,
             marks,
             standing: board.standing,
         },
@@ -213,6 +217,7 @@ fn back_to(board: Board, mark: usize, standing: usize) -> Board
         log,
         kind,
         count: mark,
+        fresh: board.fresh,
         marks,
         standing,
     }
@@ -326,7 +331,7 @@ impl Board {
     {
         let standing = self.standing;
         if standing == 0 {
-            return back_to(self, 0, 0);
+            return back_to(self, self.fresh, 0);
         }
         let mark = self.marks[standing - 1];
         back_to(self, mark, standing - 1)

@@ -1,8 +1,3 @@
--- The arrays of a fresh board: what they hold, and that they show the model's fresh board.
-pub mod FreshArrays
-pub mod Filling
-pub mod EdgeBytes
-pub mod KindBits
-pub mod Bars
-pub mod Room
+-- What the fresh board's arrays show, and why shutting the holes makes them so.
+pub mod Shutting
 pub mod FreshView

@@ -1,318 +1,130 @@
-// The arrays of a fresh board, from the sizes and a lent list of cells: a byte for each edge, an end number for each pad, and the kinds
-// of the pads. What they hold is said in specs/FreshArrays.antt; that they show the model's fresh board is proved in specs/FreshView.antt.
+// The arrays of a fresh board, from the sizes and a lent list of cells: those of the bare one (crate boardbare), on which every edge at a
+// hole has been put to a decision as none, holes in index order, each left, right, up, down, even once the flag is set. The log begins
+// anew after that, so nothing can be undone behind it. That they show the model's fresh board is proved in specs/FreshView.antt.
 ghost use mathlib.Core.Path.{_≡_};
-ghost use mathlib.Core.Bool.{true, false};
-ghost use Prim.Native.Nat.{_+_, _*_, _≤_, _<_};
-ghost use lib.ListN.{length, set};
-ghost use Rattle.rules.specs.Grid.{Size, Accepted, grid-of};
-ghost use Rattle.boardview.specs.View.{bytes-equal, undecided-side, action-code, action-entry};
-ghost use Rattle.boardfresh.specs.FreshArrays.{right-byte, down-byte, edge-byte, EdgesFrom, end-number-at, EndsFrom, CellsInRange, kind-byte, is-clue, corner-test, barred-in, barred-below, bar-test, kind-from, TableFrom, FreshKinds};
-ghost use Rattle.boardfresh.specs.FreshView.{FreshBoard};
-use boardparts::BAR_LEFT;
-use boardparts::BAR_RIGHT;
+ghost use Prim.Native.Nat.{ℕ, _+_, _*_, _-_, _≤_, _<_};
+ghost use lib.ListN.{length};
+ghost use Rattle.rules.specs.Grid.{Accepted, grid-of, pads};
+ghost use Rattle.model.specs.Board.{isHole, shut-at, prepared};
+ghost use Rattle.boardview.specs.View.{grid-in, Kinds, Ready, view};
+ghost use Rattle.boardfresh.specs.Shutting.{Shown, shut-slot};
+ghost use Rattle.boardfresh.specs.FreshView.{restarted, FreshBoard};
 use boardparts::CLUE;
-use boardparts::CORNER_LEFT;
-use boardparts::CORNER_RIGHT;
+use boardparts::ENDED;
+use boardparts::FLAGGED;
+use boardparts::TAKEN;
 use grid::Edge;
 
-// The bytes of an edge's states, as the edge type names them.
-const UNDECIDED: u8 = Edge::UNDECIDED.0;
-
-const LINE: u8 = Edge::LINE.0;
-
+// The byte of an edge that is none, as the edge type names it.
 const NONE: u8 = Edge::NONE.0;
 
-// The byte of the edge to the right of a pad: undecided, or none in the last column and past the last pad.
-fn right_byte(width: usize, pads: usize, v: usize) -> u8
-    requires { ⌜ (0 < width) × (width ≤ 16) ⌝ }
-    ensures { λ r. ⌜ r ≡ right-byte width pads v ⌝ }
+// Whether a pad is a hole: taken, and no clue.
+fn is_hole(kind: &[u8; 1024], v: usize) -> bool
+    requires { ⌜ v < 256 ⌝ }
+    ensures { λ r. ⌜ r ≡ isHole (grid-in (now (kind .entry)) .cell v) ⌝ }
 {
-    if v < pads {
-        if v % width + 1 < width {
-            return UNDECIDED;
-        }
-    }
-    NONE
-}
-
-// The byte of the edge downward: undecided, or none in the last row and past the last pad.
-fn down_byte(width: usize, pads: usize, v: usize) -> u8
-    requires { ⌜ (width ≤ 16) × (v < 512) ⌝ }
-    ensures { λ r. ⌜ r ≡ down-byte width pads v ⌝ }
-{
-    if v + width < pads {
-        return UNDECIDED;
-    }
-    NONE
-}
-
-// The byte of a slot; 32 slots before the first edge hold none.
-fn edge_byte(width: usize, pads: usize, slot: usize) -> u8
-    requires { ⌜ (0 < width) × (width ≤ 16) × (slot < 1024) ⌝ }
-    ensures { λ r. ⌜ r ≡ edge-byte width pads slot ⌝ }
-{
-    if slot < 32 {
-        return NONE;
-    }
-    if slot % 2 == 0 {
-        return right_byte(width, pads, slot / 2 - 16);
-    }
-    down_byte(width, pads, slot / 2 - 16)
-}
-
-// The bytes of all edges; slots that are no edge of the board hold none.
-fn fresh_edges(height: usize, width: usize) -> [u8; 1024]
-    requires { ⌜ Size height × Size width ⌝ }
-    ensures { λ r. ⌜ EdgesFrom width (height * width) 0 r ⌝ }
-{
-    let mut edges = [NONE; 1024];
-    let pads = height * width;
-    let mut slot = 32 + 2 * pads;
-    while 0 < slot {
-        slot -= 1;
-        edges[slot] = edge_byte(width, pads, slot);
-    }
-    edges
-}
-
-// The end number of one pad is stored: its own index, or -v - 2 for a clue of value v.
-fn put_fresh_end(ends: &mut [i32; 512], cells: &[i32], v: usize)
-    requires { ⌜ (v < 512) × CellsInRange (now cells) ⌝ }
-    ensures { λ _. ⌜ now (ends .exit) ≡ set (now (ends .entry)) v (end-number-at (now (cells .entry)) v) ⌝ }
-{
-    if v >= cells.len() {
-        ends[v] = v as i32;
-        return;
-    }
-    let code = cells[v];
-    if code < 0 {
-        ends[v] = v as i32;
-        return;
-    }
-    ends[v] = -code - 2;
-}
-
-// The ends of all pads.
-fn fresh_ends(cells: &[i32]) -> [i32; 512]
-    requires { ⌜ CellsInRange (now cells) ⌝ }
-    ensures { λ r. ⌜ EndsFrom (now (cells .entry)) 0 r ⌝ }
-{
-    let mut ends = [0i32; 512];
-    let mut v = 512;
-    while 0 < v {
-        v -= 1;
-        put_fresh_end(&mut ends, cells, v);
-    }
-    ends
-}
-
-// Whether a pad is a clue.
-fn clue_at(cells: &[i32], v: usize) -> bool
-    requires { ⌜ v < length (now cells) ⌝ }
-    ensures { λ r. ⌜ r ≡ is-clue (now (cells .entry)) v ⌝ }
-{
-    let code = cells[v];
-    if code < 0 {
+    if boardparts::has(kind, v, CLUE) {
         return false;
     }
-    true
+    boardparts::has(kind, v, TAKEN)
 }
 
-// Whether a pad has an edge downward and one to that side.
-fn has_corner(width: usize, pads: usize, right: bool, v: usize) -> bool
-    requires { ⌜ (0 < width) × (width ≤ 16) × (v < 256) ⌝ }
-    ensures { λ r. ⌜ r ≡ corner-test width pads right v ⌝ }
+// Puts the edge at a slot to a decision as none. An edge that is none already stays so, and off the board stands none for ever.
+fn shut_edge(
+    edges: &mut [u8; 1024],
+    ends: &mut [i32; 512],
+    log: &mut [i32; 2048],
+    kind: &[u8; 1024],
+    slot: usize,
+    count: usize,
+) -> usize
+    requires { ⌜ (slot < 1024) × Kinds (now kind) × Ready (grid-in (now kind)) (record { edges = now edges; ends = now ends; log = now log; count = count }) ⌝ }
+    ensures { λ r. ⌜ Shown (grid-in (now (kind .entry))) (record { edges = now (edges .exit); ends = now (ends .exit); log = now (log .exit); count = r })
+        (shut-slot (grid-in (now (kind .entry))) slot (view (record { edges = now (edges .entry); ends = now (ends .entry); log = now (log .entry); count = count }))) ⌝ }
 {
-    if v + width >= pads {
-        return false;
+    if edges[slot] == NONE {
+        return count;
     }
-    if right {
-        return v % width + 1 < width;
+    decision::decide_none(edges, ends, log, kind, slot, count)
+}
+
+// Puts the edges at a pad to a decision as none, if it is a hole: left, right, up, down.
+fn shut_pad(
+    edges: &mut [u8; 1024],
+    ends: &mut [i32; 512],
+    log: &mut [i32; 2048],
+    kind: &[u8; 1024],
+    v: usize,
+    count: usize,
+) -> usize
+    requires { ⌜ (v < pads (grid-in (now kind))) × Kinds (now kind) × Ready (grid-in (now kind)) (record { edges = now edges; ends = now ends; log = now log; count = count }) ⌝ }
+    ensures { λ r. ⌜ Shown (grid-in (now (kind .entry))) (record { edges = now (edges .exit); ends = now (ends .exit); log = now (log .exit); count = r })
+        (shut-at (grid-in (now (kind .entry))) v (view (record { edges = now (edges .entry); ends = now (ends .entry); log = now (log .entry); count = count }))) ⌝ }
+{
+    if !is_hole(kind, v) {
+        return count;
     }
-    0 < v % width
+    let width = boardparts::width(kind);
+    let left = shut_edge(edges, ends, log, kind, 30 + 2 * v, count);
+    let right = shut_edge(edges, ends, log, kind, 32 + 2 * v, left);
+    let up = shut_edge(edges, ends, log, kind, 33 + 2 * v - 2 * width, right);
+    shut_edge(edges, ends, log, kind, 33 + 2 * v, up)
 }
 
-// Whether a pad is barred, by its byte.
-fn is_barred(kind: &[u8; 1024], v: usize, corner: u8, bar: u8) -> bool
-    requires { ⌜ v < 1024 ⌝ }
-    ensures { λ r. ⌜ r ≡ barred-in (now (kind .entry)) v corner bar ⌝ }
+// Shuts all holes, in index order.
+fn shut_holes(
+    edges: &mut [u8; 1024],
+    ends: &mut [i32; 512],
+    log: &mut [i32; 2048],
+    kind: &[u8; 1024],
+) -> usize
+    requires { ⌜ Kinds (now kind) × Ready (grid-in (now kind)) (record { edges = now edges; ends = now ends; log = now log; count = 0 }) ⌝ }
+    ensures { λ r. ⌜ Shown (grid-in (now (kind .entry))) (record { edges = now (edges .exit); ends = now (ends .exit); log = now (log .exit); count = r })
+        (prepared (grid-in (now (kind .entry))) (pads (grid-in (now (kind .entry)))) 0 (view (record { edges = now (edges .entry); ends = now (ends .entry); log = now (log .entry); count = 0 }))) ⌝ }
 {
-    if boardparts::has(kind, v, corner) {
-        return boardparts::has(kind, v, bar);
+    let pads = boardparts::height(kind) * boardparts::width(kind);
+    let mut count = 0;
+    let mut v = 0;
+    while v < pads {
+        count = shut_pad(edges, ends, log, kind, v, count);
+        v += 1;
     }
-    !boardparts::has(kind, v, CLUE)
+    count
 }
 
-// Whether the pad diagonally below on that side is barred.
-fn is_barred_below(kind: &[u8; 1024], width: usize, right: bool, v: usize) -> bool
-    requires { ⌜ (0 < width) × (width ≤ 16) × (v < 256) ⌝ }
-    ensures { λ r. ⌜ r ≡ barred-below (now (kind .entry)) width right v ⌝ }
+// The count of a log that begins anew, with the flag as it is.
+fn restart(count: usize) -> usize
+    ensures { λ r. ⌜ r ≡ restarted count ⌝ }
 {
-    if right {
-        return is_barred(kind, v + width + 1, CORNER_RIGHT, BAR_RIGHT);
-    }
-    is_barred(kind, v + width - 1, CORNER_LEFT, BAR_LEFT)
-}
-
-// Whether a pad with a corner on that side is barred there.
-fn has_bar(kind: &[u8; 1024], width: usize, pads: usize, clue: bool, right: bool, v: usize) -> bool
-    requires { ⌜ (0 < width) × (width ≤ 16) × (v < 256) ⌝ }
-    ensures { λ r. ⌜ r ≡ bar-test (now (kind .entry)) width pads clue right v ⌝ }
-{
-    if !has_corner(width, pads, right, v) {
-        return false;
-    }
-    if clue {
-        return false;
-    }
-    is_barred_below(kind, width, right, v)
-}
-
-// The byte of five facts.
-fn kind_byte(
-    clue: bool,
-    bar_right: bool,
-    bar_left: bool,
-    corner_right: bool,
-    corner_left: bool,
-) -> u8
-    ensures { λ r. ⌜ r ≡ kind-byte clue «bar_right» «bar_left» «corner_right» «corner_left» ⌝ }
-{
-    boardparts::one_if(clue)
-        + BAR_RIGHT * boardparts::one_if(bar_right)
-        + BAR_LEFT * boardparts::one_if(bar_left)
-        + CORNER_RIGHT * boardparts::one_if(corner_right)
-        + CORNER_LEFT * boardparts::one_if(corner_left)
-}
-
-// The byte of a pad, from the bytes of the pads below it.
-fn pad_kind(kind: &[u8; 1024], width: usize, pads: usize, cells: &[i32], v: usize) -> u8
-    requires { ⌜ (0 < width) × (width ≤ 16) × (v < 256) × (v < length (now cells)) ⌝ }
-    ensures { λ r. ⌜ r ≡ kind-from (now (kind .entry)) width pads (now (cells .entry)) v ⌝ }
-{
-    let clue = clue_at(cells, v);
-    let bar_right = has_bar(kind, width, pads, clue, true, v);
-    let bar_left = has_bar(kind, width, pads, clue, false, v);
-    let corner_right = has_corner(width, pads, true, v);
-    let corner_left = has_corner(width, pads, false, v);
-    kind_byte(clue, bar_right, bar_left, corner_right, corner_left)
-}
-
-// How many of four bytes are this one.
-fn bytes_equal(left: u8, right: u8, up: u8, down: u8, byte: u8) -> u8
-    ensures { λ r. ⌜ (r ≡ bytes-equal left right up down byte) × (r ≤ 4) ⌝ }
-{
-    let first = boardparts::one_if(left == byte);
-    let second = boardparts::one_if(right == byte);
-    let third = boardparts::one_if(up == byte);
-    let fourth = boardparts::one_if(down == byte);
-    first + second + third + fourth
-}
-
-// The side of a pad's first undecided edge: 0 left, 1 right, 2 up, 3 down.
-fn undecided_side(left: u8, right: u8, up: u8) -> u8
-    ensures { λ r. ⌜ (r ≡ undecided-side left right up) × (r ≤ 3) ⌝ }
-{
-    if left == UNDECIDED {
+    if count < FLAGGED {
         return 0;
     }
-    if right == UNDECIDED {
-        return 1;
-    }
-    if up == UNDECIDED {
-        return 2;
-    }
-    3
+    ENDED
 }
 
-// What the pad check does last at a pad (`clue` is 1 for a clue, else 0) with these edges: 0 nothing, 1 the flag, 2 + a side a line there,
-// 6 + a side none there.
-fn action_code(clue: u8, left: u8, right: u8, up: u8, down: u8) -> u8
-    requires { ⌜ clue ≤ 1 ⌝ }
-    ensures { λ r. ⌜ r ≡ action-code clue left right up down ⌝ }
-{
-    let degree = clue + bytes_equal(left, right, up, down, LINE);
-    let undecided = bytes_equal(left, right, up, down, UNDECIDED);
-    let side = undecided_side(left, right, up);
-    if 2 < degree {
-        return 1;
-    }
-    if undecided == 0 {
-        if degree == 1 {
-            return 1;
-        }
-        return 0;
-    }
-    if degree == 2 {
-        return 6 + side;
-    }
-    if undecided == 1 {
-        if degree == 1 {
-            return 2 + side;
-        }
-        return 6 + side;
-    }
-    0
-}
-
-// An entry of the pad check's table: the digits of the index are the bytes of the four edges and the clue.
-fn action_entry(i: usize) -> u8
-    requires { ⌜ i < 512 ⌝ }
-    ensures { λ r. ⌜ r ≡ action-entry i ⌝ }
-{
-    action_code(
-        (i / 256) as u8,
-        (i % 4) as u8,
-        (i / 4 % 4) as u8,
-        (i / 16 % 4) as u8,
-        (i / 64 % 4) as u8,
-    )
-}
-
-// The pad check's table behind the kinds, which are not told yet.
-fn fresh_table() -> [u8; 1024]
-    ensures { λ r. ⌜ TableFrom 0 r ⌝ }
-{
-    let mut kind = [0u8; 1024];
-    let mut i = 512;
-    while 0 < i {
-        i -= 1;
-        kind[512 + i] = action_entry(i);
-    }
-    kind
-}
-
-// The kinds of all pads, from the last one up, the sizes, and the pad check's table.
-fn fresh_kind(height: usize, width: usize, cells: &[i32]) -> [u8; 1024]
-    requires { ⌜ Accepted height width (now cells) ⌝ }
-    ensures { λ r. ⌜ FreshKinds height width (now (cells .entry)) r ⌝ }
-{
-    let mut kind = fresh_table();
-    let pads = height * width;
-    let mut v = pads;
-    while 0 < v {
-        v -= 1;
-        kind[v] = pad_kind(&kind, width, pads, cells, v);
-    }
-    kind[510] = height as u8;
-    kind[511] = width as u8;
-    kind
-}
-
-// The arrays of a fresh board.
+// The arrays of a fresh board, and its count: the log is empty, and the flag may be set.
 pub struct Fresh {
     pub edges: [u8; 1024],
     pub ends: [i32; 512],
     pub kind: [u8; 1024],
+    pub count: usize,
 }
 
 // The arrays of the fresh board of an accepted grid.
 pub fn fresh_board(height: usize, width: usize, cells: &[i32]) -> Fresh
     requires { ⌜ Accepted height width (now cells) ⌝ }
-    ensures { λ r. ⌜ FreshBoard (grid-of height width (now (cells .entry))) (r .edges) (r .ends) (r .kind) ⌝ }
+    ensures { λ r. ⌜ FreshBoard (grid-of height width (now (cells .entry))) (r .edges) (r .ends) (r .kind) (r .count) ⌝ }
 {
-    let edges = fresh_edges(height, width);
-    let ends = fresh_ends(cells);
-    let kind = fresh_kind(height, width, cells);
-    Fresh { edges, ends, kind }
+    let bare = boardbare::bare_board(height, width, cells);
+    let mut edges = bare.edges;
+    let mut ends = bare.ends;
+    let kind = bare.kind;
+    let mut log = [0i32; 2048];
+    let count = shut_holes(&mut edges, &mut ends, &mut log, &kind);
+    Fresh {
+        edges,
+        ends,
+        kind,
+        count: restart(count),
+    }
 }

@@ -18,7 +18,8 @@ const UNDECIDED: u8 = Edge::UNDECIDED.0;
 
 const LINE: u8 = Edge::LINE.0;
 
-// What is told of a pad by the bits of its kind: it is a clue; it is barred on a side; it has an edge downward and one to a side.
+// What is told of a pad by the bits of its kind: it is a clue; it is barred on a side; it has an edge downward and one to a side; it is
+// taken, that is not blank but a clue or a hole.
 pub const CLUE: u8 = 1;
 
 pub const BAR_RIGHT: u8 = 2;
@@ -28,6 +29,8 @@ pub const BAR_LEFT: u8 = 4;
 pub const CORNER_RIGHT: u8 = 8;
 
 pub const CORNER_LEFT: u8 = 16;
+
+pub const TAKEN: u8 = 32;
 
 // The count of a board is the length of its log, plus this if the flag is set, and plus this again once the decision has ended.
 pub const FLAGGED: usize = 1024;

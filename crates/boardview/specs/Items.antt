@@ -13,8 +13,8 @@ use borrow.Author.Tests.{eq-eqb, ne-eqb, lt-leb, le-leb, lt-ltb}
 use Rattle.rules.specs.Grid.{Edge, down, first, second, Grid}
 use Rattle.rules.specs.Drawing.{Side}
 use Rattle.rules.specs.Tests.{both-off, neither}
-use Rattle.model.specs.Board.{EdgeState, line, none, isLine, isUndecided, isBlank, sameState, End, through, at-pad, at-clue, isThrough, State, set-edge, set-flag, Item, corner, bar, check-pad, check-end, when, on-board, has-down, has-side, shape-items, do-items, cannot-join, join-ends, after-store, decide, check}
-use Rattle.boardview.specs.View.{Arrays, logged, flag-in, stopped, ended, going, slot, edge-of, slot-on, state-of, view, end-at, has-bit, clue-bit, cell-in, grid-in, joined, undecided-in, Ready, Decided, Done, then, in-a-row, shown, corner-at, bar-at, check-at, beside, unjoinable, pad-number}
+use Rattle.model.specs.Board.{EdgeState, line, none, isLine, isUndecided, isBlank, isClue, sameState, End, through, at-pad, at-clue, isThrough, State, set-edge, set-flag, Item, corner, bar, check-pad, check-end, when, on-board, has-down, has-side, shape-items, do-items, cannot-join, join-ends, after-store, decide, check}
+use Rattle.boardview.specs.View.{Arrays, logged, flag-in, stopped, ended, going, slot, edge-of, slot-on, state-of, view, end-at, has-bit, clue-bit, taken-bit, cell-in, grid-in, joined, undecided-in, Kinds, Ready, Decided, Done, then, in-a-row, shown, corner-at, bar-at, check-at, beside, unjoinable, pad-number}
 use Rattle.boardview.specs.Bytes.{default-free, elim-true, elim-false, undecided-byte-test, view-stored}
 use Rattle.boardview.specs.Unwind.{since-still, since-then, log-stored, log-joined}
 use Rattle.boardview.specs.Stores.{flag-of-ended, ended-of-ended, logged-of-ended, going-count, next-count, recounted, Stored, slot-inside, few-logged, first-inside, second-inside, edge-is-stored, line-is-joined, joined-view}
@@ -24,13 +24,24 @@ use Rattle.boardview.specs.Steps.{row-is, with-count, done-nothing, done
 pub recount-decided : {g : Grid} {s s′ : Arrays} {e : Edge} {m : EdgeState} → Decided g s e m s′ → Ready g (with-count s′ (going (s′ .count)))
 recount-decided {g} {s} {s′} d = let k = going-count (s′ .count) (d .ready .mode) in recounted g s′ (going (s′ .count)) (d .ready) (k .0) (omega (arith, k .1))
 
-pub clue-test : (kind : List ℕ) (q : ℕ) → q < 256 → isBlank (grid-in kind .cell q) ≡ not (has-bit kind q clue-bit)
+-- THE BITS OF A PAD tell whether it is a clue, and whether it is blank
+pub clue-test : (kind : List ℕ) (v : ℕ) → v < 256 → isClue (grid-in kind .cell v) ≡ has-bit kind v clue-bit
 unfolding grid-in
-clue-test kind q h = rw (lt-ltb q 256 h) (go (has-bit kind q clue-bit))
+clue-test kind v h = rw (lt-ltb v 256 h) (go (has-bit kind v clue-bit) (has-bit kind v taken-bit))
   where
-    go : (b : Bool) → isBlank (cell-in b) ≡ not b
-    go true = refl
-    go false = refl
+    go : (c t : Bool) → isClue (cell-in c t) ≡ c
+    go true t = refl
+    go false true = refl
+    go false false = refl
+
+pub blank-test : (kind : List ℕ) → Kinds kind → (v : ℕ) → v < 256 → isBlank (grid-in kind .cell v) ≡ not (has-bit kind v taken-bit)
+unfolding grid-in
+blank-test kind kinds v h = rw (lt-ltb v 256 h) (go (has-bit kind v clue-bit) (has-bit kind v taken-bit) (kinds .clue-taken v h))
+  where
+    go : (c t : Bool) → (c ≡ true → t ≡ true) → isBlank (cell-in c t) ≡ not t
+    go true t taken = rw (taken refl) refl
+    go false true taken = refl
+    go false false taken = refl
 
 -- CORNER
 module _ (kind : List ℕ) (side : Side) (s : Arrays) (y : Ready (grid-in kind) s) (q a : ℕ) (h : a < 1024) (going-on : s .count < 2048) where
@@ -50,15 +61,15 @@ module _ (kind : List ℕ) (side : Side) (s : Arrays) (y : Ready (grid-in kind) 
     corner-on : slot-on g a ≡ true
     corner-on = slot-is-on g s y a h (omega arith)
 
-    module _ (b : q < 256) where
-      pub corner-clue : has-bit kind q clue-bit ≡ true → Done g 1 s (corner-at g side q a) s
+    module _ (kinds : Kinds kind) (b : q < 256) where
+      pub corner-taken : has-bit kind q taken-bit ≡ true → Done g 1 s (corner-at g side q a) s
       unfolding corner-at
-      corner-clue t = rw corner-on (done-still g 1 s _ y going-on
-          (λ f. corner-no g (decide g f) (check g f) (view s) q _ _ _ _ (rw (clue-test kind q b, t) refl)))
+      corner-taken t = rw corner-on (done-still g 1 s _ y going-on
+          (λ f. corner-no g (decide g f) (check g f) (view s) q _ _ _ _ (rw (blank-test kind kinds q b, t) refl)))
 
-      module _ (t : has-bit kind q clue-bit ≡ false) where
+      module _ (t : has-bit kind q taken-bit ≡ false) where
         acts : (isBlank (g .cell q) && isLine (view s .edge (edge-of a))) ≡ true
-        acts = rw (clue-test kind q b, t, line-there g s y a h l) refl
+        acts = rw (blank-test kind kinds q b, t, line-there g s y a h l) refl
 
         pub corner-ends : (has-down g q && has-side g side q) ≡ false → Done g 1 s (corner-at g side q a) (with-count s (stopped (s .count)))
         unfolding corner-at

@@ -12,7 +12,7 @@ pub mod Settle
 pub mod Actions
 pub mod Check
 pub mod Cycle
-pub mod SameBlanks
+pub mod SameKinds
 pub mod OneEdge
 pub mod Undecided
 pub mod ShownRecord

@@ -2,7 +2,7 @@
 -- what the model does. It rests on Geometry.antt and Steps.antt.
 use Prim.Native.Nat.{ℕ, _+_, _*_, _-_, _<_}
 use mathlib.Core.Path.{_≡_, refl, sym, ap, _∙_}
-use mathlib.Core.Bool.{Bool, true, false, _&&_, _||_, and-false, or-true, Bool·not-not}
+use mathlib.Core.Bool.{Bool, true, false, _&&_, _||_, and-false, or-true}
 use mathlib.Core.List.{List, []}
 use native.Mathlib.Omega.{arith}
 use lib.Dec.{eqb, ltb, leb}
@@ -11,7 +11,7 @@ use borrow.Author.Tests.{eqb-true, eqb-false, eq-eqb, ne-eqb, lt-leb, le-leb, lt
 use Rattle.rules.specs.Grid.{Edge, right, down, Grid, pads}
 use Rattle.rules.specs.Drawing.{num}
 use Rattle.model.specs.Board.{EdgeState, line, none, isUndecided, State, set-flag, Decide, with-edge, has-right, has-left, has-down, has-up, lines, undecideds, decide-first, line-or-none, around, degree, settled}
-use Rattle.boardview.specs.View.{Arrays, pick, edge-of, slot-on, view, has-bit, clue-bit, grid-in, Ready, edges-around, undecided-around, degree-around, first-around, action-around}
+use Rattle.boardview.specs.View.{Arrays, pick, edge-of, slot-on, view, grid-in, Ready, edges-around, undecided-around, degree-around, first-around, action-around}
 use Rattle.boardview.specs.Bytes.{elim-true, elim-false, right-slot, down-slot, on-slot}
 use Rattle.boardview.specs.Geometry.{slot-left, slot-right, slot-up, slot-down, edge-left, edge-up}
 use Rattle.boardview.specs.Steps.{line-at, undecided-at}
@@ -140,7 +140,6 @@ module _ (kind : List ℕ) (s : Arrays) (y : Ready (grid-in kind) s) (v : ℕ) (
     lines-one g s y (32 + 2 * v) low-right (has-right g v) at-right (right v) is-right (v + 1) from-up,
     lines-one g s y (33 + 2 * v - 2 * w) low-up (has-up g v) at-up (down (v - w)) is-up (v - w) from-down,
     lines-one g s y (33 + 2 * v) low-down (has-down g v) at-down (down v) is-down (v + w) [],
-    Bool·not-not (has-bit kind v clue-bit),
   ) (omega arith)
 
   -- the first undecided edge

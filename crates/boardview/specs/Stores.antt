@@ -60,23 +60,28 @@ next-count c h k = (omega arith, omega arith, go (leb 1024 c) refl)
     go true e = le-leb 1024 (c + 1) (omega (arith, leb-true 1024 c e))
     go false e = lt-leb 1024 (c + 1) (omega (arith, leb-false 1024 c e))
 
--- THE SAME ARRAYS with another count of the same length
-pub recounted : (g : Grid) (s : Arrays) (c : ℕ) → Ready g s → c % 1024 ≡ logged s → c < 3072 → Ready g (record { edges = s .edges; ends = s .ends; log = s .log; count = c })
-recounted g s c y h k = record {
+-- THE SAME EDGES AND ENDS with another log and another count, of no more entries
+pub relogged : (g : Grid) (s : Arrays) (log : List ℤ) (c : ℕ) → Ready g s → length log ≡ 2048 → c < 3072 → c % 1024 ≤ logged s
+    → ((k : ℕ) → k < c % 1024 → Entry g log k) → Ready g (record { edges = s .edges; ends = s .ends; log = log; count = c })
+relogged g s log c y long mode fewer entries = record {
   edges-long = y .edges-long;
   ends-long = y .ends-long;
-  log-long = y .log-long;
+  log-long = long;
   least-width = y .least-width;
   largest-width = y .largest-width;
   few-pads = y .few-pads;
-  mode = k;
+  mode = mode;
   room = omega (arith, y .room);
-  entries = λ n l. y .entries n (omega arith);
+  entries = entries;
   bytes = y .bytes;
   rim = y .rim;
   near = y .near;
   paired = y .paired;
 }
+
+-- the same arrays with another count of the same length
+pub recounted : (g : Grid) (s : Arrays) (c : ℕ) → Ready g s → c % 1024 ≡ logged s → c < 3072 → Ready g (record { edges = s .edges; ends = s .ends; log = s .log; count = c })
+recounted g s c y h k = relogged g s (s .log) c y (y .log-long) k (omega arith) (λ n l. y .entries n (omega arith))
 
 -- ONE EDGE FEWER
 pub record Stored (g : Grid) (s s₀ : Arrays) : Type 0 where

@@ -9,7 +9,7 @@ use lib.Dec.{eqb, ltb, leb}
 use lib.ListN.{getD, set, length}
 use lib.IntN.{ℤ, pos, negsuc, natAbs}
 use lib.Bits.{bitAnd}
-use Rattle.rules.specs.Grid.{Edge, right, down, Cell, blank, clue, Grid, pads}
+use Rattle.rules.specs.Grid.{Edge, right, down, Cell, blank, clue, hole, Grid, pads}
 use Rattle.rules.specs.Drawing.{num, Side, on-left, on-right}
 use Rattle.model.specs.Board.{EdgeState, undecided, line, none, End, through, at-pad, at-clue, isThrough, unequal-negative, isPad, State, Item, detour, corner, bar, check-pad, keep-apart, when, has-down, on-board, has-side, barred, do-item, settled, decide, check, Decide, Check}
 
@@ -77,7 +77,7 @@ end-at ends v = end-of (getD ends v (pos v))
 unfoldable pub view : Arrays → State
 view s = record { edge = λ e. state-of (getD (s .edges) (slot e) 2); end = λ v. end-at (s .ends) v; flag = flag-in (s .count) }
 
--- THE KINDS of the pads: a byte for each pad, with a bit for each of five facts; then the height and the width.
+-- THE KINDS of the pads: a byte for each pad, with a bit for each of six facts; then the height and the width.
 unfoldable pub has-bit : List ℕ → ℕ → ℕ → Bool
 has-bit kind v bit = not (eqb (bitAnd (getD kind v 0) bit) 0)
 
@@ -92,13 +92,22 @@ abbrev pub corner-bit : Side → ℕ
 corner-bit on-right = 8
 corner-bit on-left = 16
 
--- the grid that the kinds tell of: its sizes, and which pads are clues. A decision asks no more of a grid (SameBlanks.antt).
-abbrev pub cell-in : Bool → Cell
-cell-in true = clue 0
-cell-in false = blank
+-- not blank: a clue or a hole
+abbrev pub taken-bit : ℕ
+taken-bit = 32
+
+-- the grid that the kinds tell of: its sizes, and which pads are blank, clues or holes. A decision asks no more of a grid (SameKinds.antt).
+abbrev pub cell-in : (is-clue is-taken : Bool) → Cell
+cell-in true is-taken = clue 0
+cell-in false true = hole
+cell-in false false = blank
 
 unfoldable pub grid-in : List ℕ → Grid
-grid-in kind = record { height = getD kind 510 0; width = getD kind 511 0; cell = λ v. cell-in (ltb v 256 && has-bit kind v clue-bit) }
+grid-in kind = record {
+  height = getD kind 510 0;
+  width = getD kind 511 0;
+  cell = λ v. cell-in (ltb v 256 && has-bit kind v clue-bit) (ltb v 256 && has-bit kind v taken-bit);
+}
 
 -- the four sides of a pad: 0 left, 1 right, 2 up, 3 down. The slot of the edge on a side, and 16 more than the pad beyond it
 unfoldable pub slot-around : ℕ → ℕ → ℕ → ℕ
@@ -126,13 +135,15 @@ action-code clues at-left at-right at-up at-down =
 unfoldable pub action-entry : ℕ → ℕ
 action-entry i = action-code (i / 256) (i % 4) (i / 4 % 4) (i / 16 % 4) (i / 64 % 4)
 
--- the bits of the barred pads and of the corners are right, the sizes are in range, and behind them stands the table of the pad check's codes
+-- a clue is taken, the bits of the barred pads and of the corners are right, the sizes are in range, and behind them stands the table of the
+-- pad check's codes
 pub record Kinds (kind : List ℕ) : Type 0 where
   pub long : length kind ≡ 1024
   pub least-width : 2 ≤ grid-in kind .width
   pub largest-width : grid-in kind .width ≤ 16
   pub least-height : 2 ≤ grid-in kind .height
   pub largest-height : grid-in kind .height ≤ 16
+  pub clue-taken : (v : ℕ) → v < 256 → has-bit kind v clue-bit ≡ true → has-bit kind v taken-bit ≡ true
   pub corners : (side : Side) (v : ℕ) → v < pads (grid-in kind) → has-bit kind v (corner-bit side) ≡ (has-down (grid-in kind) v && has-side (grid-in kind) side v)
   pub actions : (i : ℕ) → i < 512 → getD kind (512 + i) 0 ≡ action-entry i
   pub bars : (side : Side) (v : ℕ) → v < pads (grid-in kind) → has-bit kind v (bar-bit side) ≡ ((has-down (grid-in kind) v && has-side (grid-in kind) side v) && barred (grid-in kind) side (grid-in kind .height) v)

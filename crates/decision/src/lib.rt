@@ -12,11 +12,11 @@ ghost use Rattle.model.specs.Board.{line, line-or-none, on-board};
 ghost use Rattle.boardview.specs.View.{grid-in, has-bit, slot-on, Kinds, Ready, Decided, Done, NoneAt, detour-at, corner-at, bar-at, check-at};
 use boardparts::BAR_LEFT;
 use boardparts::BAR_RIGHT;
-use boardparts::CLUE;
 use boardparts::CORNER_LEFT;
 use boardparts::CORNER_RIGHT;
 use boardparts::ENDED;
 use boardparts::NONE_THERE;
+use boardparts::TAKEN;
 use grid::Edge;
 
 // The bytes of an edge's states, as the edge type names them.
@@ -204,7 +204,7 @@ pub fn corner_right(
     if edges[a] != LINE {
         return count;
     }
-    if boardparts::has(kind, q, CLUE) {
+    if boardparts::has(kind, q, TAKEN) {
         return count;
     }
     if boardparts::has(kind, q, CORNER_RIGHT) {
@@ -234,7 +234,7 @@ pub fn corner_left(
     if edges[a] != LINE {
         return count;
     }
-    if boardparts::has(kind, q, CLUE) {
+    if boardparts::has(kind, q, TAKEN) {
         return count;
     }
     if boardparts::has(kind, q, CORNER_LEFT) {

@@ -25,6 +25,7 @@ use Rattle.propagation.specs.Agreement.{Agrees, drawn-degree}
 use Rattle.propagation.specs.ListedDrawing.{its-degree}
 use Rattle.propagation.specs.ProperGrid.{Proper}
 use Rattle.propagation.specs.Decisions.{one-decision-sound}
+use Rattle.propagation.specs.Preparing.{HolesShut}
 use Rattle.exact.specs.Events.{layouts-of, shown-codes}
 use Rattle.exact.specs.Passed.{Passed, left-decided, up-decided}
 use Rattle.exact.specs.NextPad.{StandsAt, NextFrom, next-is-later}
@@ -147,13 +148,16 @@ module _ (g : Grid) (proper : Proper g) where
       down = λ u l h. let k = at .passed .down u l h in ap isUndecided (onward .decided-stay (down u) k) ∙ k;
     }
 
+    still-shut : HolesShut g after-both
+    still-shut u is-hole p m = let h = at .holes-shut u is-hole p m in onward .decided-stay (p .0) (ap isUndecided h) ∙ h
+
     goes-on-at : after-both .flag ≡ false → NextFrom g proper after-both (v + 1) (next-pad g (pads g) v after-both)
     goes-on-at z = next-is-later g proper (pads g) after-both v (λ o. onward .still-holds z o (at .holds o)) still-passed (at .inside)
         (let k = at .inside in omega arith) (omega arith) above-last (ap isUndecided (right-set z) ∙ line-or-none-decided r)
 
     stands-next : after-both .flag ≡ false → StandsAt g proper after-both (next-pad g (pads g) v after-both)
     stands-next z = let p = goes-on-at z in
-        record { clear = z; holds = λ o. onward .still-holds z o (at .holds o); passed = p .passed; inside = p .inside; right-there = p .right-there }
+        record { clear = z; holds = λ o. onward .still-holds z o (at .holds o); holes-shut = still-shut; passed = p .passed; inside = p .inside; right-there = p .right-there }
 
     -- WHAT THE BRANCH LISTS
     pub branch-lists : (continue : ℕ → State → List Event) → ((w : ℕ) (T : State) → v < w → StandsAt g proper T w → Lists T (continue w T)) → ListsBranch S v r d (try g continue v S r d)

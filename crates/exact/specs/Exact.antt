@@ -1,7 +1,7 @@
--- DEMAND 2 on the model, for every grid of every accepted size and code. The layouts of the search are, as records, each listed layout
+-- DEMAND 2 on the model, for every grid of every accepted size and code, with holes or without. The layouts of the search are, as records, each listed layout
 -- exactly once, ascending by codes, and nothing else; a run with a limit and room stops early exactly where one of them runs out, and its
 -- list is a beginning of that one; and no decision of any caller loses a listed layout or leaves a board that is not at rest.
--- The definitions are those of the rules and of the model; this file rests on SearchLists.antt, Runs.antt and propagation's Decisions.antt.
+-- The definitions are those of the rules and of the model; this file rests on SearchLists.antt, Runs.antt and propagation's Standing.antt.
 use Prim.Native.Nat.{ℕ, _≤_}
 use mathlib.Core.Path.{_≡_, refl, sym, _∙_, ap, subst}
 use mathlib.Core.Bool.{true, false}
@@ -20,8 +20,9 @@ use Rattle.model.specs.Search.{search, Run, scan, fewest, solved, solve}
 use Rattle.propagation.specs.BoardAtRest.{BoardAtRest, board-at-rest}
 use Rattle.propagation.specs.Agreement.{Agrees}
 use Rattle.propagation.specs.ProperGrid.{Proper, accepted-proper}
-use Rattle.propagation.specs.FreshBoard.{agrees-with-fresh}
-use Rattle.propagation.specs.Decisions.{Decision, AgreesWith, at-rest, decisions-sound, flag-means-none}
+use Rattle.propagation.specs.Decisions.{Decision, AgreesWith}
+use Rattle.propagation.specs.Preparing.{HolesShut, agrees-with-fresh}
+use Rattle.propagation.specs.Standing.{at-rest, holes-shut, decisions-sound, flag-means-none}
 use Rattle.propagation.specs.BoardCalls.{Made}
 use Rattle.exact.specs.Events.{layouts-of, visits-of, layouts-append, shown-codes, Distinct, ascending-distinct}
 use Rattle.exact.specs.Branch.{Lists}
@@ -43,7 +44,7 @@ pub record Exact (g : Grid) (layouts : List (List ℕ)) : Type 1 where
 pub exact : (g : Grid) → Proper g → Exact g (layouts-of (search g))
 exact g p = record {
   nothing-added = λ bytes m. let (D, listed, agrees, shown) = found .truly bytes m in record { drawing = D; listed = listed; shown = shown };
-  nothing-lost = λ D listed. found .wholly D listed (agrees-with-fresh g (p .tall) (p .wide) (p .blank-past) D listed);
+  nothing-lost = λ D listed. found .wholly D listed (agrees-with-fresh g p D listed .1);
   ascending = found .ascending;
   each-once = ascending-distinct (shown-codes g) (layouts-of (search g)) (found .ascending);
 }
@@ -111,6 +112,8 @@ solve-is-run height width cells accepted limit buffer = rw (accepted-is-not-refu
 pub record SoundBoard (b : Board) (now : List Decision) : Type 1 where
   -- with a clear flag it is at rest: every pad, every unit square, every corner, and the ends say what they should
   pub at-rest : b .state .flag ≡ false → BoardAtRest (b .grid) (b .state)
+  -- and each edge at a hole is none
+  pub holes-shut : b .state .flag ≡ false → HolesShut (b .grid) (b .state)
   -- a listed layout that agrees with the decisions standing agrees with every decided edge, and the flag is clear
   pub nothing-lost : (D : Drawing) → Listed (b .grid) D → AgreesWith D now → (b .state .flag ≡ false) × Agrees D (b .state)
   -- a set flag means that no listed layout agrees with them
@@ -119,6 +122,7 @@ pub record SoundBoard (b : Board) (now : List Decision) : Type 1 where
 pub sound-board : (b : Board) (now : List Decision) (then : List (List Decision)) → Made b now then → SoundBoard b now
 sound-board b now then made = record {
   at-rest = λ clear. board-at-rest (b .grid) (made .grid-proper .wide) (b .state) (at-rest (b .grid) (made .grid-proper) (made .now-stand) clear);
+  holes-shut = holes-shut (b .grid) (made .grid-proper) (made .now-stand);
   nothing-lost = decisions-sound (b .grid) (made .grid-proper) (made .now-stand);
   flag-means-none = flag-means-none (b .grid) (made .grid-proper) (made .now-stand);
 }

@@ -1,4 +1,4 @@
--- Where the search stands: at a pad, on a board at rest with a clear flag, with the edges of all pads before it decided. From such a pad
+-- Where the search stands: at a pad, on a board at rest with a clear flag and shut holes, with the edges of all pads before it decided. From such a pad
 -- the scan for the next one passes over pads whose right edge is decided, and leads to another such place.
 use Prim.Native.Nat.{ℕ, zero, suc, _+_, _≤_, _<_}
 use mathlib.Core.Path.{_≡_, refl, ap}
@@ -15,6 +15,7 @@ use Rattle.propagation.specs.Edges.{drawing}
 use Rattle.propagation.specs.Objects.{AtRest, Holds, AllHold, pad}
 use Rattle.propagation.specs.Agreement.{Agrees}
 use Rattle.propagation.specs.ProperGrid.{Proper}
+use Rattle.propagation.specs.Preparing.{HolesShut}
 use Rattle.exact.specs.Passed.{Passed, passed-edge, pass}
 
 module _ (g : Grid) (proper : Proper g) where
@@ -25,6 +26,7 @@ module _ (g : Grid) (proper : Proper g) where
   pub record StandsAt (S : State) (v : ℕ) : Type 0 where
     pub clear : S .flag ≡ false
     pub holds : AllHold g S
+    pub holes-shut : HolesShut g S
     pub passed : Passed g wide S v
     pub inside : v < pads g
     -- above the last row, not in the last column
@@ -61,7 +63,7 @@ module _ (g : Grid) (proper : Proper g) where
   in-next-row : (v : ℕ) → has-down g v ≡ true → v + 1 < pads g
   in-next-row v d = let k = ltb-true (v + g .width) (pads g) d in let w = proper .wide in omega arith
 
-  next-from : (n : ℕ) (S : State) (v : ℕ) → AllHold g S → Passed g wide S v → v < pads g → pads g ≤ v + n → NextFrom S v (next-pad g n v S)
+  pub next-from : (n : ℕ) (S : State) (v : ℕ) → AllHold g S → Passed g wide S v → v < pads g → pads g ≤ v + n → NextFrom S v (next-pad g n v S)
   unfolding next-pad
   next-from zero S v holds passed inside bound = absurd (omega arith)
   next-from (suc n) S v holds passed inside bound = go (has-down g v) refl (has-right g v && isUndecided (S .edge (right v))) refl

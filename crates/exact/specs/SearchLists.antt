@@ -1,15 +1,14 @@
 -- The search lists exactly the listed drawings that agree with the board it stands on: in the last row the board itself, above it what the
 -- four branches list, one after the other, which ascends because the pads before are decided alike and m rises. From the fresh board, with
--- which every listed drawing agrees, these are all of them.
+-- which every listed drawing agrees, these are all of them; where its flag is set, there are none.
 use Prim.Native.Nat.{ℕ, zero, suc, _+_, _*_, _%_, _≤_, _<_}
-use mathlib.Core.Path.{_≡_, refl, sym, _∙_, ap}
+use mathlib.Core.Path.{_≡_, refl, sym, _∙_, ap, subst}
 use mathlib.Core.Logic.{⊎-elim}
 use mathlib.Core.Bool.{Bool, true, false}
 use mathlib.Core.List.{List, [], _∷_, _++_, List·Memᴰ, List·Memᴰ·append-cases, List·Memᴰ·cases-cons, List·Memᴰ·head, List·Memᴰ·not-nil, Memᴰ·append-left, Memᴰ·append-right}
 use native.Mathlib.Omega.{arith}
 use native.Mathlib.Decide.{ℕ-discrete}
-use native.Mathlib.Nat.{mod-eq-of-lt, mul-le-mul-right}
-use borrow.Author.Tests.{lt-ltb}
+use native.Mathlib.Nat.{mul-le-mul-right}
 use Rattle.rules.specs.Grid.{Edge, Grid, pads, OnBoard, right, down}
 use Rattle.rules.specs.Drawing.{Drawing, drawn, num, Listed}
 use Rattle.rules.specs.Record.{byte-of, tabulate, record-of, pad-code, codes, Before, Ascending, lower, later}
@@ -18,15 +17,16 @@ use Rattle.rules.specs.Tests.{conflict}
 use Rattle.rules.specs.Places.{first-inside}
 use Rattle.model.specs.Board.{EdgeState, isLine, isUndecided, State, has-down, fresh, undecided, line, none}
 use Rattle.model.specs.Calls.{state-byte}
-use Rattle.model.specs.Search.{Event, board-record, backtrack, search, visit, layout}
+use Rattle.model.specs.Search.{Event, board-record, next-pad, backtrack, search, visit, layout}
+use Rattle.model.specs.SearchStart.{flagged-search, clear-search}
 use Rattle.propagation.specs.Edges.{drawing}
 use Rattle.propagation.specs.Agreement.{Agrees}
 use Rattle.propagation.specs.ProperGrid.{Proper}
-use Rattle.propagation.specs.FreshBoard.{fresh-holds}
+use Rattle.propagation.specs.Preparing.{fresh-rests, agrees-with-fresh, fresh-shuts-holes}
 use Rattle.exact.specs.Events.{layouts-of, layouts-append, shown-codes, codes-shown, ascending-append}
 use Rattle.exact.specs.Passed.{Passed, passed-edge, pass-last-row}
 use Rattle.exact.specs.WholeBoard.{whole-listed}
-use Rattle.exact.specs.NextPad.{StandsAt, rest-at, same-code}
+use Rattle.exact.specs.NextPad.{StandsAt, NextFrom, rest-at, same-code, next-from}
 use Rattle.exact.specs.Branch.{Lists, ListsBranch, branch-lists}
 
 -- two drawings alike before w, and the first with the lower code at w
@@ -74,7 +74,7 @@ module _ (g : Grid) (proper : Proper g) where
   last-row-lists S v at last = record {
     truly = λ c m. (
       drawing S,
-      whole-listed g wide S (proper .blank-past) (at .holds) whole,
+      whole-listed g wide S (proper .blank-past) (at .holds) (at .holes-shut) whole,
       agrees-itself S,
       ⊎-elim (λ e. e ∙ whole-record S (drawing S) (agrees-itself S) whole) (λ n. absurd (List·Memᴰ·not-nil n)) (List·Memᴰ·cases-cons m),
     );
@@ -152,19 +152,35 @@ module _ (g : Grid) (proper : Proper g) where
           (branch-lists g proper S v at d false false (λ u T. backtrack g n u T) deeper) (branch-lists g proper S v at d true false (λ u T. backtrack g n u T) deeper)
           (branch-lists g proper S v at d false true (λ u T. backtrack g n u T) deeper) (branch-lists g proper S v at d true true (λ u T. backtrack g n u T) deeper))
 
-  -- THE SEARCH BEGINS at pad (0, 0) of the fresh board
-  stands-first : StandsAt g proper (fresh g) 0
-  stands-first = record {
-    clear = unfold fresh in refl;
-    holds = fresh-holds g (proper .tall) wide (proper .blank-past);
-    passed = record { right = λ u l. absurd (omega arith); down = λ u l. absurd (omega arith) };
-    inside = let k = mul-le-mul-right (g .width) (proper .tall) in let w = proper .wide in omega arith;
-    right-there = λ h. lt-ltb (0 % g .width + 1) (g .width) (rw (mod-eq-of-lt some) (let w = proper .wide in omega arith));
+  -- THE SEARCH BEGINS at the first pad of the fresh board with its right edge undecided, or in the last row: before it all is decided
+  first-from : fresh g .flag ≡ false → NextFrom g proper (fresh g) 0 (next-pad g (pads g) 0 (fresh g))
+  first-from clear = next-from g proper (pads g) (fresh g) 0 (fresh-rests g proper clear)
+      (record { right = λ u l. absurd (omega arith); down = λ u l. absurd (omega arith) })
+      (let k = mul-le-mul-right (g .width) (proper .tall) in let w = proper .wide in omega arith) (omega arith)
+
+  stands-first : fresh g .flag ≡ false → StandsAt g proper (fresh g) (next-pad g (pads g) 0 (fresh g))
+  stands-first clear = let p = first-from clear in record {
+    clear = clear;
+    holds = fresh-rests g proper clear;
+    holes-shut = fresh-shuts-holes g proper clear;
+    passed = p .passed;
+    inside = p .inside;
+    right-there = p .right-there;
   }
-    where
-      some : 0 < g .width
-      some = let w = proper .wide in omega arith
+
+  -- where preparing has set the flag there is nothing to list
+  none-to-list : fresh g .flag ≡ true → Lists g proper (fresh g) []
+  unfolding layouts-of
+  none-to-list set = record {
+    truly = λ c m. absurd (List·Memᴰ·not-nil m);
+    wholly = λ D listed a. conflict set (agrees-with-fresh g proper D listed .0);
+    ascending = unfold Ascending in tt;
+  }
 
   pub search-lists : Lists g proper (fresh g) (search g)
   unfolding search
-  search-lists = backtrack-lists (pads g) 0 (fresh g) stands-first (omega arith)
+  search-lists = go (fresh g .flag) refl
+    where
+      go : (b : Bool) → fresh g .flag ≡ b → Lists g proper (fresh g) (search g)
+      go true h = subst (Lists g proper (fresh g)) (sym (flagged-search g (fresh g) h)) (none-to-list h)
+      go false h = subst (Lists g proper (fresh g)) (sym (clear-search g (fresh g) h)) (backtrack-lists (pads g) (next-pad g (pads g) 0 (fresh g)) (fresh g) (stands-first h) (omega arith))

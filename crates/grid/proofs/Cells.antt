@@ -14,7 +14,7 @@ use lib.Signed.{ltZ}
 use mir.Syntax.{w32}
 use mir.Val.{SFits, toZ, ofZ}
 use mir.ValLaws.{toZ-ofZ}
-use borrow.Author.Tests.{ltb-true, ltb-false, lt-ltb, le-ltb, ne-eqb, eq-eqb, not-true, not-false}
+use borrow.Author.Tests.{ltb-true, ltb-false, lt-ltb, le-ltb, le-leb, lt-leb, ne-eqb, eq-eqb, not-true, not-false}
 use Rattle.model.specs.Bounds.{is-size}
 use Rattle.model.specs.RefusalLaws.{size-of-test}
 use Rattle.model.specs.Refusals.{is-cell, first-bad-cell, grid-refusal}
@@ -25,13 +25,13 @@ module _ (z : ℤ) (f : SFits w32 z) where
   back : toZ w32 (ofZ w32 z) ≡ z
   back = toZ-ofZ w32 z f
 
-  pub below-blank : ltZ (toZ w32 (ofZ w32 z)) (negsuc 0) ≡ true → is-cell z ≡ false
+  pub below-hole : ltZ (toZ w32 (ofZ w32 z)) (negsuc 1) ≡ true → is-cell z ≡ false
   unfolding is-cell
-  below-blank h = go z (rw back at h)
+  below-hole h = go z (rw back at h)
     where
-      go : (z : ℤ) → ltZ z (negsuc 0) ≡ true → is-cell z ≡ false
+      go : (z : ℤ) → ltZ z (negsuc 1) ≡ true → is-cell z ≡ false
       go (pos n) h = absurd (false≢true h)
-      go (negsuc n) h = ne-eqb n 0 (λ e. absurd (omega (arith, ltb-true 0 n h)))
+      go (negsuc n) h = lt-leb n 1 (ltb-true 1 n h)
 
   pub above-codes : ltZ (pos 2147483646) (toZ w32 (ofZ w32 z)) ≡ true → is-cell z ≡ false
   unfolding is-cell
@@ -41,13 +41,13 @@ module _ (z : ℤ) (f : SFits w32 z) where
       go (pos n) h = rw h
       go (negsuc n) h = absurd (false≢true h)
 
-  pub sound-cell : ltZ (toZ w32 (ofZ w32 z)) (negsuc 0) ≡ false → ltZ (pos 2147483646) (toZ w32 (ofZ w32 z)) ≡ false → is-cell z ≡ true
+  pub sound-cell : ltZ (toZ w32 (ofZ w32 z)) (negsuc 1) ≡ false → ltZ (pos 2147483646) (toZ w32 (ofZ w32 z)) ≡ false → is-cell z ≡ true
   unfolding is-cell
   sound-cell h k = go z (rw back at h) (rw back at k)
     where
-      go : (z : ℤ) → ltZ z (negsuc 0) ≡ false → ltZ (pos 2147483646) z ≡ false → is-cell z ≡ true
+      go : (z : ℤ) → ltZ z (negsuc 1) ≡ false → ltZ (pos 2147483646) z ≡ false → is-cell z ≡ true
       go (pos n) h k = rw k
-      go (negsuc n) h k = eq-eqb n 0 (omega (arith, ltb-false 0 n h))
+      go (negsuc n) h k = le-leb n 1 (ltb-false 1 n h)
 
 -- ## The cells from an index on
 

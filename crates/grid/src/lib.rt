@@ -72,7 +72,11 @@ pub const LEAST_SIZE: usize = 2;
 
 pub const LARGEST_SIZE: usize = 16;
 
-// The largest floor code.
+// A cell is blank, a hole, or a floor code from 0 to the largest.
+pub const BLANK: i32 = -1;
+
+pub const HOLE: i32 = -2;
+
 pub const LARGEST_CODE: i32 = 2147483646;
 
 // Why a grid is declined: document 01's number, 0 for an accepted one, and the index of the first bad cell.
@@ -88,14 +92,14 @@ pub fn is_size(n: usize) -> bool
     LEAST_SIZE <= n && n <= LARGEST_SIZE
 }
 
-// The index of the first cell that is neither blank nor a code, or the number of cells.
+// The index of the first cell that is neither blank nor a hole nor a code, or the number of cells.
 fn first_bad_cell(cells: &[i32]) -> usize
     ensures { λ r. ⌜ r ≡ first-bad-cell (now (cells .entry)) ⌝ }
 {
     let mut i = 0;
     while i < cells.len() {
         let cell = cells[i];
-        if cell < -1 {
+        if cell < HOLE {
             return i;
         }
         if cell > LARGEST_CODE {

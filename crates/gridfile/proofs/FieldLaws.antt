@@ -7,13 +7,15 @@ use Prim.Native.Nat.{ℕ, _+_, _-_, _*_, _^_, _≤_, _<_}
 use native.Mathlib.Nat.{pow-le-pow-right, sub-self}
 use native.Mathlib.Numerals.{add-one}
 use native.Mathlib.Omega.{arith}
-use lib.ListN.{length, getD, drop, drop-of-length-le}
+use lib.ListN.{length, getD, drop, drop-of-length-le, List·getD-eq-default}
 use lib.Seq.{drop-cons}
-use borrow.Author.Tests.{lt-ltb, le-ltb, ne-eqb, eq-eqb, not-true, not-false}
+use lib.Dec.{ltb}
+use borrow.Author.Tests.{ltb-true, ltb-false, lt-ltb, le-ltb, ne-eqb, eq-eqb, not-true, not-false}
+use Rattle.rules.specs.Tests.{conflict}
 use Rattle.model.specs.Bounds.{most-digits}
-use Rattle.model.specs.GridFile.{is-digit, is-comma, is-line-end, disallowed-number}
+use Rattle.model.specs.GridFile.{is-digit, is-comma, is-line-end, is-hole-sign, disallowed-number}
 use Rattle.reading.specs.FieldSteps.{digit-bounds}
-use Rattle.gridfile.specs.Fields.{ended-field, field-from, field-at}
+use Rattle.gridfile.specs.Fields.{ended-field, field-from, field-at, hole-from, row-field-at}
 use Rattle.gridfile.specs.declared.Field.the-variants.{Value, Refused}
 
 -- ## The end of a field
@@ -54,6 +56,34 @@ module _ (bytes : List ℕ) (at digits value : ℕ) where
   pub field-unended : length bytes ≤ at → field-from (drop at bytes) at digits value ≡ Refused 6
   unfolding field-from
   field-unended h = simp (drop-of-length-le bytes h)
+
+-- ## The sign of a hole
+
+module _ (bytes : List ℕ) (from : ℕ) where
+  -- past the end stands none
+  pub no-sign-past : length bytes ≤ from → is-hole-sign (getD bytes from 0) ≡ false
+  unfolding is-hole-sign
+  no-sign-past h = rw (List·getD-eq-default bytes 0 h) refl
+
+  module _ (sign : is-hole-sign (getD bytes from 0) ≡ true) where
+    pub sign-inside : from < length bytes
+    sign-inside = go (ltb from (length bytes)) refl
+      where
+        go : (t : Bool) → ltb from (length bytes) ≡ t → from < length bytes
+        go true t = ltb-true _ _ t
+        go false t = conflict sign (no-sign-past (ltb-false _ _ t))
+
+    pub hole-unended : from + 1 ≡ length bytes → row-field-at bytes from ≡ Refused 6
+    unfolding row-field-at hole-from
+    hole-unended e = let all : length bytes ≤ from + 1 = omega arith in simp (sign, drop-of-length-le bytes all)
+
+    pub hole-ends : from + 1 < length bytes → row-field-at bytes from ≡ ended-field (getD bytes (from + 1) 0) 0 0 (from + 1)
+    unfolding row-field-at hole-from
+    hole-ends h = simp (sign, drop-cons bytes (from + 1) 0 h)
+
+  pub digits-there : is-hole-sign (getD bytes from 0) ≡ false → row-field-at bytes from ≡ field-at bytes from
+  unfolding row-field-at
+  digits-there none = rw none
 
 -- ## A value fits
 

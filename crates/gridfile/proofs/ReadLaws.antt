@@ -1,91 +1,98 @@
 -- What a field's answer makes of the reading of the rest of the file, and what is known of a field that gave a value. It rests on the
 -- reading taken field by field (reading/specs/FieldSteps.antt).
 use mathlib.Core.Path.{_≡_, refl, sym, ap, _∙_}
-use mathlib.Core.Bool.{Bool, true, false, _||_}
+use mathlib.Core.Bool.{Bool, true, false, not, _&&_, _||_, and-false}
 use mathlib.Core.List.{List, [], _∷_}
 use mathlib.Core.Logic.{_⊎_, inl, inr, ⊎-elim}
 use Prim.Native.Nat.{ℕ, _+_, _-_, _*_, _≤_, _<_}
-use native.Mathlib.Nat.{sub-self, add-zero}
+use native.Mathlib.Nat.{sub-self}
 use native.Mathlib.Numerals.{add-one}
 use native.Mathlib.Omega.{arith}
-use lib.ListN.{length, getD, drop, length-drop}
-use lib.Seq.{drop-cons, drop-drop, getD-drop}
+use lib.ListN.{length, getD, drop}
+use lib.Seq.{drop-cons}
 use lib.IntN.{ℤ}
 use lib.Dec.{eqb, ltb}
-use borrow.Author.Tests.{ltb-false, eqb-true}
+use borrow.Author.Tests.{ltb-false, ne-eqb, eqb-true}
 use Rattle.rules.specs.Grid.{largest-code}
 use Rattle.model.specs.Bounds.{most-digits}
 use Rattle.model.specs.GridFile as model
-use Rattle.model.specs.GridFile.{Standing, is-digit, is-comma, is-line-end, disallowed-number, is-complete, declined, read-from}
-use Rattle.reading.specs.FieldSteps.{field-start, in-field, field-ending, declined-reading, byte-refused, end-early, still-open, refusal-2, refusal-disallowed, refusal-3, digit-read}
-use Rattle.gridfile.specs.Fields.{ended-field, field-from, field-at, field-number}
+use Rattle.model.specs.GridFile.{Standing, is-digit, is-comma, is-line-end, is-hole-sign, begins-hole, is-allowed, disallowed-number, in-header, is-complete, declined, read-from, no-cells}
+use Rattle.reading.specs.FieldSteps.{Part, some-digits, hole-alone, field-start, in-field, field-ending, declined-reading, drop-next, place-inside, byte-there, byte-refused, end-early, still-open, refusal-2, refusal-disallowed, refusal-3, digit-read, hole-read, row-open, header-open}
+use Rattle.gridfile.specs.Fields.{ended-field, field-from, field-at, hole-from, row-field-at, field-number, part-of}
 use Rattle.gridfile.specs.declared.Field.{Field}
 use Rattle.gridfile.specs.declared.Field.the-variants.{Value, Refused}
-
--- ## A byte and its place
-
-module _ (bytes : List ℕ) (byte : ℕ) (rest : List ℕ) (at : ℕ) (e : drop at bytes ≡ byte ∷ rest) where
-  drop-next : drop (at + 1) bytes ≡ rest
-  drop-next = sym (drop-drop 1 at bytes) ∙ ap (λ (l : List ℕ). drop 1 l) e
-
-  place-inside : at < length bytes
-  place-inside = omega (arith, sym (length-drop at bytes) ∙ ap (λ (l : List ℕ). length l) e)
-
-  byte-there : getD bytes at 0 ≡ byte
-  byte-there = ap (λ (n : ℕ). getD bytes n 0) (sym (add-zero at)) ∙ sym (getD-drop at bytes 0 0) ∙ ap (λ (l : List ℕ). getD l 0 0) e
+use Rattle.gridfile.proofs.FieldLaws.{sign-inside}
 
 -- ## Inside a field
 
--- what a field's answer makes of the reading: a refusal, or the reading from the byte that ended the field
-unfoldable pub field-read : Standing → List ℕ → ℕ → Field → model.Reading
-field-read s bytes from (Value value end) = read-from (in-field s (end - from) value) (drop end bytes)
-field-read s bytes from (Refused number) = declined-reading number (s .line) (s .field)
+-- what a field's answer makes of the reading: a refusal, or the reading from the byte that ended the field; `hole` says whether the
+-- sign of a hole begins it
+unfoldable pub field-read : Standing → List ℕ → ℕ → Bool → Field → model.Reading
+field-read s bytes from hole (Value value end) = read-from (in-field s (part-of hole (end - from) value)) (drop end bytes)
+field-read s bytes from hole (Refused number) = declined-reading number (s .line) (s .field)
 
-module _ (s : Standing) (open-yet : is-complete s ≡ false) where
-  module _ (bytes : List ℕ) (from : ℕ) where
-    -- at a byte that is no digit
-    ended-read : (byte : ℕ) (rest : List ℕ) (at value : ℕ) → drop at bytes ≡ byte ∷ rest → is-digit byte ≡ false → read-from (in-field s (at - from) value) (byte ∷ rest) ≡ field-read s bytes from (ended-field byte (at - from) value at)
-    unfolding disallowed-number declined declined-reading field-read ended-field in-field
-    ended-read byte rest at value e d = go (is-comma byte) (is-line-end byte) (ltb largest-code value) refl refl refl
+module _ (s : Standing) (open-yet : is-complete s ≡ false) (bytes : List ℕ) (from : ℕ) where
+  -- at a byte that does not go on with the field: it ends the field, or is disallowed
+  module _ (hole : Bool) (part : Part) (byte : ℕ) (rest : List ℕ) (at : ℕ) (e : drop at bytes ≡ byte ∷ rest) where
+    abbrev here : Standing
+    here = in-field s part
+
+    three : is-comma byte || is-line-end byte ≡ true → ltb largest-code (part .value) ≡ true → read-from here (byte ∷ rest) ≡ declined-reading 3 (s .line) (s .field)
+    unfolding declined declined-reading in-field
+    three c v = byte-refused here byte rest (refusal-3 s open-yet byte part c v)
+
+    one-or-thirteen : is-allowed here byte ≡ false → read-from here (byte ∷ rest) ≡ declined-reading (disallowed-number (part .digits)) (s .line) (s .field)
+    unfolding disallowed-number declined declined-reading in-field
+    one-or-thirteen a = go (eqb (part .digits) 0) refl
       where
-        here : Standing
-        here = in-field s (at - from) value
+        go : (first : Bool) → eqb (part .digits) 0 ≡ first → read-from here (byte ∷ rest) ≡ declined-reading (disallowed-number (part .digits)) (s .line) (s .field)
+        go true f = byte-refused here byte rest {number = 0} (refusal-disallowed s open-yet byte part a ∙ simp f) ∙ simp f
+        go false f = byte-refused here byte rest {number = 12} (refusal-disallowed s open-yet byte part a ∙ simp f) ∙ simp f
 
-        three : (c l : Bool) → is-comma byte ≡ c → is-line-end byte ≡ l → c || l ≡ true → ltb largest-code value ≡ true → read-from here (byte ∷ rest) ≡ declined 3 here
-        three c l p q t v = byte-refused here byte rest (refusal-3 s open-yet byte (at - from) value d (rw (p, q) t) v)
+    ended-read : part-of hole (at - from) (part .value) ≡ part → (is-comma byte ≡ false → is-line-end byte ≡ false → is-allowed here byte ≡ false)
+        → read-from here (byte ∷ rest) ≡ field-read s bytes from hole (ended-field byte (part .digits) (part .value) at)
+    unfolding field-read ended-field
+    ended-read p a = go (is-comma byte) (is-line-end byte) (ltb largest-code (part .value)) refl refl refl
+      where
+        go : (c l v : Bool) → is-comma byte ≡ c → is-line-end byte ≡ l → ltb largest-code (part .value) ≡ v → read-from here (byte ∷ rest) ≡ field-read s bytes from hole (ended-field byte (part .digits) (part .value) at)
+        go false false v ec el ev = one-or-thirteen (a ec el) ∙ simp (ec, el)
+        go true l true ec el ev = three (rw ec refl) ev ∙ simp (ec, ev)
+        go false true true ec el ev = three (rw (ec, el) refl) ev ∙ simp (ec, el, ev)
+        go true l false ec el ev = simp (ec, ev, e, p)
+        go false true false ec el ev = simp (ec, el, ev, e, p)
 
-        disallowed : (first : Bool) → eqb (at - from) 0 ≡ first → is-comma byte ≡ false → is-line-end byte ≡ false → read-from here (byte ∷ rest) ≡ declined-reading (disallowed-number (at - from)) (s .line) (s .field)
-        disallowed true f c l = byte-refused here byte rest {number = 0} (refusal-disallowed s open-yet byte (at - from) value d c l ∙ simp f) ∙ simp f
-        disallowed false f c l = byte-refused here byte rest {number = 12} (refusal-disallowed s open-yet byte (at - from) value d c l ∙ simp f) ∙ simp f
-
-        go : (c l v : Bool) → is-comma byte ≡ c → is-line-end byte ≡ l → ltb largest-code value ≡ v → read-from here (byte ∷ rest) ≡ field-read s bytes from (ended-field byte (at - from) value at)
-        go false false v p q r = disallowed (eqb (at - from) 0) refl p q ∙ simp (p, q)
-        go true l true p q r = three true l p q refl r ∙ simp (p, r)
-        go false true true p q r = three false true p q refl r ∙ simp (p, q, r)
-        go true l false p q r = simp (p, r, e)
-        go false true false p q r = simp (p, q, r, e)
+  -- a field of digits, which no sign of a hole begins
+  module _ (no-sign : is-hole-sign (getD bytes from 0) && not (in-header s) ≡ false) where
+    not-drilled : (byte : ℕ) (rest : List ℕ) (at value : ℕ) → drop at bytes ≡ byte ∷ rest → from ≤ at → begins-hole (in-field s (some-digits (at - from) value)) byte ≡ false
+    unfolding begins-hole in-header in-field
+    not-drilled byte rest at value e h = go (eqb (at - from) 0) refl
+      where
+        go : (first : Bool) → eqb (at - from) 0 ≡ first → is-hole-sign byte && not (in-header s) && eqb (at - from) 0 && true ≡ false
+        go true t = let same : at ≡ from = omega (arith, eqb-true (at - from) 0 t) in rw (← byte-there bytes byte rest at e, same, no-sign) refl
+        go false t = rw (t, and-false) refl
 
     -- from any byte of the field on
-    rest-read : (rest : List ℕ) (at value : ℕ) → drop at bytes ≡ rest → from ≤ at → read-from (in-field s (at - from) value) rest ≡ field-read s bytes from (field-from rest at (at - from) value)
-    unfolding declined declined-reading field-read field-from in-field
-    rest-read [] at value e h = end-early (in-field s (at - from) value) (still-open s open-yet (at - from) value)
+    rest-read : (rest : List ℕ) (at value : ℕ) → drop at bytes ≡ rest → from ≤ at → read-from (in-field s (some-digits (at - from) value)) rest ≡ field-read s bytes from false (field-from rest at (at - from) value)
+    unfolding declined declined-reading field-read field-from in-field is-allowed
+    rest-read [] at value e h = end-early (in-field s (some-digits (at - from) value)) (still-open s open-yet (some-digits (at - from) value))
     rest-read (byte ∷ rest) at value e h = go (is-digit byte) (eqb (at - from) most-digits) refl refl (rest-read rest (at + 1) (value * 10 + (byte - 48)) (drop-next bytes byte rest at e) (omega arith))
       where
         here : Standing
-        here = in-field s (at - from) value
+        here = in-field s (some-digits (at - from) value)
 
         longer : at + 1 - from ≡ at - from + 1
         longer = omega arith
 
-        go : (d m : Bool) → is-digit byte ≡ d → eqb (at - from) most-digits ≡ m → read-from (in-field s (at + 1 - from) (value * 10 + (byte - 48))) rest ≡ field-read s bytes from (field-from rest (at + 1) (at + 1 - from) (value * 10 + (byte - 48))) → read-from here (byte ∷ rest) ≡ field-read s bytes from (field-from (byte ∷ rest) at (at - from) value)
-        go false m d n again = ended-read byte rest at value e d ∙ simp d
+        go : (d m : Bool) → is-digit byte ≡ d → eqb (at - from) most-digits ≡ m → read-from (in-field s (some-digits (at + 1 - from) (value * 10 + (byte - 48)))) rest ≡ field-read s bytes from false (field-from rest (at + 1) (at + 1 - from) (value * 10 + (byte - 48))) → read-from here (byte ∷ rest) ≡ field-read s bytes from false (field-from (byte ∷ rest) at (at - from) value)
+        go false m d n again = ended-read false (some-digits (at - from) value) byte rest at e refl (λ c l. simp (c, l, d, not-drilled byte rest at value e h)) ∙ simp d
         go true true d n again = byte-refused here byte rest (refusal-2 s open-yet byte (at - from) value d n) ∙ simp (d, n)
         go true false d n again = digit-read s open-yet byte rest (at - from) value d n ∙ (rw longer at again) ∙ simp (d, n)
 
--- a field from its first byte on
-pub whole-read : (line field height width : ℕ) (cells : List ℤ) (bytes : List ℕ) (from : ℕ) → is-complete (field-start line field height width cells) ≡ false → read-from (field-start line field height width cells) (drop from bytes) ≡ field-read (field-start line field height width cells) bytes from (field-at bytes from)
-unfolding field-at in-field field-start
-whole-read line field height width cells bytes from h = rw (sub-self) at (rest-read (field-start line field height width cells) h bytes from (drop from bytes) from 0 refl (omega arith))
+  -- a field after the sign of a hole
+  hole-ended : (rest : List ℕ) (at : ℕ) → drop at bytes ≡ rest → read-from (in-field s hole-alone) rest ≡ field-read s bytes from true (hole-from rest at)
+  unfolding declined declined-reading field-read hole-from in-field is-allowed begins-hole
+  hole-ended [] at e = end-early (in-field s hole-alone) (still-open s open-yet hole-alone)
+  hole-ended (byte ∷ rest) at e = ended-read true hole-alone byte rest at e refl (λ c l. simp (c, l, and-false))
 
 -- ## A field that gave a value
 
@@ -134,6 +141,19 @@ pub value-ended : (bytes : List ℕ) (from value end : ℕ) → field-at bytes f
 unfolding field-at
 value-ended bytes from value end h = value-inside bytes (drop from bytes) from 0 0 value end refl h
 
+hole-inside : (bytes rest : List ℕ) (at v end : ℕ) → drop at bytes ≡ rest → hole-from rest at ≡ Value v end → Ended bytes at v end
+unfolding hole-from
+hole-inside bytes [] at v end e h = different h
+hole-inside bytes (byte ∷ rest) at v end e h = ended-inside bytes byte rest at 0 0 v end e h
+
+pub row-value-ended : (bytes : List ℕ) (from value end : ℕ) → row-field-at bytes from ≡ Value value end → Ended bytes from value end
+unfolding row-field-at
+row-value-ended bytes from value end h = go (is-hole-sign (getD bytes from 0)) refl
+  where
+    go : (sign : Bool) → is-hole-sign (getD bytes from 0) ≡ sign → Ended bytes from value end
+    go false t = value-ended bytes from value end (simp t at h)
+    go true t = let r : Ended bytes (from + 1) value end = hole-inside bytes (drop (from + 1) bytes) (from + 1) value end refl (simp t at h) in record { reached = omega (arith, r .reached); inside = r .inside; sound = r .sound; parted = r .parted }
+
 -- the byte that ended a field, in front of the rest of the file
 module _ (bytes : List ℕ) (at value end : ℕ) (ended : Ended bytes at value end) where
   pub ending-byte : (byte : ℕ) → getD bytes end 0 ≡ byte → drop end bytes ≡ byte ∷ drop (end + 1) bytes
@@ -148,16 +168,53 @@ module _ (bytes : List ℕ) (at value end : ℕ) (ended : Ended bytes at value e
 pub refused-number : {field : Field} {number n : ℕ} → number ≡ field-number field → field ≡ Refused n → field ≡ Refused number
 refused-number e f = f ∙ sym (ap Refused (e ∙ ap field-number f))
 
--- ## What follows for the reading
+-- ## A field from its first byte on
+
+-- what its answer makes of the reading, and what is known where it gave a value
+pub record FieldRead (line field height width : ℕ) (cells : List ℤ) (bytes : List ℕ) (from : ℕ) (hole : Bool) (found : Field) : Type 0 where
+  pub same : read-from (field-start line field height width cells) (drop from bytes) ≡ field-read (field-start line field height width cells) bytes from hole found
+  pub ended : (value end : ℕ) → found ≡ Value value end → Ended bytes from value end
+
+-- a field of digits: in the header, and in a row where no sign of a hole begins it
+digits-read : (line field height width : ℕ) (cells : List ℤ) (bytes : List ℕ) (from : ℕ) → is-complete (field-start line field height width cells) ≡ false → is-hole-sign (getD bytes from 0) && not (eqb line 1) ≡ false → FieldRead line field height width cells bytes from false (field-at bytes from)
+unfolding field-at in-field field-start in-header
+digits-read line field height width cells bytes from h n = record { same = rw sub-self at (rest-read (field-start line field height width cells) h bytes from n (drop from bytes) from 0 refl (omega arith)); ended = value-ended bytes from }
+
+pub header-read : (field height : ℕ) (bytes : List ℕ) (from : ℕ) → FieldRead 1 field height 0 no-cells bytes from false (field-at bytes from)
+header-read field height bytes from = digits-read 1 field height 0 no-cells bytes from (header-open field height) (and-false (is-hole-sign (getD bytes from 0)))
+
+module _ (line field height width : ℕ) (cells : List ℤ) (in-rows : 2 ≤ line) (row-left : line < height + 2) (bytes : List ℕ) (from : ℕ) where
+  abbrev first : Standing
+  first = field-start line field height width cells
+
+  first-open : is-complete first ≡ false
+  first-open = row-open line field height width cells in-rows row-left
+
+  -- the sign of a hole, and what comes after it
+  sign-read : is-hole-sign (getD bytes from 0) ≡ true → read-from first (drop from bytes) ≡ field-read first bytes from true (hole-from (drop (from + 1) bytes) (from + 1))
+  unfolding is-hole-sign in-header field-start in-field
+  sign-read t =
+      ap (read-from first) (drop-cons bytes from 0 (sign-inside bytes from t) ∙ rw (eqb-true (getD bytes from 0) 35 t, add-one from) refl)
+      ∙ hole-read first first-open (drop (from + 1) bytes) (ne-eqb line 1 (λ (z : line ≡ 1). omega arith))
+      ∙ hole-ended first first-open bytes from (drop (from + 1) bytes) (from + 1) refl
+
+  -- a field of a row
+  pub row-read : FieldRead line field height width cells bytes from (is-hole-sign (getD bytes from 0)) (row-field-at bytes from)
+  unfolding row-field-at
+  row-read = record { same = go (is-hole-sign (getD bytes from 0)) refl; ended = row-value-ended bytes from }
+    where
+      go : (sign : Bool) → is-hole-sign (getD bytes from 0) ≡ sign → read-from first (drop from bytes) ≡ field-read first bytes from (is-hole-sign (getD bytes from 0)) (row-field-at bytes from)
+      go false t = rw (t, row-field-at) (digits-read line field height width cells bytes from first-open (rw t refl) .same)
+      go true t = rw (t, row-field-at) (sign-read t)
 
 -- what follows for the reading from the field's first byte on
-module _ (line field height width : ℕ) (cells : List ℤ) (bytes : List ℕ) (from : ℕ) (open-yet : is-complete (field-start line field height width cells) ≡ false) where
-  pub by-refusal : (number : ℕ) → field-at bytes from ≡ Refused number → declined-reading number line field ≡ read-from (field-start line field height width cells) (drop from bytes)
+module _ {line field height width : ℕ} {cells : List ℤ} {bytes : List ℕ} {from : ℕ} {hole : Bool} {found : Field} (r : FieldRead line field height width cells bytes from hole found) where
+  pub by-refusal : (number : ℕ) → found ≡ Refused number → declined-reading number line field ≡ read-from (field-start line field height width cells) (drop from bytes)
   unfolding field-read field-start
-  by-refusal number e = sym (whole-read line field height width cells bytes from open-yet ∙ ap (field-read (field-start line field height width cells) bytes from) e)
+  by-refusal number e = sym (r .same ∙ ap (field-read (field-start line field height width cells) bytes from hole) e)
 
-  pub by-ending : (value end : ℕ) → field-at bytes from ≡ Value value end → (byte : ℕ) → getD bytes end 0 ≡ byte → {answer : model.Reading} → read-from (field-ending line field height width cells (end - from) value) (byte ∷ drop (end + 1) bytes) ≡ answer → answer ≡ read-from (field-start line field height width cells) (drop from bytes)
+  pub by-ending : (value end : ℕ) → found ≡ Value value end → (byte : ℕ) → getD bytes end 0 ≡ byte → {answer : model.Reading} → read-from (field-ending line field height width cells (part-of hole (end - from) value)) (byte ∷ drop (end + 1) bytes) ≡ answer → answer ≡ read-from (field-start line field height width cells) (drop from bytes)
   unfolding field-read
   by-ending value end e byte b a =
-      sym (whole-read line field height width cells bytes from open-yet ∙ ap (field-read (field-start line field height width cells) bytes from) e
-      ∙ ap (read-from (field-ending line field height width cells (end - from) value)) (ending-byte bytes from value end (value-ended bytes from value end e) byte b) ∙ a)
+      sym (r .same ∙ ap (field-read (field-start line field height width cells) bytes from hole) e
+      ∙ ap (read-from (field-ending line field height width cells (part-of hole (end - from) value))) (ending-byte bytes from value end (r .ended value end e) byte b) ∙ a)

@@ -1,6 +1,6 @@
 -- What the loop over the rows keeps, and how each field of a row moves it on or ends it. Assumes nothing.
 use mathlib.Core.Path.{_≡_, refl, sym, ap, _∙_}
-use mathlib.Core.Bool.{true}
+use mathlib.Core.Bool.{Bool, true, false}
 use mathlib.Core.List.{List, _∷_}
 use Prim.Native.Nat.{ℕ, suc, _+_, _-_, _*_, _≤_, _<_}
 use native.Mathlib.Nat.{mul-le-mul}
@@ -9,14 +9,15 @@ use lib.ListN.{length, getD, drop, set, drop-of-length-le}
 use lib.Seq.{drop-cons}
 use lib.IntN.{ℤ}
 use borrow.Author.Tests.{eq-eqb, ne-eqb}
+use Rattle.rules.specs.Grid.{largest-code}
 use Rattle.model.specs.Bounds.{is-size}
 use Rattle.model.specs.RefusalLaws.{size-of-test}
 use Rattle.model.specs.GridFile as model
-use Rattle.model.specs.GridFile.{is-complete, in-header, refusal, accepted, declined, read-from, no-cells}
-use Rattle.reading.specs.FieldSteps.{field-start, field-ending, cell-of, declined-reading, byte-refused, end-complete, row-open, row-too-short, row-ends, row-too-long, row-goes-on}
-use Rattle.gridfile.specs.Fields.{field-at}
+use Rattle.model.specs.GridFile.{is-hole-sign, is-complete, in-header, refusal, accepted, declined, read-from, no-cells}
+use Rattle.reading.specs.FieldSteps.{Part, field-start, field-ending, cell-of, declined-reading, byte-refused, end-complete, row-too-short, row-ends, row-too-long, row-goes-on}
+use Rattle.gridfile.specs.Fields.{row-field-at, part-of}
 use Rattle.gridfile.specs.declared.Field.the-variants.{Value, Refused}
-use Rattle.gridfile.proofs.ReadLaws.{Ended, value-ended, comma-there, by-refusal, by-ending}
+use Rattle.gridfile.proofs.ReadLaws.{Ended, comma-there, FieldRead, row-read, by-refusal, by-ending}
 
 -- the next field of a row is at `line` and `field`, its pad's cell at `index`, its first byte at `at`; reading on from there
 -- is what reading from the first row on comes to
@@ -42,9 +43,12 @@ rows-begin bytes from height width cells w h e =
     }
 
 module _ (bytes : List ℕ) (from height width : ℕ) (cells : List ℤ) (index at line field : ℕ) (r : Reached bytes from height width cells index at line field) (left : line < height + 2) where
+  here : FieldRead line field height width cells bytes at (is-hole-sign (getD bytes at 0)) (row-field-at bytes at)
+  here = row-read line field height width cells (r .in-rows) left bytes at
+
   -- a field that is refused
-  pub row-refused : (number : ℕ) → field-at bytes at ≡ Refused number → declined-reading number line field ≡ read-from (field-start 2 1 height width no-cells) (drop from bytes)
-  row-refused number e = by-refusal line field height width cells bytes at (row-open line field height width cells (r .in-rows) left) number e ∙ r .same
+  pub row-refused : (number : ℕ) → row-field-at bytes at ≡ Refused number → declined-reading number line field ≡ read-from (field-start 2 1 height width no-cells) (drop from bytes)
+  row-refused number e = by-refusal here number e ∙ r .same
 
   pub index-inside : is-size height ≡ true → is-size width ≡ true → index < 256
   index-inside h w = omega (arith, r .counted, r .first, r .last, up-to-here, all)
@@ -55,20 +59,31 @@ module _ (bytes : List ℕ) (from height width : ℕ) (cells : List ℤ) (index 
       up-to-here : suc (line - 2) * width ≤ height * width
       up-to-here = mul-le-mul (omega (arith, r .in-rows, left)) (omega arith)
 
-  module _ (value end : ℕ) (e : field-at bytes at ≡ Value value end) where
+  module _ (value end : ℕ) (e : row-field-at bytes at ≡ Value value end) where
     ended : Ended bytes at value end
-    ended = value-ended bytes at value end e
+    ended = here .ended value end e
 
-    by-byte : (byte : ℕ) → getD bytes end 0 ≡ byte → {answer : model.Reading} → read-from (field-ending line field height width cells (end - at) value) (byte ∷ drop (end + 1) bytes) ≡ answer → answer ≡ read-from (field-start 2 1 height width no-cells) (drop from bytes)
-    by-byte byte b a = by-ending line field height width cells bytes at (row-open line field height width cells (r .in-rows) left) value end e byte b a ∙ r .same
+    -- the field, as its cell is stored
+    abbrev part : Part
+    part = part-of (is-hole-sign (getD bytes at 0)) (end - at) value
+
+    small : part .value ≤ largest-code
+    small = go (is-hole-sign (getD bytes at 0))
+      where
+        go : (sign : Bool) → (part-of sign (end - at) value) .value ≤ largest-code
+        go true = omega arith
+        go false = ended .sound
+
+    by-byte : (byte : ℕ) → getD bytes end 0 ≡ byte → {answer : model.Reading} → read-from (field-ending line field height width cells part) (byte ∷ drop (end + 1) bytes) ≡ answer → answer ≡ read-from (field-start 2 1 height width no-cells) (drop from bytes)
+    by-byte byte b a = by-ending here value end e byte b a ∙ r .same
 
     pub too-short : getD bytes end 0 ≡ 10 → field < width → declined-reading 4 line field ≡ read-from (field-start 2 1 height width no-cells) (drop from bytes)
-    too-short b h = by-byte 10 b (row-too-short line field height width cells (r .in-rows) left (end - at) value (drop (end + 1) bytes) (ended .sound) h)
+    too-short b h = by-byte 10 b (row-too-short line field height width cells (r .in-rows) left part (drop (end + 1) bytes) small h)
 
     pub too-long : (getD bytes end 0 ≡ 10 → ⊥) → field ≡ width → declined-reading 4 line field ≡ read-from (field-start 2 1 height width no-cells) (drop from bytes)
-    too-long b h = by-byte 44 (comma-there bytes at value end ended b) (row-too-long line field height width cells (r .in-rows) left (end - at) value (drop (end + 1) bytes) (ended .sound) h)
+    too-long b h = by-byte 44 (comma-there bytes at value end ended b) (row-too-long line field height width cells (r .in-rows) left part (drop (end + 1) bytes) small h)
 
-    module _ (stored : List ℤ) (s : stored ≡ set cells index (cell-of (end - at) value)) where
+    module _ (stored : List ℤ) (s : stored ≡ set cells index (cell-of part)) where
       pub next-row : getD bytes end 0 ≡ 10 → width ≤ field → Reached bytes from height width stored (index + 1) (end + 1) (line + 1) 1
       next-row b h =
           record {
@@ -78,7 +93,7 @@ module _ (bytes : List ℕ) (from height width : ℕ) (cells : List ℤ) (index 
             last = omega (arith, r .first, r .last);
             counted = omega (arith, r .counted, r .last, r .first, ap (λ (n : ℕ). n * width) row-more);
             inside = omega (arith, ended .inside);
-            same = rw (s, r .counted) (by-byte 10 b (row-ends line field height width cells (r .in-rows) left (end - at) value (drop (end + 1) bytes) (ended .sound) h));
+            same = rw (s, r .counted) (by-byte 10 b (row-ends line field height width cells (r .in-rows) left part (drop (end + 1) bytes) small h));
           }
         where
           row-more : line + 1 - 2 ≡ suc (line - 2)
@@ -93,7 +108,7 @@ module _ (bytes : List ℕ) (from height width : ℕ) (cells : List ℤ) (index 
             last = omega (arith, r .last, h);
             counted = omega (arith, r .counted, r .first);
             inside = omega (arith, ended .inside);
-            same = rw (s, r .counted) (by-byte 44 (comma-there bytes at value end ended b) (row-goes-on line field height width cells (r .in-rows) left (end - at) value (drop (end + 1) bytes) (ended .sound) h));
+            same = rw (s, r .counted) (by-byte 44 (comma-there bytes at value end ended b) (row-goes-on line field height width cells (r .in-rows) left part (drop (end + 1) bytes) small h));
           }
 
 -- after the last row

@@ -3,7 +3,7 @@
 use mathlib.Core.Path.{_≡_, refl, sym, ap, _∙_}
 use mathlib.Core.Bool.{Bool, true, false, true≢false}
 use mathlib.Core.List.{List, [], _∷_, _++_, append-assoc, append-nil}
-use Prim.Native.Nat.{ℕ, _+_, _≤_, _<_}
+use Prim.Native.Nat.{ℕ, zero, suc, _+_, _≤_, _<_}
 use native.Mathlib.Numerals.{add-one}
 use native.Mathlib.Omega.{arith}
 use lib.ListN.{length, getD, take, drop, length-append, drop-of-length-le}
@@ -19,7 +19,7 @@ use Rattle.rules.specs.Grid.{Accepted}
 use Rattle.model.specs.Bounds.{is-size}
 use Rattle.model.specs.Refusals.{grid-refusal}
 use Rattle.model.specs.RefusalLaws.{test-of-size, not-refused}
-use Rattle.model.specs.Text.{bytes, comma, line-end}
+use Rattle.model.specs.Text.{bytes, comma, line-end, hole-sign}
 use Rattle.model.specs.Decimal.{decimal}
 use Rattle.model.specs.Writing.{cell-text, rows-text, grid-text, turned-away, written, write}
 use Rattle.text.specs.Put.{Put}
@@ -33,13 +33,18 @@ module _ (z : ℤ) (f : SFits w32 z) where
   pub back : toZ w32 (ofZ w32 z) ≡ z
   back = toZ-ofZ w32 z f
 
-  pub no-code : ltZ (toZ w32 (ofZ w32 z)) (pos 0) ≡ true → cell-text z ≡ []
+  pub a-blank : ofZ w32 z ≡ 4294967295 → cell-text z ≡ []
   unfolding cell-text
-  no-code h = go z (rw back at h)
+  a-blank e = ap cell-text (sym back ∙ ap (toZ w32) e)
+
+  pub a-hole : (ofZ w32 z ≡ 4294967295 → ⊥) → ltZ (toZ w32 (ofZ w32 z)) (pos 0) ≡ true → cell-text z ≡ 35 ∷ []
+  unfolding cell-text hole-sign bytes
+  a-hole n h = go z n (rw back at h)
     where
-      go : (z : ℤ) → ltZ z (pos 0) ≡ true → cell-text z ≡ []
-      go (pos n) h = absurd (omega (arith, ltb-true n 0 h))
-      go (negsuc n) h = refl
+      go : (z : ℤ) → (ofZ w32 z ≡ 4294967295 → ⊥) → ltZ z (pos 0) ≡ true → cell-text z ≡ 35 ∷ []
+      go (pos code) n h = absurd (omega (arith, ltb-true code 0 h))
+      go (negsuc zero) n h = absurd (n refl)
+      go (negsuc (suc below)) n h = refl
 
   pub a-code : ltZ (toZ w32 (ofZ w32 z)) (pos 0) ≡ false → T (nonNeg (toZ w32 (ofZ w32 z))) × Fits w64 (natAbs (toZ w32 (ofZ w32 z)))
   a-code h = rw back (go z f (rw back at h))

@@ -5,20 +5,22 @@
 ghost use mathlib.Core.Path.{_≡_};
 ghost use mathlib.Core.Bool.{true};
 ghost use Prim.Native.Nat.{_+_, _-_, _*_, _≤_, _<_};
-ghost use lib.ListN.{length, drop, set};
+ghost use lib.ListN.{length, getD, drop, set};
 ghost use Rattle.rules.specs.Grid.{largest-code};
 ghost use Rattle.model.specs.Bounds.{is-size};
-ghost use Rattle.model.specs.GridFile.{is-digit, disallowed-number, no-cells, read-from, read};
+ghost use Rattle.model.specs.GridFile.{is-digit, is-hole-sign, disallowed-number, no-cells, read-from, read};
 ghost use Rattle.model.specs.Writing.{cell-text, rows-text, grid-text, write};
 ghost use Rattle.text.specs.Put.{Put};
 ghost use Rattle.reading.specs.FieldSteps.{field-start, cell-of, declined-reading};
-ghost use Rattle.gridfile.specs.Fields.{field-at, ended-field, field-number};
+ghost use Rattle.gridfile.specs.Fields.{field-at, row-field-at, ended-field, field-number, part-of};
 ghost use Rattle.gridfile.specs.Answers.{reading-says, writing-says};
 
-// The bytes that part fields and end lines, and the most digits of a field.
+// The bytes that part fields and end lines, the sign of a hole, and the most digits of a field.
 const COMMA: u8 = 44;
 
 const LINE_END: u8 = 10;
+
+const HOLE_SIGN: u8 = 35;
 
 const ZERO: u8 = 48;
 
@@ -68,7 +70,14 @@ fn disallowed_number(digits: usize) -> u8
     13
 }
 
-// A field that ends, or should end, at a byte that is no digit, after some digits with a value.
+// Whether a hole's sign stands at a place.
+fn is_hole(bytes: &[u8], at: usize) -> bool
+    ensures { λ r. ⌜ r ≡ is-hole-sign (getD (now (bytes .entry)) at 0) ⌝ }
+{
+    at < bytes.len() && bytes[at] == HOLE_SIGN
+}
+
+// A field that ends, or should end, at a byte, after some digits with a value.
 fn ended_field(byte: u8, digits: usize, value: usize, at: usize) -> Field
     ensures { λ r. ⌜ r ≡ ended-field byte digits value at ⌝ }
 {
@@ -83,7 +92,7 @@ fn ended_field(byte: u8, digits: usize, value: usize, at: usize) -> Field
     Field::Value(value, at)
 }
 
-// The field that begins at a place.
+// The field of digits that begins at a place.
 fn field_at(bytes: &[u8], from: usize) -> Field
     ensures { λ r. ⌜ r ≡ field-at (now (bytes .entry)) from ⌝ }
 {
@@ -103,6 +112,20 @@ fn field_at(bytes: &[u8], from: usize) -> Field
     Field::Refused(6)
 }
 
+// The field of a row that begins at a place: a hole's sign alone, which has the value 0, or digits.
+fn row_field_at(bytes: &[u8], from: usize) -> Field
+    ensures { λ r. ⌜ r ≡ row-field-at (now (bytes .entry)) from ⌝ }
+{
+    if !is_hole(bytes, from) {
+        return field_at(bytes, from);
+    }
+    let at = from + 1;
+    if at == bytes.len() {
+        return Field::Refused(6);
+    }
+    ended_field(bytes[at], 0, 0, at)
+}
+
 // The number of a field's refusal, 0 for a value.
 fn field_number(field: Field) -> u8
     ensures { λ r. ⌜ r ≡ field-number field ⌝ }
@@ -117,16 +140,18 @@ fn field_number(field: Field) -> u8
 fn no_cells() -> [i32; 256]
     ensures { λ r. ⌜ r ≡ no-cells ⌝ }
 {
-    [-1; 256]
+    [grid::BLANK; 256]
 }
 
-// A cell gets what its field says: blank if the field had no digits, else the value.
-fn store_cell(cells: &mut [i32; 256], index: usize, digits: usize, value: usize)
+// A cell gets what its field says: a hole, blank if the field had no digits, else the value.
+fn store_cell(cells: &mut [i32; 256], index: usize, hole: bool, digits: usize, value: usize)
     requires { ⌜ (index < 256) × (value ≤ largest-code) ⌝ }
-    ensures { λ _. ⌜ now (cells .exit) ≡ set (now (cells .entry)) index (cell-of digits value) ⌝ }
+    ensures { λ _. ⌜ now (cells .exit) ≡ set (now (cells .entry)) index (cell-of (part-of hole digits value)) ⌝ }
 {
-    if digits == 0 {
-        cells[index] = -1;
+    if hole {
+        cells[index] = grid::HOLE;
+    } else if digits == 0 {
+        cells[index] = grid::BLANK;
     } else {
         cells[index] = value as i32;
     }
@@ -157,11 +182,11 @@ fn read_rows(bytes: &[u8], from: usize, height: usize, width: usize) -> Reading
     let mut line = 2;
     let mut field = 1;
     while line < height + 2 {
-        let found = field_at(bytes, at);
+        let found = row_field_at(bytes, at);
         let Field::Value(value, end) = found else {
             return declined(field_number(found), line, field);
         };
-        store_cell(&mut cells, index, end - at, value);
+        store_cell(&mut cells, index, is_hole(bytes, at), end - at, value);
         index += 1;
         at = end + 1;
         if bytes[end] == LINE_END {
@@ -217,13 +242,16 @@ pub fn read(bytes: &[u8]) -> Reading
     read_rows(bytes, end + 1, height, width)
 }
 
-// The field of a pad from a place on, nothing for a blank one; the place after it.
+// The field of a pad from a place on: nothing for a blank one, the sign of a hole, or the code; the place after it.
 fn put_cell(out: &mut [u8], at: usize, cell: i32) -> usize
     requires { ⌜ at + length (cell-text cell) ≤ length (now out) ⌝ }
     ensures { λ r. ⌜ Put (now (out .entry)) (now (out .exit)) at (cell-text cell) r ⌝ }
 {
-    if cell < 0 {
+    if cell == grid::BLANK {
         return at;
+    }
+    if cell < 0 {
+        return text::put_byte(out, at, HOLE_SIGN);
     }
     text::put_decimal(out, at, cell as u64)
 }

@@ -30,7 +30,7 @@ fn print_grid(height: usize, width: usize, cells: &[i32]) {
 fn print_past(cells: &[i32], pads: usize) {
     let mut index = pads;
     while index < cells.len() {
-        if cells[index] != -1 {
+        if cells[index] != grid::BLANK {
             io::write_all(STDOUT_FILENO, b"past\n");
         }
         index += 1;

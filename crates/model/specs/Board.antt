@@ -6,7 +6,7 @@ use mathlib.Core.Bool.{Bool, true, false, _&&_, _||_, not}
 use mathlib.Core.List.{List, [], _∷_, _++_}
 use lib.Dec.{eqb, ltb, leb}
 use lib.IntN.{ℤ, pos, negsuc}
-use Rattle.rules.specs.Grid.{Edge, right, down, first, second, Cell, blank, clue, Grid, pads}
+use Rattle.rules.specs.Grid.{Edge, right, down, first, second, Cell, blank, clue, hole, Grid, pads}
 use Rattle.rules.specs.Drawing.{num, Side, on-left, on-right}
 
 -- THE STATE of an edge: `EdgeState` of the Rust.
@@ -113,9 +113,21 @@ pub data Item : Type 0 where
   -- pad check: count, set the flag, or decide the first undecided edge
   settle : ℕ → Item
 
+-- A PAD is blank, a clue or a hole. Blank is what corners and bars ask; clue is what the degree asks.
 abbrev pub isBlank : Cell → Bool
 isBlank blank = true
 isBlank (clue c) = false
+isBlank hole = false
+
+abbrev pub isClue : Cell → Bool
+isClue blank = false
+isClue (clue c) = true
+isClue hole = false
+
+abbrev pub isHole : Cell → Bool
+isHole blank = false
+isHole (clue c) = false
+isHole hole = true
 
 -- the other three edges of a unit square: each, if a line, makes the other two none
 abbrev pub detours : Edge → Edge → Edge → List Item
@@ -232,7 +244,7 @@ module _ (g : Grid) where
 
   -- a pad's lines, plus 1 for a clue
   unfoldable pub degree : State → ℕ → ℕ
-  degree S v = num (not (isBlank (g .cell v))) + lines S (around v)
+  degree S v = num (isClue (g .cell v)) + lines S (around v)
 
   -- Degree above 2, or 1 with no edge undecided, sets the flag. With one edge undecided or degree ≥ 2, the first undecided edge becomes
   -- a line if the degree is 1, else none.
@@ -312,11 +324,30 @@ module _ (g : Grid) where
   unfoldable pub enough : ℕ
   enough = 4 * pads g + 4
 
-  -- THE FRESH BOARD: all edges undecided, a clue's end at its code, a blank pad's at itself, the flag clear. What would be an edge off
+  -- THE BARE BOARD: all edges undecided, a clue's end at its code, any other pad's at itself, the flag clear. What would be an edge off
   -- the board, to the right of the last column or below the last row, holds none for ever; no call reaches it.
-  abbrev pub fresh-end : ℕ → Cell → End
-  fresh-end v blank = at-pad v
-  fresh-end v (clue c) = at-clue c
+  abbrev pub bare-end : ℕ → Cell → End
+  bare-end v blank = at-pad v
+  bare-end v (clue c) = at-clue c
+  bare-end v hole = at-pad v
+
+  unfoldable pub bare : State
+  bare = record { edge = λ e. elim (on-board e) [ true ↦ undecided | false ↦ none ]; end = λ v. bare-end v (g .cell v); flag = false }
+
+  -- THE FRESH BOARD is the bare one after all edges at holes have been put to a decision as none, also once the flag is set: these edges,
+  -- one after another,
+  unfoldable pub shut : List (Edge × ℕ) → State → State
+  shut [] S = S
+  shut (p ∷ l) S = shut l (decide enough (p .0) none S)
+
+  -- the edges at pad v, if it is a hole: left, right, up, down,
+  unfoldable pub shut-at : ℕ → State → State
+  shut-at v S = elim (isHole (g .cell v)) [ true ↦ shut (around v) S | false ↦ S ]
+
+  -- and the holes in index order: those among n pads, from v on
+  unfoldable pub prepared : ℕ → ℕ → State → State
+  prepared zero v S = S
+  prepared (suc n) v S = prepared n (v + 1) (shut-at v S)
 
   unfoldable pub fresh : State
-  fresh = record { edge = λ e. elim (on-board e) [ true ↦ undecided | false ↦ none ]; end = λ v. fresh-end v (g .cell v); flag = false }
+  fresh = prepared (pads g) 0 bare

@@ -1,21 +1,42 @@
--- Small laws of the board's definitions: an edge of the board passes its test, the next pad of a row has one to its left, an end names at
+-- Small laws of the board's definitions: a pad is blank, a clue or a hole; an edge of the board passes its test, and no other does, the next pad of a row has one to its left, an end names at
 -- most one pad, and an end that is put stands at its pad and nowhere else. They rest on Board.antt.
 use Prim.Native.Nat.{ℕ, _+_, _%_, _<_}
 use mathlib.Core.Path.{_≡_, refl, sym, ap}
 use mathlib.Core.Logic.{_≢_}
-use mathlib.Core.Bool.{true}
+use mathlib.Core.Bool.{true, false}
 use native.Mathlib.Omega.{arith}
 use native.Mathlib.Decide.{ℕ-discrete}
-use borrow.Author.Tests.{eq-eqb, ne-eqb, lt-ltb}
-use Rattle.rules.specs.Grid.{Edge, right, down, Grid, pads, OnBoard}
-use Rattle.rules.specs.Tests.{both-on}
+use borrow.Author.Tests.{eq-eqb, ne-eqb, lt-ltb, ltb-true}
+use lib.Dec.{ltb}
+use Rattle.rules.specs.Grid.{Edge, right, down, Cell, blank, clue, hole, Grid, pads, OnBoard}
+use Rattle.rules.specs.Tests.{both, both-on, conflict}
 use Rattle.rules.specs.Places.{zero≢one, next-column}
-use Rattle.model.specs.Board.{End, through, at-pad, at-clue, put-end, put-end-at, has-left, on-board}
+use Rattle.model.specs.Board.{End, through, at-pad, at-clue, put-end, put-end-at, isBlank, isClue, isHole, has-left, has-right, on-board}
+
+-- WHAT A PAD IS
+pub blank-of : (C : Cell) → isBlank C ≡ true → C ≡ blank
+blank-of blank h = refl
+blank-of (clue c) h = conflict h refl
+blank-of hole h = conflict h refl
+
+pub hole-of : (C : Cell) → isHole C ≡ true → C ≡ hole
+hole-of blank h = conflict h refl
+hole-of (clue c) h = conflict h refl
+hole-of hole h = refl
+
+pub clue-is-clue : {C : Cell} {c : ℕ} {A : Type 0} → isClue C ≡ false → C ≡ clue c → A
+clue-is-clue none e = conflict (ap isClue e) none
 
 pub on-board-test : (g : Grid) (e : Edge) → OnBoard g e → on-board g e ≡ true
 unfolding OnBoard
 on-board-test g (right v) (below, inside) = both-on (lt-ltb (v % g .width + 1) (g .width) inside) (lt-ltb v (pads g) below)
 on-board-test g (down v) below = lt-ltb (v + g .width) (pads g) below
+
+pub on-board-of-test : (g : Grid) (e : Edge) → on-board g e ≡ true → OnBoard g e
+unfolding OnBoard
+on-board-of-test g (right v) h = let (inside, below) = both (has-right g v) (ltb v (pads g)) h in
+    (ltb-true v (pads g) below, ltb-true (v % g .width + 1) (g .width) inside)
+on-board-of-test g (down v) h = ltb-true (v + g .width) (pads g) h
 
 pub left-of-next : (g : Grid) (v : ℕ) → v % g .width + 1 < g .width → has-left g (v + 1) ≡ true
 left-of-next g v h = lt-ltb 0 ((v + 1) % g .width) (omega (arith, next-column (g .width) v h))

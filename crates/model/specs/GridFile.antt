@@ -25,18 +25,21 @@ is-comma byte = eqb byte 44
 unfoldable pub is-line-end : ℕ → Bool
 is-line-end byte = eqb byte 10
 
--- any other byte is disallowed
-unfoldable pub is-allowed : ℕ → Bool
-is-allowed byte = is-digit byte || is-comma byte || is-line-end byte
+-- a hole is the sign `#`
+unfoldable pub is-hole-sign : ℕ → Bool
+is-hole-sign byte = eqb byte 35
 
 -- the number of a disallowed byte in a field that has so many digits before it: 1 at the field's start (a leading space
 -- or quote mark), 13 after a digit (a letter typed for a digit, a return in front of the 0A)
 unfoldable pub disallowed-number : ℕ → ℕ
 disallowed-number digits = if eqb digits 0 then 1 else 13
 
--- a cell is -1 for blank, else its code
+-- a cell is -1 for blank, -2 for a hole, else its code
 unfoldable pub blank : ℤ
 blank = negsuc 0
+
+unfoldable pub hole : ℤ
+hole = negsuc 1
 
 unfoldable pub no-cells : List ℤ
 no-cells = replicate 256 blank
@@ -50,6 +53,8 @@ pub record Standing : Type 0 where
   -- how many digits the field has so far, and their value
   pub digits : ℕ
   pub value : ℕ
+  -- whether the field is a hole: its `#` has been read
+  pub drilled : Bool
   -- H and W, each once its field has ended
   pub height : ℕ
   pub width : ℕ
@@ -57,7 +62,7 @@ pub record Standing : Type 0 where
   pub cells : List ℤ
 
 unfoldable pub start : Standing
-start = record { line = 1; field = 1; digits = 0; value = 0; height = 0; width = 0; cells = no-cells }
+start = record { line = 1; field = 1; digits = 0; value = 0; drilled = false; height = 0; width = 0; cells = no-cells }
 
 -- line 1 is the header
 unfoldable pub in-header : Standing → Bool
@@ -70,9 +75,9 @@ fields-due s = if in-header s then 2 else s .width
 unfoldable pub is-complete : Standing → Bool
 is-complete s = not (in-header s) && eqb (s .line) (s .height + 2)
 
--- what the field says if it ends here: empty for blank, else its value (leading zeros count for nothing)
+-- what the field says if it ends here: `#` for a hole, empty for blank, else its value (leading zeros count for nothing)
 unfoldable pub field-cell : Standing → ℤ
-field-cell s = if eqb (s .digits) 0 then blank else pos (s .value)
+field-cell s = if s .drilled then hole else if eqb (s .digits) 0 then blank else pos (s .value)
 
 -- the first of H and W that is empty or out of bounds if the header ends here, 0 if both are sound;
 -- an empty field has the value 0, which is out of bounds
@@ -81,9 +86,17 @@ bad-size s = if not (is-size (s .height)) then 1 else if not (is-size (s .value)
 
 -- ## What a byte does
 
+-- `#` is allowed as the first byte of a field of a row
+unfoldable pub begins-hole : Standing → ℕ → Bool
+begins-hole s byte = is-hole-sign byte && not (in-header s) && eqb (s .digits) 0 && not (s .drilled)
+
+-- digits are allowed where no `#` was read, commas and 0A everywhere; any other byte is disallowed
+unfoldable pub is-allowed : Standing → ℕ → Bool
+is-allowed s byte = is-comma byte || is-line-end byte || (is-digit byte && not (s .drilled)) || begins-hole s byte
+
 -- the number that applies at a byte, 0 if none does: the first of these that holds
 --   6 a byte after the last row (tested before 1)
---   1 not a digit, comma or 0A, or 13 if it comes after a digit of its field
+--   1 a disallowed byte, or 13 if it comes after a digit of its field
 --   2 an eleventh digit
 --   3 the ended field exceeds the largest code
 --   4 too few fields at a line's end, or a comma after the last
@@ -91,7 +104,7 @@ bad-size s = if not (is-size (s .height)) then 1 else if not (is-size (s .value)
 unfoldable pub refusal : Standing → ℕ → ℕ
 refusal s byte =
     if is-complete s then 6
-    else if not (is-allowed byte) then disallowed-number (s .digits)
+    else if not (is-allowed s byte) then disallowed-number (s .digits)
     else if is-digit byte && eqb (s .digits) most-digits then 2
     else if not (is-digit byte) && ltb largest-code (s .value) then 3
     else if is-line-end byte && ltb (s .field) (fields-due s) then 4
@@ -107,6 +120,21 @@ with-digit s byte =
       field = s .field;
       digits = s .digits + 1;
       value = s .value * 10 + (byte - 48);
+      drilled = s .drilled;
+      height = s .height;
+      width = s .width;
+      cells = s .cells;
+    }
+
+-- the field being read is a hole
+unfoldable pub with-hole : Standing → Standing
+with-hole s =
+    record {
+      line = s .line;
+      field = s .field;
+      digits = s .digits;
+      value = s .value;
+      drilled = true;
       height = s .height;
       width = s .width;
       cells = s .cells;
@@ -121,6 +149,7 @@ begun s next-line next-field =
       field = next-field;
       digits = 0;
       value = 0;
+      drilled = false;
       height = if in-header s && eqb (s .field) 1 then s .value else s .height;
       width = if in-header s && eqb (s .field) 2 then s .value else s .width;
       cells =
@@ -132,6 +161,7 @@ begun s next-line next-field =
 unfoldable pub after : Standing → ℕ → Standing
 after s byte =
     if is-digit byte then with-digit s byte
+    else if is-hole-sign byte then with-hole s
     else if is-comma byte then begun s (s .line) (s .field + 1)
     else begun s (s .line + 1) 1
 

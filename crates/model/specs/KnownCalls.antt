@@ -5,12 +5,12 @@ use mathlib.Core.List.{List, [], _∷_, _++_}
 use lib.ListN.{replicate}
 use lib.IntN.{pos, negsuc}
 use Rattle.model.specs.Bounds.{is-size}
-use Rattle.model.specs.GridFile.{blank}
+use Rattle.model.specs.GridFile.{blank, hole}
 use Rattle.model.specs.Refusals.{is-cell, first-bad-cell, grid-refusal}
 use Rattle.rules.specs.Record.{record-lines}
 use Rattle.model.specs.Records.{record-length, has-record, record-at, shorter}
 
--- sizes first, then the number of cells, then the first bad cell; codes 0 and 2147483646 are sound
+-- sizes first, then the number of cells, then the first bad cell; codes 0 and 2147483646 are sound, and so is a hole
 abbrev pub Grids : Type 0
 Grids =
     (grid-refusal 2 2 (replicate 4 blank) ≡ (0, 0))
@@ -19,12 +19,13 @@ Grids =
     × (grid-refusal 2 1 (pos 2147483647 ∷ []) ≡ (7, 0))
     × (grid-refusal 2 2 (pos 2147483647 ∷ []) ≡ (8, 0))
     × (grid-refusal 2 2 (pos 0 ∷ pos 2147483646 ∷ blank ∷ blank ∷ []) ≡ (0, 0))
-    × (grid-refusal 2 2 (blank ∷ pos 2147483647 ∷ negsuc 1 ∷ blank ∷ []) ≡ (9, 1))
-    × (grid-refusal 2 2 (blank ∷ blank ∷ blank ∷ negsuc 1 ∷ []) ≡ (9, 3))
+    × (grid-refusal 2 2 (hole ∷ hole ∷ pos 0 ∷ hole ∷ []) ≡ (0, 0))
+    × (grid-refusal 2 2 (blank ∷ pos 2147483647 ∷ negsuc 2 ∷ blank ∷ []) ≡ (9, 1))
+    × (grid-refusal 2 2 (blank ∷ hole ∷ blank ∷ negsuc 2 ∷ []) ≡ (9, 3))
 
 pub known-grids : Grids
-unfolding is-size blank is-cell first-bad-cell grid-refusal
-known-grids = (refl, refl, refl, refl, refl, refl, refl, refl)
+unfolding is-size blank hole is-cell first-bad-cell grid-refusal
+known-grids = (refl, refl, refl, refl, refl, refl, refl, refl, refl)
 
 -- two records of the 2 by 2 board and one byte more
 unfoldable pub two-records : List ℕ

@@ -5,11 +5,11 @@ use Prim.Native.Nat.{ℕ, zero, suc}
 use mathlib.Core.Path.{_≡_, refl}
 use mathlib.Core.List.{List, [], _∷_, _++_}
 use lib.ListN.{length, replicate, getD}
-use lib.IntN.{ℤ, pos}
+use lib.IntN.{ℤ, pos, negsuc}
 use Rattle.model.specs.Bounds.{is-size, most-digits}
 use Rattle.model.specs.Text.{bytes, comma, line-end}
 use Rattle.model.specs.Decimal.{digit-byte, digits-before, decimal}
-use Rattle.model.specs.GridFile.{is-digit, is-comma, is-line-end, is-allowed, disallowed-number, blank, no-cells, start, in-header, fields-due, is-complete, field-cell, bad-size, refusal, with-digit, begun, after, accepted, declined, read-from, read}
+use Rattle.model.specs.GridFile.{is-digit, is-comma, is-line-end, is-hole-sign, begins-hole, is-allowed, disallowed-number, blank, hole, no-cells, start, in-header, fields-due, is-complete, field-cell, bad-size, refusal, with-digit, with-hole, begun, after, accepted, declined, read-from, read}
 use Rattle.rules.specs.Record.{record-lines}
 use Rattle.model.specs.Printed.{line-at, right-line, down-line, code-of-pad, code-digits-from, code-digits, summary-line, layout-line, refusal-line, Found, layout-lines, found-text, reading-text, printed}
 
@@ -61,6 +61,16 @@ Leading-zeros =
     × (cell (bytes "2,2\n007,\n,0000000007\n") 3 ≡ pos 7)
     × (cell (bytes "2,2\n0,\n,\n") 0 ≡ pos 0)
 
+-- `#` alone in a field of a row is a hole, -2: beside blank pads and codes, in every field, in the last one
+abbrev pub Holes-read : Type 0
+Holes-read =
+    (read (bytes "2,3\n5,,#\n#,0,5\n")
+    ≡ record { number = 0; line = 0; field = 0; height = 2; width = 3; cells = pos 5 ∷ blank ∷ negsuc 1 ∷ negsuc 1 ∷ pos 0 ∷ pos 5 ∷ replicate 250 blank })
+    × (read (bytes "2,2\n#,#\n#,#\n")
+    ≡ record { number = 0; line = 0; field = 0; height = 2; width = 2; cells = negsuc 1 ∷ negsuc 1 ∷ negsuc 1 ∷ negsuc 1 ∷ replicate 252 blank })
+    × (cell (bytes "2,2\n#,\n,\n") 0 ≡ negsuc 1)
+    × (cell (bytes "2,2\n,\n,#\n") 3 ≡ negsuc 1)
+
 -- the longest file: ten digits in both fields of the header and in each of 16 rows of 16 fields
 unfoldable pub longest-row : ℕ → List ℕ
 longest-row zero = bytes "2147483646\n"
@@ -81,8 +91,8 @@ Longest-read =
 
 -- ## Refused files
 
--- 1: not a digit, comma or 0A at the start of its field: in the header, in a row, in the last field, also where the field
--- before has a digit
+-- 1: a disallowed byte with no digit of its field before it: in the header, in a row, in the last field, also where the field
+-- before has a digit; a `#` in the header; a digit, a second `#`, a space or a return (0D) after the `#` of a hole
 abbrev pub Refused-1 : Type 0
 Refused-1 =
     (answer (bytes " 2,2\n") ≡ names 1 1 1)
@@ -91,9 +101,15 @@ Refused-1 =
     × (answer (bytes "2,2\nO1,\n,O1\n") ≡ names 1 2 1)
     × (answer (bytes "2,2\n5,\n5,\"5\"\n") ≡ names 1 3 2)
     × (answer (0 ∷ []) ≡ names 1 1 1)
+    × (answer (bytes "#,2\n") ≡ names 1 1 1)
+    × (answer (bytes "2,#\n") ≡ names 1 1 2)
+    × (answer (bytes "2,2\n#5,\n,\n") ≡ names 1 2 1)
+    × (answer (bytes "2,2\n##,\n,\n") ≡ names 1 2 1)
+    × (answer (bytes "2,2\n# ,\n,\n") ≡ names 1 2 1)
+    × (answer (bytes "2,2\n5,\n5,#\r\n") ≡ names 1 3 2)
 
--- 13: not a digit, comma or 0A after a digit of its field: in the header, in a row, in the last field; after a 0, which has
--- no value yet, and after ten digits; a return (0D) is no line end
+-- 13: a disallowed byte after a digit of its field: in the header, in a row, in the last field; after a 0, which has no value
+-- yet, and after ten digits; a return (0D) is no line end; a `#` after a digit, in the header too
 abbrev pub Refused-13 : Type 0
 Refused-13 =
     (answer (bytes "2x,2\n") ≡ names 13 1 1)
@@ -104,6 +120,10 @@ Refused-13 =
     × (answer (bytes "2,2\n0x,\n,\n") ≡ names 13 2 1)
     × (answer (bytes "2,2\n1234567890x,\n,\n") ≡ names 13 2 1)
     × (answer (bytes "2,2\n,\n5" ++ 255 ∷ []) ≡ names 13 3 1)
+    × (answer (bytes "2#,2\n") ≡ names 13 1 1)
+    × (answer (bytes "2,2\n5#,\n,\n") ≡ names 13 2 1)
+    × (answer (bytes "2,2\n0#,\n,\n") ≡ names 13 2 1)
+    × (answer (bytes "2,2\n,\n,1234567890#\n") ≡ names 13 3 2)
 
 -- 2: an eleventh digit, also where a letter comes after it
 abbrev pub Refused-2 : Type 0
@@ -121,7 +141,7 @@ Refused-3 =
     × (answer (bytes "2147483647\n") ≡ names 3 1 1)
     × (answer (bytes "2,2\n,\n,9999999999\n") ≡ names 3 3 2)
 
--- 4: too few fields, or a comma after the last, also where 5 would apply
+-- 4: too few fields, or a comma after the last, also where 5 would apply, and after a hole
 abbrev pub Refused-4 : Type 0
 Refused-4 =
     (answer (bytes "17\n") ≡ names 4 1 1)
@@ -129,6 +149,8 @@ Refused-4 =
     × (answer (bytes "17,17,") ≡ names 4 1 2)
     × (answer (bytes "2,2\n5\n") ≡ names 4 2 1)
     × (answer (bytes "2,3\n,,\n,,,\n") ≡ names 4 3 3)
+    × (answer (bytes "2,2\n#\n,\n") ≡ names 4 2 1)
+    × (answer (bytes "2,2\n#,#,\n") ≡ names 4 2 2)
 
 -- 5: H or W empty or outside 2..16, the first bad one
 abbrev pub Refused-5 : Type 0
@@ -139,7 +161,7 @@ Refused-5 =
     × (answer (bytes "17,17\n") ≡ names 5 1 1)
     × (answer (bytes "16,17\n") ≡ names 5 1 2)
 
--- 6: the file ends before the last row does, or has a byte after it, whatever byte that is
+-- 6: the file ends before the last row does, right after a `#` too, or has a byte after it, whatever byte that is
 abbrev pub Refused-6 : Type 0
 Refused-6 =
     (answer [] ≡ names 6 1 1)
@@ -148,6 +170,9 @@ Refused-6 =
     × (answer (bytes "2,2\n5,\n,5") ≡ names 6 3 2)
     × (answer (bytes "2,2\n5,\n,5\n\n") ≡ names 6 4 1)
     × (answer (bytes "2,2\n5,\n,5\nx") ≡ names 6 4 1)
+    × (answer (bytes "2,2\n#") ≡ names 6 2 1)
+    × (answer (bytes "2,2\n,\n,#") ≡ names 6 3 2)
+    × (answer (bytes "2,2\n,\n,#\n#") ≡ names 6 4 1)
 
 -- a declined grid is 0, 0, all blank
 abbrev pub Declined-read : Type 0
@@ -156,23 +181,24 @@ Declined-read =
     ≡ record { number = 6; line = 3; field = 2; height = 0; width = 0; cells = replicate 256 blank }
 
 pub known-files :
-    K10 × K11 × K12 × Example-read × Leading-zeros × Longest-read
+    K10 × K11 × K12 × Example-read × Leading-zeros × Holes-read × Longest-read
     × Refused-1 × Refused-13 × Refused-2 × Refused-3 × Refused-4 × Refused-5 × Refused-6 × Declined-read
-unfolding is-size most-digits bytes is-digit is-comma is-line-end is-allowed disallowed-number blank no-cells start in-header fields-due is-complete field-cell bad-size refusal with-digit begun after accepted declined read-from read answer cell longest-row longest-rows longest-file
+unfolding is-size most-digits bytes is-digit is-comma is-line-end is-hole-sign begins-hole is-allowed disallowed-number blank hole no-cells start in-header fields-due is-complete field-cell bad-size refusal with-digit with-hole begun after accepted declined read-from read answer cell longest-row longest-rows longest-file
 known-files = (
   (refl, refl, refl),
   refl,
   refl,
   refl,
   (refl, refl, refl),
+  (refl, refl, refl, refl),
   (refl, refl),
-  (refl, refl, refl, refl, refl, refl),
-  (refl, refl, refl, refl, refl, refl, refl, refl),
+  (refl, refl, refl, refl, refl, refl, refl, refl, refl, refl, refl, refl),
+  (refl, refl, refl, refl, refl, refl, refl, refl, refl, refl, refl, refl),
   (refl, refl, refl, refl, refl),
   (refl, refl, refl),
+  (refl, refl, refl, refl, refl, refl, refl),
   (refl, refl, refl, refl, refl),
-  (refl, refl, refl, refl, refl),
-  (refl, refl, refl, refl, refl, refl),
+  (refl, refl, refl, refl, refl, refl, refl, refl, refl),
   refl,
 )
 
@@ -209,5 +235,5 @@ Decimals =
     × (decimal 18446744073709551615 ≡ bytes "18446744073709551615")
 
 pub known-texts : Example-printed × Refused-printed × Decimals
-unfolding example-found is-size most-digits bytes is-digit is-comma is-line-end is-allowed disallowed-number blank no-cells start in-header fields-due is-complete field-cell bad-size refusal with-digit begun after accepted declined read-from read record-lines digit-byte digits-before decimal line-at right-line down-line code-of-pad code-digits-from code-digits comma line-end summary-line layout-line refusal-line layout-lines found-text reading-text printed
+unfolding example-found is-size most-digits bytes is-digit is-comma is-line-end is-hole-sign begins-hole is-allowed disallowed-number blank hole no-cells start in-header fields-due is-complete field-cell bad-size refusal with-digit with-hole begun after accepted declined read-from read record-lines digit-byte digits-before decimal line-at right-line down-line code-of-pad code-digits-from code-digits comma line-end summary-line layout-line refusal-line layout-lines found-text reading-text printed
 known-texts = (refl, (refl, refl), (refl, refl, refl, refl, refl, refl))

@@ -10,6 +10,7 @@ pub mod BoardLaws
 pub mod Calls
 pub mod EdgeAtLaws
 pub mod Search
+pub mod SearchStart
 pub mod Records
 pub mod HasRecord
 pub mod GridFile
@@ -24,4 +25,5 @@ pub mod KnownCalls
 pub mod Known
 pub mod KnownRoutes
 pub mod Sequences
+pub mod HoleSequences
 pub mod SmallGrids

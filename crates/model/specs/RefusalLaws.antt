@@ -26,14 +26,16 @@ test-of-size n (low, high) = rw (le-leb 2 n low, le-leb n 16 high) refl
 
 pub cell-of-test : (z : ℤ) → is-cell z ≡ true → CellInRange z
 unfolding is-cell
-cell-of-test (pos code) h = inr (code, refl, ltb-false largest-code code (not-true (ltb largest-code code) h))
+cell-of-test (pos code) h = inr (inr (code, refl, ltb-false largest-code code (not-true (ltb largest-code code) h)))
 cell-of-test (negsuc zero) h = inl refl
-cell-of-test (negsuc (suc n)) h = absurd (let k = eqb-true (suc n) 0 h in omega arith)
+cell-of-test (negsuc (suc zero)) h = inr (inl refl)
+cell-of-test (negsuc (suc (suc n))) h = absurd (let k = leb-true (suc (suc n)) 1 h in omega arith)
 
 pub test-of-cell : (z : ℤ) → CellInRange z → is-cell z ≡ true
 unfolding is-cell
 test-of-cell z (inl e) = rw e refl
-test-of-cell z (inr (code, e, below)) = rw (e, le-ltb largest-code code below) refl
+test-of-cell z (inr (inl e)) = rw e refl
+test-of-cell z (inr (inr (code, e, below))) = rw (e, le-ltb largest-code code below) refl
 
 -- the first bad cell
 pub all-cells : (cells : List ℤ) → length cells ≤ first-bad-cell cells → (v : ℕ) → v < length cells → CellInRange (getD cells v blank-cell)

@@ -5,14 +5,14 @@ use mathlib.Core.Bool.{Bool, not, _&&_}
 use mathlib.Core.List.{List, [], _∷_}
 use lib.ListN.{length}
 use lib.IntN.{ℤ, pos, negsuc}
-use lib.Dec.{eqb, ltb}
+use lib.Dec.{eqb, ltb, leb}
 use Rattle.rules.specs.Grid.{largest-code}
 use Rattle.model.specs.Bounds.{is-size}
 
--- a cell is -1 for blank or a code: not below -1, and no more than the largest code
+-- a cell is -1 for blank, -2 for a hole or a code: not below -2, and no more than the largest code
 unfoldable pub is-cell : ℤ → Bool
 is-cell (pos code) = not (ltb largest-code code)
-is-cell (negsuc below) = eqb below 0
+is-cell (negsuc below) = leb below 1
 
 -- the index of the first cell that is none; the number of cells if there is no such
 unfoldable pub first-bad-cell : List ℤ → ℕ

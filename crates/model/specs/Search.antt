@@ -9,7 +9,7 @@ use lib.IntN.{ℤ}
 use Rattle.rules.specs.Grid.{right, down, Grid, grid-of, pads, places}
 use Rattle.rules.specs.Drawing.{num}
 use Rattle.rules.specs.Record.{field, record-lines}
-use Rattle.model.specs.Board.{State, isLine, isUndecided, isBlank, line-or-none, has-left, has-right, has-up, has-down, decide, enough, fresh}
+use Rattle.model.specs.Board.{State, isLine, isUndecided, isClue, line-or-none, has-left, has-right, has-up, has-down, decide, enough, fresh}
 use Rattle.model.specs.Calls.{state-byte}
 use Rattle.model.specs.Refusals.{grid-refusal}
 
@@ -33,7 +33,7 @@ module _ (g : Grid) where
 
   -- clue + lines that pad v has to the left and upward
   unfoldable pub degree-so-far : ℕ → State → ℕ
-  degree-so-far v S = num (not (isBlank (g .cell v))) + num (has-left g v && isLine (S .edge (right (v - 1)))) + num (has-up g v && isLine (S .edge (down (v - g .width))))
+  degree-so-far v S = num (isClue (g .cell v)) + num (has-left g v && isLine (S .edge (right (v - 1)))) + num (has-up g v && isLine (S .edge (down (v - g .width))))
 
   -- one m: tried where clue + lines is 0 or 2; decide right, decide down, go on if the flag is clear. Checkpoint and undo are that the
   -- next m starts from S again.
@@ -55,9 +55,13 @@ module _ (g : Grid) where
         ++ (try (λ u T. backtrack n u T) v S false true ++ try (λ u T. backtrack n u T) v S true true))
   ])
 
-  -- the search from pad (0, 0); each entry is at a later pad, so the number of pads bounds the nesting
+  -- the search of a board: none where its flag is set, else from the first pad with its right edge undecided, or in the last row if there
+  -- is none; each entry is at a later pad, so the number of pads bounds the nesting
+  unfoldable pub search-from : State → List Event
+  search-from S = elim (S .flag) [ true ↦ [] | false ↦ backtrack (pads g) (next-pad (pads g) 0 S) S ]
+
   unfoldable pub search : List Event
-  search = backtrack (pads g) 0 (fresh g)
+  search = search-from (fresh g)
 
 -- A RUN: outcome (0 complete, 1 spent, 2 full), visited boards, and the records of its layouts
 pub record Run : Type 0 where

@@ -17,3 +17,7 @@ comma = bytes ","
 -- a line is ended by 0A
 unfoldable pub line-end : List ℕ
 line-end = bytes "\n"
+
+-- a hole's field is this sign
+unfoldable pub hole-sign : List ℕ
+hole-sign = bytes "#"

@@ -1,22 +1,23 @@
 -- Writing a grid file: the text of a grid, and what the writer answers and leaves in the buffer that is lent to it. A text is the header
 -- and the rows, each field in its shortest digits. Assumes nothing.
 use Rattle.model.specs.Choice.{if_then_else_}
-use Prim.Native.Nat.{ℕ, _+_}
+use Prim.Native.Nat.{ℕ, zero, suc, _+_}
 use mathlib.Core.Bool.{true, false, not}
 use mathlib.Core.List.{List, [], _∷_, _++_}
 use lib.ListN.{length, drop}
 use lib.IntN.{ℤ, pos, negsuc}
 use lib.Dec.{eqb, ltb}
-use Rattle.model.specs.Text.{comma, line-end}
+use Rattle.model.specs.Text.{comma, line-end, hole-sign}
 use Rattle.model.specs.Decimal.{decimal}
 use Rattle.model.specs.Refusals.{grid-refusal}
 
 -- ## The text
 
--- the field of a pad: its code in shortest digits, empty for blank
+-- the field of a pad: its code in shortest digits, empty for blank, `#` for a hole
 unfoldable pub cell-text : ℤ → List ℕ
 cell-text (pos code) = decimal code
-cell-text (negsuc below) = []
+cell-text (negsuc zero) = []
+cell-text (negsuc (suc below)) = hole-sign
 
 -- the fields of pads in index order, the first of which is the given field of its row: after each a comma, after the last of a row 0A
 unfoldable pub rows-text : ℕ → ℕ → List ℤ → List ℕ

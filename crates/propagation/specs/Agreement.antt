@@ -3,7 +3,7 @@
 use Prim.Native.Nat.{ℕ, _+_, _≤_}
 use mathlib.Core.Path.{_≡_, refl, sym, _∙_}
 use mathlib.Core.Logic.{_≢_, _⊎_, ⊎-elim}
-use mathlib.Core.Bool.{Bool, true, false, _&&_, not}
+use mathlib.Core.Bool.{Bool, true, false, _&&_}
 use mathlib.Core.List.{List, [], _∷_, List·Memᴰ, List·Memᴰ·cases-cons}
 use native.Mathlib.Omega.{arith}
 use native.Mathlib.Nat.{zero-add}
@@ -12,7 +12,7 @@ use lib.Dec.{eqb}
 use Rattle.rules.specs.Grid.{Edge, Grid}
 use Rattle.rules.specs.Drawing.{Drawing, drawn, num}
 use Rattle.rules.specs.Tests.{num-small, num-none}
-use Rattle.model.specs.Board.{EdgeState, isLine, isUndecided, State, isBlank, lines, undecideds, around, degree, undecided, line, none}
+use Rattle.model.specs.Board.{EdgeState, isLine, isUndecided, State, isClue, lines, undecideds, around, degree, undecided, line, none}
 use Rattle.propagation.specs.Counting.{among, undecideds-among, some-among}
 
 pub record Agrees (D : Drawing) (S : State) : Type 0 where
@@ -78,7 +78,7 @@ module _ (D : Drawing) where
 
   -- THE DEGREE OF THE DRAWING at a pad: its lines, plus 1 for a clue
   abbrev pub drawn-degree : Grid → ℕ → ℕ
-  drawn-degree g v = num (not (isBlank (g .cell v))) + among (drawn D) (around g v)
+  drawn-degree g v = num (isClue (g .cell v)) + among (drawn D) (around g v)
 
   abbrev pub NoneOrTwo : ℕ → Type 0
   NoneOrTwo n = (n ≡ 0) ⊎ (n ≡ 2)
@@ -100,9 +100,9 @@ module _ (D : Drawing) where
   must-be g S a v degrees p m o why = go (eqb d 1) refl
     where
       d : ℕ
-      d = num (not (isBlank (g .cell v))) + lines S (around g v)
+      d = num (isClue (g .cell v)) + lines S (around g v)
 
-      total : num (not (isBlank (g .cell v))) + among (drawn D) (around g v) ≡ d + hidden S (around g v)
+      total : num (isClue (g .cell v)) + among (drawn D) (around g v) ≡ d + hidden S (around g v)
       total = let k = lines-and-hidden S a (around g v) in omega arith
 
       go : (b : Bool) → eqb d 1 ≡ b → drawn D (p .0) ≡ eqb d 1

@@ -7,21 +7,19 @@ use mathlib.Core.Bool.{true}
 use native.Mathlib.Omega.{arith}
 use native.Mathlib.Nat.{add-mod-right, mod-le}
 use borrow.Author.Tests.{lt-ltb}
-use Rattle.rules.specs.Grid.{Grid, pads, clue}
-use Rattle.rules.specs.Drawing.{Drawing, drawn, Placed, Side, LineBeside, DiagonallyBelow, Corner, IsClue, on-left, on-right}
-use Rattle.rules.specs.Places.{zero≢one, next-column}
+use Rattle.rules.specs.Grid.{Grid, pads, blank}
+use Rattle.rules.specs.Drawing.{Drawing, drawn, Placed, Side, LineBeside, DiagonallyBelow, Corner, NotBlank, on-left, on-right}
+use Rattle.rules.specs.Places.{next-column}
 use Rattle.rules.specs.Tests.{both, both-on}
 use Rattle.model.specs.Board.{isBlank, has-side, diagonal, barred}
+use Rattle.model.specs.BoardLaws.{blank-of}
 use Rattle.propagation.specs.Squares.{edge-beside}
 use Rattle.propagation.specs.Counting.{right-column, down-in}
 
 module _ (g : Grid) (wide : 2 ≤ g .width) (D : Drawing) (placed : Placed g D)
-    (corners : (side : Side) (p q : ℕ) → DiagonallyBelow side (g .width) p q → Corner side D p → IsClue g q ⊎ Corner side D q) where
+    (corners : (side : Side) (p q : ℕ) → DiagonallyBelow side (g .width) p q → Corner side D p → NotBlank g q ⊎ Corner side D q) where
   abbrev W : ℕ
   W = g .width
-
-  pub not-blank : {q c : ℕ} {A : Type 0} → g .cell q ≡ clue c → isBlank (g .cell q) ≡ true → A
-  not-blank {q} {c} e h = let k : isBlank (clue c) ≡ true = rw e at h in zero≢one (cc)
 
   -- the line beside a pad: the pad has a neighbour on that side, and the edge to it is a line
   pub line-beside : (side : Side) (q : ℕ) → LineBeside side D q → (has-side g side q ≡ true) × (drawn D (edge-beside g wide side q) ≡ true)
@@ -47,17 +45,17 @@ module _ (g : Grid) (wide : 2 ≤ g .width) (D : Drawing) (placed : Placed g D)
       let there : (p + W - 1) % W ≡ w % W = ap (λ x. x % W) same ∙ add-mod-right w W in
       omega (arith, here, same, there)
 
-  blank-of : (side : Side) (n v : ℕ) → barred g side n v ≡ true → isBlank (g .cell v) ≡ true
+  barred-blank : (side : Side) (n v : ℕ) → barred g side n v ≡ true → g .cell v ≡ blank
   unfolding barred
-  blank-of side zero v h = h
-  blank-of side (suc n) v h = both (isBlank (g .cell v)) _ h .0
+  barred-blank side zero v h = blank-of (g .cell v) h
+  barred-blank side (suc n) v h = blank-of (g .cell v) (both (isBlank (g .cell v)) _ h .0)
 
   -- n rows are enough from the row of p on
   down-the-diagonal : (side : Side) (n p : ℕ) → pads g + p % W ≤ p + n * W → barred g side n p ≡ true → Corner side D p → ⊥
   unfolding barred
   down-the-diagonal side zero p far b (l, d) = let k = down-in g wide D placed p d in omega arith
   down-the-diagonal side (suc n) p far b (l, d) = ⊎-elim
-      (λ (c, e). not-blank e (blank-of side n (diagonal g side p) deeper))
+      (λ not-blank. absurd (not-blank (barred-blank side n (diagonal g side p) deeper)))
       (λ k. down-the-diagonal side n (diagonal g side p) (let j = one-row-lower side p l in omega (arith, j, far)) deeper k)
       (corners side p (diagonal g side p) (diagonal-below side p l) (l, d))
     where

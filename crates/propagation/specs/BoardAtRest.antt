@@ -10,8 +10,9 @@ use native.Mathlib.Omega.{arith}
 use native.Mathlib.Nat.{add-mod-right}
 use borrow.Author.Tests.{ltb-true}
 use lib.Dec.{ltb}
-use Rattle.rules.specs.Grid.{Edge, Cell, Grid, pads, OnBoard, right, down, blank, clue}
-use Rattle.rules.specs.Drawing.{Placed, num, square-lines, Side, DiagonallyBelow, Corner, IsClue, on-left, on-right}
+use Rattle.rules.specs.Grid.{Edge, Cell, Grid, pads, OnBoard, right, down, blank, clue, hole}
+use Rattle.rules.specs.Drawing.{Placed, num, square-lines, Side, DiagonallyBelow, Corner, NotBlank, on-left, on-right}
+use Rattle.rules.specs.Places.{zero≢one}
 use Rattle.rules.specs.Tests.{both, conflict, num-small}
 use Rattle.model.specs.Board.{isLine, State, Item, isBlank, has-right, on-board, barred, shape-items, line, none, detour, corner}
 use Rattle.propagation.specs.Ends.{Ends}
@@ -28,7 +29,7 @@ pub record BoardAtRest (g : Grid) (S : State) : Type 0 where
   pub squares : (u : ℕ) → square-lines g (drawing S) u ≤ 2
   -- where x, a, b, c are the edges of a unit square, that is where `detour a b c` is an item of x: two lines make the other two none
   pub detours-none : (x a b c : Edge) → List·Memᴰ (detour a b c) (shape-items g x) → S .edge x ≡ line → S .edge a ≡ line → (S .edge b ≡ none) × (S .edge c ≡ none)
-  pub corners : (side : Side) (p q : ℕ) → DiagonallyBelow side (g .width) p q → Corner side (drawing S) p → IsClue g q ⊎ Corner side (drawing S) q
+  pub corners : (side : Side) (p q : ℕ) → DiagonallyBelow side (g .width) p q → Corner side (drawing S) p → NotBlank g q ⊎ Corner side (drawing S) q
   pub bars : (side : Side) (p : ℕ) → barred g side (g .height) p ≡ true → Corner side (drawing S) p → ⊥
   pub ends : Ends (g .cell) (board-lines g S) (S .end)
 
@@ -113,19 +114,20 @@ module _ (g : Grid) (wide : 2 ≤ g .width) (S : State) (holds : AllHold g S) wh
   corner-square on-left u h k = square-of u (inl h) (inr k)
 
   corner-below : (side : Side) (u : ℕ) → lined (right u) ≡ true → lined (down (corner-pad g wide side u)) ≡ true
-      → IsClue g (lower-pad g wide side u) ⊎ ((lined (edge-beside g wide side (lower-pad g wide side u)) ≡ true) × (lined (down (lower-pad g wide side u)) ≡ true))
+      → NotBlank g (lower-pad g wide side u) ⊎ ((lined (edge-beside g wide side (lower-pad g wide side u)) ≡ true) × (lined (down (lower-pad g wide side u)) ≡ true))
   corner-below side u h k = go (g .cell (lower-pad g wide side u)) refl
     where
       go : (C : Cell) → g .cell (lower-pad g wide side u) ≡ C
-          → IsClue g (lower-pad g wide side u) ⊎ ((lined (edge-beside g wide side (lower-pad g wide side u)) ≡ true) × (lined (down (lower-pad g wide side u)) ≡ true))
-      go (clue c) e = inl (c, e)
+          → NotBlank g (lower-pad g wide side u) ⊎ ((lined (edge-beside g wide side (lower-pad g wide side u)) ≡ true) × (lined (down (lower-pad g wide side u)) ≡ true))
+      go (clue c) e = inl (λ b. zero≢one (cc))
+      go hole e = inl (λ b. zero≢one (cc))
       go blank e =
           let (o, p, q) = now-corner (lower-pad g wide side u) (down (corner-pad g wide side u)) _ (edge-beside g wide side (lower-pad g wide side u)) (down (lower-pad g wide side u))
           (rule-at (right u) (corner-item g wide side u (down (corner-pad g wide side u))) (corner-items-across g wide side u (corner-square side u h k)) (is-line (S .edge (right u)) h))
           (ap isBlank e) (is-line (S .edge (down (corner-pad g wide side u))) k) in
           inr (ap isLine p, ap isLine q)
 
-  pub board-corners : (side : Side) (p q : ℕ) → DiagonallyBelow side W p q → Corner side (drawing S) p → IsClue g q ⊎ Corner side (drawing S) q
+  pub board-corners : (side : Side) (p q : ℕ) → DiagonallyBelow side W p q → Corner side (drawing S) p → NotBlank g q ⊎ Corner side (drawing S) q
   unfolding drawing
   board-corners on-right p q e (t, d) = rw e (corner-below on-right p t d)
   board-corners on-left p q e ((u, f, t), d) =

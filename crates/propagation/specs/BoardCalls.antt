@@ -18,7 +18,8 @@ use Rattle.model.specs.EdgeAtLaws.{edge-at-on}
 use Rattle.model.specs.Refusals.{grid-refusal}
 use Rattle.model.specs.RefusalLaws.{not-refused}
 use Rattle.propagation.specs.ProperGrid.{Proper, accepted-proper}
-use Rattle.propagation.specs.Decisions.{Decision, Stands, none-yet, one-more}
+use Rattle.propagation.specs.Decisions.{Decision, none-yet, one-more}
+use Rattle.propagation.specs.Standing.{Stands}
 
 -- the decisions that stood at each checkpoint
 unfoldable pub AllStand : Grid → List State → List (List Decision) → Type 0

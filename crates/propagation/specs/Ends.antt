@@ -4,29 +4,31 @@
 use Prim.Native.Nat.{ℕ}
 use mathlib.Core.Path.{_≡_, refl}
 use mathlib.Core.Logic.{_≢_, _⊎_, inl, inr}
-use Rattle.rules.specs.Grid.{Cell, blank, clue}
+use mathlib.Core.Bool.{false}
+use Rattle.rules.specs.Grid.{Cell, clue}
 use Rattle.rules.specs.Drawing.{Relation, NoLine, OneLine, TwoLines, Joined}
-use Rattle.model.specs.Board.{End, through, at-pad, at-clue}
+use Rattle.model.specs.Board.{End, isClue, through, at-pad, at-clue}
 use Rattle.rules.specs.Chains.{Symmetric}
 
 -- at most one line
 abbrev pub Short : Relation → ℕ → Type 0
 Short L v = (a b : ℕ) → L v a → L v b → a ≡ b
 
--- THE PAD IS FULL: a blank pad with two lines, or a clue with its line; it has ROOM: a blank pad with at most one, or a clue with none
+-- THE PAD IS FULL: a clue with its line, or any other pad with two; it has ROOM: a clue with none, or any other pad with at most one. (A hole
+-- is such another pad here: before its edges are decided, a chain may run to it.)
 pub data Full (cell : ℕ → Cell) (L : Relation) (v : ℕ) : Type 0 where
-  two-lines : cell v ≡ blank → TwoLines L v → Full cell L v
+  two-lines : isClue (cell v) ≡ false → TwoLines L v → Full cell L v
   one-line : (c : ℕ) → cell v ≡ clue c → OneLine L v → Full cell L v
 
 pub data Room (cell : ℕ → Cell) (L : Relation) (v : ℕ) : Type 0 where
-  blank-room : cell v ≡ blank → Short L v → Room cell L v
+  other-room : isClue (cell v) ≡ false → Short L v → Room cell L v
   clue-room : (c : ℕ) → cell v ≡ clue c → NoLine L v → Room cell L v
 
 -- the other end of v's chain is pad w: no clue in the chain, and every other pad of it is passed through
 pub record PadEnd (cell : ℕ → Cell) (L : Relation) (end : ℕ → End) (v w : ℕ) : Type 0 where
   pub joined : Joined L v w
   pub back : end w ≡ at-pad v
-  pub all-blank : (x : ℕ) → Joined L v x → cell x ≡ blank
+  pub no-clue : (x : ℕ) → Joined L v x → isClue (cell x) ≡ false
   pub others-passed : (x : ℕ) → Joined L v x → (x ≡ v) ⊎ (x ≡ w) ⊎ (end x ≡ through)
 
 -- v's chain ends at a clue of code c on the other side, and every pad of it but v is passed through

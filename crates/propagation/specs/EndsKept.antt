@@ -4,14 +4,15 @@
 use Prim.Native.Nat.{ℕ}
 use mathlib.Core.Path.{_≡_, sym, _∙_, ap}
 use mathlib.Core.Logic.{_≢_, _⊎_, inl, inr, ⊎-elim, ⊎-map, ⊎-swap}
+use mathlib.Core.Bool.{false}
 use native.Mathlib.Decide.{ℕ-discrete}
-use Rattle.rules.specs.Grid.{Cell, blank, clue}
+use Rattle.rules.specs.Grid.{Cell, clue}
 use Rattle.rules.specs.Drawing.{Relation, NoLine, OneLine, TwoLines, Joined, here, more}
 use Rattle.rules.specs.Places.{zero≢one}
-use Rattle.model.specs.Board.{End, through, at-pad, at-clue}
-use Rattle.model.specs.BoardLaws.{same-pad, is-pad-end}
+use Rattle.model.specs.Board.{End, isClue, through, at-pad, at-clue}
+use Rattle.model.specs.BoardLaws.{clue-is-clue, same-pad, is-pad-end}
 use Rattle.rules.specs.Chains.{join-trans, join-sym, join-mono, first-line, by-pad}
-use Rattle.propagation.specs.Ends.{Short, Full, Room, PadEnd, ClueEnd, LoosePad, Ends, Added, Stored, Step, pad-or-clue, two-lines, one-line, blank-room, clue-room}
+use Rattle.propagation.specs.Ends.{Short, Full, Room, PadEnd, ClueEnd, LoosePad, Ends, Added, Stored, Step, pad-or-clue, two-lines, one-line, other-room, clue-room}
 
 pub added-swap : {L M : Relation} {u v : ℕ} → Added L M u v → Added L M v u
 added-swap a = record {
@@ -105,7 +106,7 @@ module _ {cell : ℕ → Cell} {L M : Relation} {end end′ : ℕ → End} where
 
     clue-of-u : (x c : ℕ) → Joined L u x → cell x ≡ clue c → A ≡ at-clue c
     clue-of-u x c j k = ⊎-elim
-        (λ (a, e). zero≢one (cc (pad-end-u a e .all-blank x j)))
+        (λ (a, e). clue-is-clue (pad-end-u a e .no-clue x j) k)
         (λ (d, e). let o = clue-end-u d e in
         e ∙ ap at-clue (s .ends .equal-codes (o .pad) x d c (o .clue-at) k (join-trans (join-sym (s .both-ways) (o .joined)) j)))
         (pad-or-clue A (s .A-not-through))
@@ -141,7 +142,7 @@ module _ {cell : ℕ → Cell} {L M : Relation} {end end′ : ℕ → End} where
     full-keep x p q (one-line c e o) = one-line c e (one-keep x p q o)
 
     room-keep : (x : ℕ) → x ≢ u → x ≢ v → Room cell L x → Room cell M x
-    room-keep x p q (blank-room e h) = blank-room e (short-keep x p q h)
+    room-keep x p q (other-room e h) = other-room e (short-keep x p q h)
     room-keep x p q (clue-room c e n) = clue-room c e (λ a m. n a (line-elsewhere x a p q m))
 
     -- u after the line is added: full unless it stood alone
@@ -161,19 +162,19 @@ module _ {cell : ℕ → Cell} {L M : Relation} {end end′ : ℕ → End} where
     full-new : A ≢ at-pad u → Full cell M u
     full-new n = go room-at-u
       where
-        first : cell u ≡ blank → (y : ℕ) × L u y
+        first : isClue (cell u) ≡ false → (y : ℕ) × L u y
         first e = ⊎-elim
             (λ (a, f). first-line a (λ g. n (f ∙ ap at-pad g)) (pad-end-u a f .joined))
-            (λ (c, f). let o = clue-end-u c f in first-line (o .pad) (λ g. zero≢one (cc (o .clue-at))) (o .joined))
+            (λ (c, f). let o = clue-end-u c f in first-line (o .pad) (λ g. clue-is-clue e (ap cell (sym g) ∙ o .clue-at)) (o .joined))
             (pad-or-clue A (s .A-not-through))
 
         go : Room cell L u → Full cell M u
-        go (blank-room e h) = let (y, l) = first e in two-lines e (two-new y l h)
+        go (other-room e h) = let (y, l) = first e in two-lines e (two-new y l h)
         go (clue-room c e z) = one-line c e (record
             { to = v; line = s .added .there; only = λ b m. ⊎-elim (λ l. absurd (z b l)) (λ f. f) (line-at-u b m) })
 
     room-new : A ≡ at-pad u → Room cell M u
-    room-new e = blank-room (pad-end-u u e .all-blank u here) (short-new (s .ends .alone u (s .at-u ∙ e)))
+    room-new e = other-room (pad-end-u u e .no-clue u here) (short-new (s .ends .alone u (s .at-u ∙ e)))
 
     -- an end of u's chain with at most one line
     tip : (t : ℕ) × Joined L u t × Short M t
@@ -199,15 +200,15 @@ module _ {cell : ℕ → Cell} {L M : Relation} {end end′ : ℕ → End} where
         (pad-or-clue A (s .A-not-through))
       where
         shorts : (x : ℕ) → Room cell L x → Short L x
-        shorts x (blank-room e h) = h
+        shorts x (other-room e h) = h
         shorts x (clue-room c e z) = λ a b l m. absurd (z a l)
 
         shortf : (c x : ℕ) → cell x ≡ clue c → Full cell L x → Short L x
-        shortf c x k (two-lines e t) = zero≢one (cc)
+        shortf c x k (two-lines e t) = clue-is-clue e k
         shortf c x k (one-line d e o) = λ a b l m. o .only a l ∙ sym (o .only b m)
 
         bareU : (c : ℕ) → cell u ≡ clue c → Room cell L u → NoLine L u
-        bareU c k (blank-room e h) = zero≢one (cc)
+        bareU c k (other-room e h) = clue-is-clue e k
         bareU c k (clue-room d e z) = z
 
     keep-joined : {x y : ℕ} → Joined L x y → Joined M x y
@@ -244,7 +245,7 @@ module _ {cell : ℕ → Cell} {L M : Relation} {end end′ : ℕ → End} where
     pad-end-new x w b a = record {
       joined = join-trans (keep-joined s (joined-back s (fv .joined))) (more (s .added .back) (keep-joined s (fu .joined)));
       back = s .stored .pad-A w a ∙ b;
-      all-blank = λ y j. ⊎-elim (λ k. fu .all-blank y k) (λ k. fv .all-blank y k) (part y j);
+      no-clue = λ y j. ⊎-elim (λ k. fu .no-clue y k) (λ k. fv .no-clue y k) (part y j);
       others-passed = λ y j. ⊎-elim (λ e. inr (inl (cc))) (⊎-elim (λ e. inl (cc)) (λ t. inr (inr t))) (sides y (part y j));
     }
       where
@@ -282,7 +283,7 @@ module _ {cell : ℕ → Cell} {L M : Relation} {end end′ : ℕ → End} where
           (λ g. p (sym (s .at-u) ∙ ap end (sym g) ∙ f .back)) (λ g. q (sym (s .at-v) ∙ ap end (sym g) ∙ f .back))
           (λ g. p (thru g)) (λ g. q (thrv g))
           ∙ f .back;
-      all-blank = λ y j. f .all-blank y (out y j);
+      no-clue = λ y j. f .no-clue y (out y j);
       others-passed = λ y j. ⊎-map (λ g. g) (⊎-map (λ g. g) (stays-passed s y)) (f .others-passed y (out y j));
     }
       where

@@ -19,7 +19,9 @@ pub mod Agreement
 pub mod ListedDrawing
 pub mod Sound
 pub mod ProperGrid
-pub mod FreshBoard
+pub mod BareBoard
 pub mod Decisions
+pub mod Preparing
+pub mod Standing
 pub mod BoardCalls
 pub mod Fuel

@@ -8,15 +8,16 @@ use mathlib.Core.List.{List·Memᴰ}
 use native.Mathlib.Omega.{arith}
 use borrow.Author.Tests.{lt-ltb, ltb-true}
 use lib.Dec.{ltb}
-use Rattle.rules.specs.Grid.{Edge, first, second, Cell, Grid, pads, right, down, blank, clue}
+use Rattle.rules.specs.Grid.{Edge, first, second, Cell, Grid, pads, right, down, blank, clue, hole}
 use Rattle.rules.specs.Drawing.{Drawing, drawn, Placed, Line, NoLine, OneLine, TwoLines, Joined, num, square-lines, Side, DiagonallyBelow, Corner, Listed, rightward, downward, here, more, on-left, on-right}
 use Rattle.rules.specs.Places.{next-in-row}
 use Rattle.rules.specs.Tests.{both, both-on, not-so, num-none}
 use Rattle.model.specs.Board.{State, isBlank, has-right, has-down, on-board, has-side, barred, shape-items, around, detour, corner, bar}
+use Rattle.model.specs.BoardLaws.{blank-of}
 use Rattle.propagation.specs.Edges.{board-lines, edge-of}
 use Rattle.propagation.specs.Squares.{SquareAt, upper-right, lower-right, left-down, right-down, upper-in, lower-in, Role, square-edge, detours-at, corner-pad, lower-pad, edge-beside, Standing, standing, one-of-three, detours-only, detour-parts, corner-parts, bar-parts, detour-no-corner, detour-no-bar, corner-no-bar, Neighbour, neighbour, one-before, row-before, left-on, right-on, up-on, upper-edge, left-edge, right-edge, lower-edge, in-square, corner-across, corner-downward, bar-across, bar-downward, to-left, to-right, to-above, to-below}
 use Rattle.propagation.specs.Counting.{among, none-among, one-to, two-to, some-among, two-among, around-apart, right-column, right-in, down-in, beside, leads}
-use Rattle.propagation.specs.Bars.{not-blank, line-beside, no-barred-corner}
+use Rattle.propagation.specs.Bars.{line-beside, no-barred-corner}
 use Rattle.propagation.specs.Agreement.{Agrees, drawn-degree, NoneOrTwo}
 
 module _ (g : Grid) (wide : 2 ≤ g .width) (D : Drawing) (listed : Listed g D) where
@@ -53,16 +54,6 @@ module _ (g : Grid) (wide : 2 ≤ g .width) (D : Drawing) (listed : Listed g D) 
       let e = both-pads (t .edge) (line-on (t .edge) (a .where-line (t .edge) (t .is))) in
       reach S a (⊎-elim (λ (p, q). rw q (e .1)) (λ (p, q). rw q (e .0)) (t .ends)) j
 
-  -- the edges around a pad are on the board
-  pub around-on : (v : ℕ) (p : Edge × ℕ) → v < pads g → List·Memᴰ p (around g v) → OnTheBoard (p .0) × (p .1 < pads g)
-  around-on v p o m = go (neighbour g wide v p m)
-    where
-      go : Neighbour g wide v p → OnTheBoard (p .0) × (p .1 < pads g)
-      go (to-left b e) = rw e (left-on g wide v o b, (let k = one-before g wide v b in omega arith))
-      go (to-right b e) = rw e (right-on g wide v o b, next-in-row W v (g .height) (ltb-true (v % W + 1) W b) o)
-      go (to-above b e) = rw e (up-on g wide v o b, (let k = row-before g wide v b in omega arith))
-      go (to-below b e) = rw e (b, ltb-true (v + W) (pads g) b)
-
   -- DEGREES: lines, plus 1 for a clue, are 0 or 2
   one-line : (v : ℕ) → OneLine (Line W D) v → among (drawn D) (around g v) ≡ 1
   one-line v n =
@@ -87,6 +78,7 @@ module _ (g : Grid) (wide : 2 ≤ g .width) (D : Drawing) (listed : Listed g D) 
     where
       go : (C : Cell) → g .cell v ≡ C → NoneOrTwo D (drawn-degree D g v)
       go (clue c) e = inr (rw (e, one-line v (listed .ordinary .wired .clue-one v c e)) refl)
+      go hole e = inl (rw (e, no-lines v (listed .ordinary .wired .hole-none v e)) refl)
       go blank e = ⊎-elim (λ n. inl (rw (e, no-lines v n) refl)) (λ n. inr (rw (e, two-lines v n) refl)) (listed .ordinary .wired .blank-none-or-two v e)
 
   -- STEP d: where two edges of a unit square are lines the other two are none
@@ -163,7 +155,7 @@ module _ (g : Grid) (wide : 2 ≤ g .width) (D : Drawing) (listed : Listed g D) 
 
   forced : (side : Side) (u : ℕ) → D .right u ≡ true → D .down (corner-pad g wide side u) ≡ true → isBlank (g .cell (lower-pad g wide side u)) ≡ true
       → Forced (has-down g (lower-pad g wide side u) && has-side g side (lower-pad g wide side u)) (edge-beside g wide side (lower-pad g wide side u)) (down (lower-pad g wide side u))
-  forced side u t d bl = ⊎-elim (λ (c, e). not-blank g wide D on (listed .corners) e bl)
+  forced side u t d bl = ⊎-elim (λ not-blank. absurd (not-blank (blank-of (g .cell (lower-pad g wide side u)) bl)))
       (λ (b, l). let (h, k) = line-beside g wide D on (listed .corners) side (lower-pad g wide side u) b in
       (both-on (line-on (down (lower-pad g wide side u)) l) h, line-on (edge-beside g wide side (lower-pad g wide side u)) k, line-on (down (lower-pad g wide side u)) l, k, l))
       (listed .corners side (corner-pad g wide side u) (lower-pad g wide side u) (diagonal-of side u) (corner-of side u t d))

@@ -1,13 +1,15 @@
 -- What the ends rule out, for a drawing wired by the ordinary rules that has all the board's lines: where step c would set the flag, the
 -- drawing does not have the line. And what they give where every pad is finished: the lines are wired by the ordinary rules.
 use Prim.Native.Nat.{ℕ}
-use mathlib.Core.Path.{_≡_, sym, _∙_}
+use mathlib.Core.Path.{_≡_, refl, sym, _∙_}
 use mathlib.Core.Logic.{_≢_, _⊎_, inl, inr, ⊎-elim, ⊎-map}
+use mathlib.Core.Bool.{false}
 use native.Mathlib.Decide.{ℕ-discrete}
-use Rattle.rules.specs.Grid.{Cell, blank, clue}
+use Rattle.rules.specs.Grid.{Cell, blank, clue, hole}
 use Rattle.rules.specs.Drawing.{Relation, NoLine, OneLine, TwoLines, Joined, Loop, Wired, here, more}
 use Rattle.rules.specs.Places.{zero≢one}
-use Rattle.model.specs.Board.{End, through, at-pad, at-clue}
+use Rattle.model.specs.Board.{End, isClue, through, at-pad, at-clue}
+use Rattle.model.specs.BoardLaws.{clue-is-clue}
 use Rattle.rules.specs.Chains.{Symmetric, join-trans, join-sym, join-mono, first-line}
 use Rattle.propagation.specs.Ends.{Full, PadEnd, Ends, two-lines, one-line}
 
@@ -22,6 +24,15 @@ two-of-three (inr x) (inl y) (inr z) n m k = m (z ∙ sym x)
 
 module _ {cell : ℕ → Cell} {L D : Relation} {end : ℕ → End}
     (symm : Symmetric L) (ends : Ends cell L end) (ord : Wired cell D) (sub : (x y : ℕ) → L x y → D x y) (symD : Symmetric D) where
+  -- a pad that is no clue has no line or two
+  none-or-two : (u : ℕ) → isClue (cell u) ≡ false → NoLine D u ⊎ TwoLines D u
+  none-or-two u no-clue = go (cell u) refl
+    where
+      go : (C : Cell) → cell u ≡ C → NoLine D u ⊎ TwoLines D u
+      go blank e = ord .blank-none-or-two u e
+      go hole e = inl (ord .hole-none u e)
+      go (clue c) e = clue-is-clue no-clue e
+
   -- a passed pad takes no line more
   pub no-third : (u v : ℕ) → end u ≡ through → (L u v → ⊥) → D u v → ⊥
   no-third u v t n d = go (ends .through-full u t)
@@ -30,7 +41,7 @@ module _ {cell : ℕ → Cell} {L D : Relation} {end : ℕ → End}
       go (two-lines e w) = ⊎-elim (λ z. z v d)
           (λ (o : TwoLines D u). two-of-three (o .only (w .to) (sub u (w .to) (w .line))) (o .only (w .also-to) (sub u (w .also-to) (w .also-line))) (o .only v d)
           (w .apart) (λ e. n (rw e (w .line))) (λ e. n (rw e (w .also-line))))
-          (ord .blank-none-or-two u e)
+          (none-or-two u e)
       go (one-line c e w) = let o = ord .clue-one u c e in n (rw (o .only v d ∙ sym (o .only (w .to) (sub u (w .to) (w .line)))) (w .line))
 
   -- chains of two codes are not joined
@@ -64,19 +75,19 @@ module _ {cell : ℕ → Cell} {L D : Relation} {end : ℕ → End}
             sub x (w .to) (w .line),
             sub x (w .also-to) (w .also-line),
           )
-          go (one-line c g w) = let h = f .all-blank x j in zero≢one (cc)
+          go (one-line c g w) = clue-is-clue (f .no-clue x j) g
 
--- every pad finished: the lines are an ordinary drawing
+-- every pad finished, and no line at a hole: the lines are an ordinary drawing
 module _ {cell : ℕ → Cell} {L : Relation} {end : ℕ → End} (ends : Ends cell L end)
-    (done : (v : ℕ) → (end v ≡ through) ⊎ ((cell v ≡ blank) × NoLine L v)) where
-  finished : (v : ℕ) → Full cell L v ⊎ ((cell v ≡ blank) × NoLine L v)
+    (done : (v : ℕ) → (end v ≡ through) ⊎ ((isClue (cell v) ≡ false) × NoLine L v)) (no-line-at-holes : (v : ℕ) → cell v ≡ hole → NoLine L v) where
+  finished : (v : ℕ) → Full cell L v ⊎ ((isClue (cell v) ≡ false) × NoLine L v)
   finished v = ⊎-map (ends .through-full v) (λ p. p) (done v)
 
   module _ (P : ℕ → Type 0) (l : Loop L P) where
     closed : (v y : ℕ) → P v → L v y → P y
     closed v y p k = let (a, b, n, pa, pb, la, lb) = l .two v p in go a b n pa pb la lb (finished v)
       where
-        go : (a b : ℕ) → a ≢ b → P a → P b → L v a → L v b → Full cell L v ⊎ ((cell v ≡ blank) × NoLine L v) → P y
+        go : (a b : ℕ) → a ≢ b → P a → P b → L v a → L v b → Full cell L v ⊎ ((isClue (cell v) ≡ false) × NoLine L v) → P y
         go a b n pa pb la lb (inr (e, z)) = absurd (z y k)
         go a b n pa pb la lb (inl (one-line c e o)) = absurd (n (o .only a la ∙ sym (o .only b lb)))
         go a b n pa pb la lb (inl (two-lines e o)) = elim (ℕ-discrete y a) [
@@ -97,16 +108,17 @@ module _ {cell : ℕ → Cell} {L : Relation} {end : ℕ → End} (ends : Ends c
   finished-wired = record {
     clue-one = λ v c e. ones v c e (finished v);
     blank-none-or-two = λ v e. twos v e (finished v);
+    hole-none = no-line-at-holes;
     no-loop = λ P l. never P l;
     equal-codes = ends .equal-codes;
   }
     where
-      ones : (v c : ℕ) → cell v ≡ clue c → Full cell L v ⊎ ((cell v ≡ blank) × NoLine L v) → OneLine L v
+      ones : (v c : ℕ) → cell v ≡ clue c → Full cell L v ⊎ ((isClue (cell v) ≡ false) × NoLine L v) → OneLine L v
       ones v c e (inl (one-line d f o)) = o
-      ones v c e (inl (two-lines f o)) = zero≢one (cc)
-      ones v c e (inr (f, z)) = zero≢one (cc)
+      ones v c e (inl (two-lines f o)) = clue-is-clue f e
+      ones v c e (inr (f, z)) = clue-is-clue f e
 
-      twos : (v : ℕ) → cell v ≡ blank → Full cell L v ⊎ ((cell v ≡ blank) × NoLine L v) → NoLine L v ⊎ TwoLines L v
+      twos : (v : ℕ) → cell v ≡ blank → Full cell L v ⊎ ((isClue (cell v) ≡ false) × NoLine L v) → NoLine L v ⊎ TwoLines L v
       twos v e (inl (one-line d f o)) = zero≢one (cc)
       twos v e (inl (two-lines f o)) = inr o
       twos v e (inr (f, z)) = inl z

@@ -24,10 +24,10 @@ use Rattle.propagation.specs.Items.{Onward, CallsKeep, item-done, goes-o
 use Rattle.propagation.specs.Settling.{FirstUndecided, find-first}
 use Rattle.propagation.specs.StoredState.{flag-kept, none-chains, with-line, line-here, line-flag, line-stays, line-chains, no-line-before}
 use Rattle.propagation.specs.Kept.{calls-keep}
-use Rattle.propagation.specs.Squares.{geometry}
+use Rattle.propagation.specs.Squares.{around-on, geometry}
 use Rattle.propagation.specs.Counting.{leads}
 use Rattle.propagation.specs.Agreement.{Agrees, drawn-degree, NoneOrTwo, DegreeLeft, degree-left, must-be}
-use Rattle.propagation.specs.ListedDrawing.{its-line, both-pads, reach, around-on, its-degree, detours-right, corners-right, bars-right}
+use Rattle.propagation.specs.ListedDrawing.{its-line, both-pads, reach, its-degree, detours-right, corners-right, bars-right}
 
 -- the flag is clear, the drawing agrees, and the ends say what they should
 pub record Fits (g : Grid) (D : Drawing) (S : State) : Type 0 where
@@ -142,7 +142,7 @@ module _ (g : Grid) (wide : 2 ≤ g .width) (D : Drawing) (listed : Listed g D) 
         go false h false w = rw (h, settled) (rw w fits)
         go false h true w = rw (h, settled) (rw w (⊎-elim
             (λ (o : FirstUndecided dec (line-or-none (eqb d 1)) (around g v) S). rw (o .decides-it) (sound-decide (o .at .0) (line-or-none (eqb d 1)) S
-            (around-on g wide D listed v (o .at) inside (o .member) .0) (line-or-none-decided (eqb d 1))
+            (around-on g wide v (o .at) inside (o .member) .0) (line-or-none-decided (eqb d 1))
             (must-be D g S (fits .agrees) v degrees (o .at) (o .member) (o .undecided-there)
             (⊎-elim (λ t. inl (eqb-true k 1 t)) (λ t. inr (leb-true 2 d t)) (either (eqb k 1) (leb 2 d) w))
             ∙ is-way (eqb d 1)) fits (omega arith)))
@@ -256,7 +256,7 @@ module _ (g : Grid) (wide : 2 ≤ g .width) (D : Drawing) (listed : Listed g D) 
 
         aparts : (c : ℕ) → S .end v ≡ at-clue c → (it : Item) → List·Memᴰ it (keep-aparts c (around g v)) → InCheck it
         aparts c e it m = let (p, k, q) = apart-item c (around g v) it m in let o = fits .ends-say .clue-end v c e in
-            rw q (sound-keep-apart dec chk calls f 1 (omega arith) sound-decide v c (p .0) (p .1) (around-on g wide D listed v p inside k .0)
+            rw q (sound-keep-apart dec chk calls f 1 (omega arith) sound-decide v c (p .0) (p .1) (around-on g wide v p inside k .0)
             (o .pad, join-mono (within S fits) (o .joined), o .clue-at) (leads g wide D (listed .ordinary .placed) v p k))
 
         all : (X : End) → S .end v ≡ X → (it : Item) → List·Memᴰ it (check-items g v X) → InCheck it

@@ -338,6 +338,16 @@ module _ (g : Grid) (wide : 2 ≤ g .width) where
   pub up-on : (v : ℕ) → v < pads g → has-up g v ≡ true → on-board g (down (v - W)) ≡ true
   up-on v o b = let h = row-before v b in lt-ltb (v - W + W) (pads g) (omega arith)
 
+  -- the edges around a pad are on the board
+  pub around-on : (v : ℕ) (p : Edge × ℕ) → v < pads g → List·Memᴰ p (around g v) → (on-board g (p .0) ≡ true) × (p .1 < pads g)
+  around-on v p o m = go (neighbour v p m)
+    where
+      go : Neighbour v p → (on-board g (p .0) ≡ true) × (p .1 < pads g)
+      go (to-left b e) = rw e (left-on v o b, (let k = one-before v b in omega arith))
+      go (to-right b e) = rw e (right-on v o b, next-in-row W v (g .height) (ltb-true (v % W + 1) W b) o)
+      go (to-above b e) = rw e (up-on v o b, (let k = row-before v b in omega arith))
+      go (to-below b e) = rw e (b, ltb-true (v + W) (pads g) b)
+
   -- WHAT THE INDUCTION ASKS of the geometry
   pub geometry : Geometry g
   geometry = record {

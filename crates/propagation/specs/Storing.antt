@@ -1,14 +1,15 @@
 -- The ends as the model stores them: the functions of step c do what EndsKept.antt asks of the new ends, and the ends of a board without
--- lines, each blank pad its own end and each clue at its code, say what they should.
+-- lines, each clue at its code and each other pad its own end, say what they should.
 use Prim.Native.Nat.{ℕ}
 use mathlib.Core.Path.{_≡_, refl, sym, _∙_, ap}
 use mathlib.Core.Logic.{_≢_, _⊎_, inl, inr, ⊎-elim}
-use Rattle.rules.specs.Grid.{Cell, blank, clue}
+use mathlib.Core.Bool.{false}
+use Rattle.rules.specs.Grid.{Cell, blank, clue, hole}
 use Rattle.rules.specs.Drawing.{Relation, Joined, here, more}
 use Rattle.rules.specs.Places.{zero≢one}
-use Rattle.model.specs.Board.{End, put-end, put-end-at, joined-ends, through, at-pad, at-clue}
+use Rattle.model.specs.Board.{End, isClue, put-end, put-end-at, joined-ends, through, at-pad, at-clue}
 use Rattle.model.specs.BoardLaws.{same-pad, put-same, put-other, put-at-same, put-at-other}
-use Rattle.propagation.specs.Ends.{Ends, Stored, blank-room, clue-room}
+use Rattle.propagation.specs.Ends.{Ends, Stored, other-room, clue-room}
 
 pub stored : (end : ℕ → End) (u v : ℕ) (A B : End) → u ≢ v → A ≢ at-pad v → B ≢ at-pad u
     → ((x : ℕ) → A ≡ at-pad x → B ≡ at-pad x → ⊥) → Stored end (joined-ends end u v A B) u v A B
@@ -30,25 +31,26 @@ stored end u v A B ne na nb both = record {
     g : ℕ → End
     g = put-end-at h A B
 
-view : (C : Cell) → (C ≡ blank) ⊎ ((c : ℕ) × (C ≡ clue c))
+view : (C : Cell) → (isClue C ≡ false) ⊎ ((c : ℕ) × (C ≡ clue c))
 view blank = inl refl
+view hole = inl refl
 view (clue c) = inr (c, refl)
 
--- no line yet: each blank pad is its own end, each clue's end is its code
+-- no line yet: each clue's end is its code, each other pad is its own end
 module _ (cell : ℕ → Cell) (M : Relation) (empty : (x y : ℕ) → M x y → ⊥) (end : ℕ → End)
-    (eb : (v : ℕ) → cell v ≡ blank → end v ≡ at-pad v) (ec : (v c : ℕ) → cell v ≡ clue c → end v ≡ at-clue c) where
+    (eb : (v : ℕ) → isClue (cell v) ≡ false → end v ≡ at-pad v) (ec : (v c : ℕ) → cell v ≡ clue c → end v ≡ at-clue c) where
   nowhere : {a b : ℕ} → Joined M a b → b ≡ a
   nowhere here = refl
   nowhere (more {a = a} {b = b} l j) = absurd (empty a b l)
 
-  pub fresh-ends : Ends cell M end
-  fresh-ends = record {
+  pub bare-ends : Ends cell M end
+  bare-ends = record {
     through-full = λ v e. ⊎-elim (λ b. let h = eb v b in zero≢one (cc)) (λ (c, b). let h = ec v c b in zero≢one (cc)) (view (cell v));
-    else-room = λ v n. ⊎-elim (λ b. blank-room b (λ x y l. absurd (empty v x l))) (λ (c, b). clue-room c b (λ x l. empty v x l)) (view (cell v));
+    else-room = λ v n. ⊎-elim (λ b. other-room b (λ x y l. absurd (empty v x l))) (λ (c, b). clue-room c b (λ x l. empty v x l)) (view (cell v));
     alone = λ v e a l. empty v a l;
     pad-end = λ v w e. ⊎-elim
         (λ b. let h : w ≡ v = same-pad (sym e ∙ eb v b) in record
-        { joined = rw h here; back = rw h (eb v b); all-blank = λ x j. ap cell (nowhere j) ∙ b; others-passed = λ x j. inl (nowhere j) })
+        { joined = rw h here; back = rw h (eb v b); no-clue = λ x j. ap (λ u. isClue (cell u)) (nowhere j) ∙ b; others-passed = λ x j. inl (nowhere j) })
         (λ (c, b). let h = ec v c b in zero≢one (cc)) (view (cell v));
     clue-end = λ v c e. ⊎-elim
         (λ b. let h = eb v b in zero≢one (cc))

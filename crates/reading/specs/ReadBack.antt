@@ -14,14 +14,14 @@ use lib.Dec.{eqb, ltb}
 use borrow.Author.Tests.{ltb-true, ltb-false, ne-eqb, eq-eqb, eqb-true, eqb-false, le-leb}
 use Rattle.rules.specs.Grid.{largest-code, blank-cell, CellInRange, Accepted}
 use Rattle.model.specs.Lists.{drop-replicate}
-use Rattle.model.specs.Text.{bytes, comma, line-end}
+use Rattle.model.specs.Text.{bytes, comma, line-end, hole-sign}
 use Rattle.model.specs.Bounds.{most-digits}
 use Rattle.model.specs.RefusalLaws.{test-of-size}
 use Rattle.model.specs.Decimal.{digit-byte, decimal}
 use Rattle.model.specs.DecimalLaws.{decimal-short, decimal-long, decimal-length, decimal-some}
-use Rattle.model.specs.GridFile.{Standing, Reading, is-digit, blank, no-cells, start, in-header, is-complete, accepted, read-from, read}
+use Rattle.model.specs.GridFile.{Standing, Reading, is-digit, blank, hole, no-cells, start, in-header, is-complete, accepted, read-from, read}
 use Rattle.model.specs.Writing.{cell-text, rows-text, grid-text}
-use Rattle.reading.specs.FieldSteps.{field-start, in-field, cell-of, end-complete, digit-read, row-open, row-ends, row-goes-on, header-goes-on, header-ends, header-open}
+use Rattle.reading.specs.FieldSteps.{Part, some-digits, hole-alone, field-start, in-field, cell-of, end-complete, digit-read, hole-read, row-open, row-ends, row-goes-on, header-goes-on, header-ends, header-open}
 
 -- ## Digits
 
@@ -31,33 +31,33 @@ digit-is-digit digit h = rw (le-leb 48 (48 + digit) (omega arith), le-leb (48 + 
 
 module _ (s : Standing) (open-yet : is-complete s ≡ false) where
   -- one digit more, as the byte that is written for it
-  one-digit : (digits value digit : ℕ) (rest : List ℕ) → digit < 10 → digits < 10 → read-from (in-field s digits value) (digit-byte digit ∷ rest) ≡ read-from (in-field s (digits + 1) (value * 10 + digit)) rest
+  one-digit : (digits value digit : ℕ) (rest : List ℕ) → digit < 10 → digits < 10 → read-from (in-field s (some-digits digits value)) (digit-byte digit ∷ rest) ≡ read-from (in-field s (some-digits (digits + 1) (value * 10 + digit))) rest
   unfolding most-digits digit-byte
-  one-digit digits value digit rest h few = digit-read s open-yet (digit-byte digit) rest digits value (digit-is-digit digit h) (ne-eqb digits 10 (λ (e : digits ≡ 10). omega arith)) ∙ ap (λ (n : ℕ). read-from (in-field s (digits + 1) (value * 10 + n)) rest) back
+  one-digit digits value digit rest h few = digit-read s open-yet (digit-byte digit) rest digits value (digit-is-digit digit h) (ne-eqb digits 10 (λ (e : digits ≡ 10). omega arith)) ∙ ap (λ (n : ℕ). read-from (in-field s (some-digits (digits + 1) (value * 10 + n))) rest) back
     where
       back : 48 + digit - 48 ≡ digit
       back = omega arith
 
-  short-read : (number : ℕ) (rest : List ℕ) → number < 10 → read-from (in-field s 0 0) (decimal number ++ rest) ≡ read-from (in-field s (length (decimal number)) number) rest
-  short-read number rest h = rw (decimal-short number h) (one-digit 0 0 number rest h (omega arith) ∙ ap (λ (n : ℕ). read-from (in-field s 1 n) rest) (zero-add number))
+  short-read : (number : ℕ) (rest : List ℕ) → number < 10 → read-from (in-field s (some-digits 0 0)) (decimal number ++ rest) ≡ read-from (in-field s (some-digits (length (decimal number)) number)) rest
+  short-read number rest h = rw (decimal-short number h) (one-digit 0 0 number rest h (omega arith) ∙ ap (λ (n : ℕ). read-from (in-field s (some-digits 1 n)) rest) (zero-add number))
 
   -- the digits of a number are read back to it
-  digits-read : (more number : ℕ) (rest : List ℕ) → number < 10 ^ suc more → more < 10 → read-from (in-field s 0 0) (decimal number ++ rest) ≡ read-from (in-field s (length (decimal number)) number) rest
+  digits-read : (more number : ℕ) (rest : List ℕ) → number < 10 ^ suc more → more < 10 → read-from (in-field s (some-digits 0 0)) (decimal number ++ rest) ≡ read-from (in-field s (some-digits (length (decimal number)) number)) rest
   digits-read zero number rest h few = short-read number rest (omega arith)
   digits-read (suc more) number rest h few = go (ltb number 10) refl (λ k. digits-read more (number / 10) (digit-byte (number % 10) ∷ rest) k (omega arith))
     where
-      go : (t : Bool) → ltb number 10 ≡ t → (number / 10 < 10 ^ suc more → read-from (in-field s 0 0) (decimal (number / 10) ++ digit-byte (number % 10) ∷ rest) ≡ read-from (in-field s (length (decimal (number / 10))) (number / 10)) (digit-byte (number % 10) ∷ rest)) → read-from (in-field s 0 0) (decimal number ++ rest) ≡ read-from (in-field s (length (decimal number)) number) rest
+      go : (t : Bool) → ltb number 10 ≡ t → (number / 10 < 10 ^ suc more → read-from (in-field s (some-digits 0 0)) (decimal (number / 10) ++ digit-byte (number % 10) ∷ rest) ≡ read-from (in-field s (some-digits (length (decimal (number / 10))) (number / 10))) (digit-byte (number % 10) ∷ rest)) → read-from (in-field s (some-digits 0 0)) (decimal number ++ rest) ≡ read-from (in-field s (some-digits (length (decimal number)) number)) rest
       go true t again = short-read number rest (ltb-true _ _ t)
       go false t again =
           let big : 10 ≤ number = ltb-false _ _ t in
           let below : number / 10 < 10 ^ suc more = omega arith in
           let few-digits : length (decimal (number / 10)) ≤ suc more = decimal-length more (number / 10) below in
-          ap (λ (l : List ℕ). read-from (in-field s 0 0) (l ++ rest)) (decimal-long number big)
-          ∙ ap (read-from (in-field s 0 0)) (append-snoc (decimal (number / 10)) (digit-byte (number % 10)) rest)
+          ap (λ (l : List ℕ). read-from (in-field s (some-digits 0 0)) (l ++ rest)) (decimal-long number big)
+          ∙ ap (read-from (in-field s (some-digits 0 0))) (append-snoc (decimal (number / 10)) (digit-byte (number % 10)) rest)
           ∙ again below
           ∙ one-digit (length (decimal (number / 10))) (number / 10) (number % 10) rest (omega arith) (omega arith)
-          ∙ ap (λ (n : ℕ). read-from (in-field s n (number / 10 * 10 + number % 10)) rest) (sym (longer big))
-          ∙ ap (λ (n : ℕ). read-from (in-field s (length (decimal number)) n) rest) whole
+          ∙ ap (λ (n : ℕ). read-from (in-field s (some-digits n (number / 10 * 10 + number % 10))) rest) (sym (longer big))
+          ∙ ap (λ (n : ℕ). read-from (in-field s (some-digits (length (decimal number)) n)) rest) whole
         where
           longer : 10 ≤ number → length (decimal number) ≡ length (decimal (number / 10)) + 1
           longer big = ap (λ (l : List ℕ). length l) (decimal-long number big) ∙ length-append (decimal (number / 10)) (digit-byte (number % 10) ∷ [])
@@ -66,23 +66,24 @@ module _ (s : Standing) (open-yet : is-complete s ≡ false) where
           whole = omega arith
 
 -- the digits of a code, and of a size
-code-read : (s : Standing) → is-complete s ≡ false → (number : ℕ) (rest : List ℕ) → number ≤ largest-code → read-from (in-field s 0 0) (decimal number ++ rest) ≡ read-from (in-field s (length (decimal number)) number) rest
+code-read : (s : Standing) → is-complete s ≡ false → (number : ℕ) (rest : List ℕ) → number ≤ largest-code → read-from (in-field s (some-digits 0 0)) (decimal number ++ rest) ≡ read-from (in-field s (some-digits (length (decimal number)) number)) rest
 code-read s open-yet number rest h = digits-read s open-yet 9 number rest (omega arith) (omega arith)
 
 -- ## The field of a pad
 
--- a cell's field is read as some digits with a value that stand for the cell
+-- a cell's field is read as one that stands for the cell
 record Spelt (s : Standing) (cell : ℤ) (rest : List ℕ) : Type 0 where
-  digits : ℕ
-  value : ℕ
-  sound : value ≤ largest-code
-  stands : cell-of digits value ≡ cell
-  same : read-from (in-field s 0 0) (cell-text cell ++ rest) ≡ read-from (in-field s digits value) rest
+  part : Part
+  sound : part .value ≤ largest-code
+  stands : cell-of part ≡ cell
+  same : read-from (in-field s (some-digits 0 0)) (cell-text cell ++ rest) ≡ read-from (in-field s part) rest
 
-spelt : (s : Standing) → is-complete s ≡ false → (cell : ℤ) (rest : List ℕ) → CellInRange cell → Spelt s cell rest
-unfolding cell-text cell-of blank
-spelt s open-yet cell rest (inl e) = record { digits = 0; value = 0; sound = omega arith; stands = sym e; same = rw e refl }
-spelt s open-yet cell rest (inr (code, e, below)) = record { digits = length (decimal code); value = code; sound = below; stands = rw (ne-eqb _ 0 some) (sym e); same = rw e (code-read s open-yet code rest below) }
+-- in a row: nothing for blank, `#` for a hole, else the digits of the code
+spelt : (s : Standing) → is-complete s ≡ false → in-header s ≡ false → (cell : ℤ) (rest : List ℕ) → CellInRange cell → Spelt s cell rest
+unfolding cell-text hole-sign bytes cell-of blank hole
+spelt s open-yet in-row cell rest (inl e) = record { part = some-digits 0 0; sound = omega arith; stands = sym e; same = rw e refl }
+spelt s open-yet in-row cell rest (inr (inl e)) = record { part = hole-alone; sound = omega arith; stands = sym e; same = rw e (hole-read s open-yet rest in-row) }
+spelt s open-yet in-row cell rest (inr (inr (code, e, below))) = record { part = some-digits (length (decimal code)) code; sound = below; stands = rw (ne-eqb _ 0 some) (sym e); same = rw e (code-read s open-yet code rest below) }
   where
     some : length (decimal code) ≡ 0 → ⊥
     some z = omega (arith, decimal-some code, z)
@@ -127,13 +128,14 @@ module _ (height width : ℕ) where
 
   module _ (cell : ℤ) (rest cells : List ℤ) (line field : ℕ) (from : 2 ≤ line) (left : line < height + 2) (first : 1 ≤ field) (again : RowsRead rest) (count : index-of width line field + suc (length rest) ≡ height * width) (in-range : CellInRange cell) (all-in-range : (v : ℕ) → v < length rest → CellInRange (getD rest v blank-cell)) where
     here : (following : List ℕ) → Spelt (field-start line field height width cells) cell following
-    here following = spelt (field-start line field height width cells) (row-open line field height width cells from left) cell following in-range
+    unfolding in-header field-start
+    here following = spelt (field-start line field height width cells) (row-open line field height width cells from left) (ne-eqb line 1 (λ (e : line ≡ 1). omega arith)) cell following in-range
 
     -- the pad is the last of its row, or another follows
     last-read : field ≡ width → read-from (field-start line field height width cells) (cell-text cell ++ 10 ∷ rows-text width 1 rest) ≡ gives (sets (set cells (index-of width line field) cell) (suc (index-of width line field)) rest)
     unfolding in-field field-start
     last-read e =
-        h .same ∙ row-ends line field height width cells from left (h .digits) (h .value) (rows-text width 1 rest) (h .sound) (omega arith)
+        h .same ∙ row-ends line field height width cells from left (h .part) (rows-text width 1 rest) (h .sound) (omega arith)
         ∙ ap (λ (c : ℤ). read-from (field-start (line + 1) 1 height width (set cells (index-of width line field) c)) (rows-text width 1 rest)) (h .stands)
         ∙ again (set cells (index-of width line field) cell) (line + 1) 1 (omega arith) (omega arith) (omega arith) (omega arith) (omega (arith, count, next)) all-in-range
         ∙ ap (λ (n : ℕ). gives (sets (set cells (index-of width line field) cell) n rest)) next
@@ -150,7 +152,7 @@ module _ (height width : ℕ) where
     other-read : (field ≡ width → ⊥) → field ≤ width → read-from (field-start line field height width cells) (cell-text cell ++ 44 ∷ rows-text width (field + 1) rest) ≡ gives (sets (set cells (index-of width line field) cell) (suc (index-of width line field)) rest)
     unfolding in-field field-start
     other-read n last =
-        h .same ∙ row-goes-on line field height width cells from left (h .digits) (h .value) (rows-text width (field + 1) rest) (h .sound) n
+        h .same ∙ row-goes-on line field height width cells from left (h .part) (rows-text width (field + 1) rest) (h .sound) n
         ∙ ap (λ (c : ℤ). read-from (field-start line (field + 1) height width (set cells (index-of width line field) c)) (rows-text width (field + 1) rest)) (h .stands)
         ∙ again (set cells (index-of width line field) cell) line (field + 1) from (omega arith) (omega arith) (omega (arith, n)) (omega (arith, count)) all-in-range
         ∙ ap (λ (n : ℕ). gives (sets (set cells (index-of width line field) cell) n rest)) next
@@ -212,9 +214,10 @@ module _ (height width : ℕ) (cells : List ℤ) where
 -- ## How long it is
 
 cell-short : (cell : ℤ) → CellInRange cell → length (cell-text cell) ≤ 10
-unfolding cell-text
+unfolding cell-text hole-sign bytes
 cell-short cell (inl e) = rw e (omega arith)
-cell-short cell (inr (code, e, below)) = rw e (decimal-length 9 code (omega arith))
+cell-short cell (inr (inl e)) = rw e (omega arith)
+cell-short cell (inr (inr (code, e, below))) = rw e (decimal-length 9 code (omega arith))
 
 -- ten digits and the byte after them for each pad
 rows-short : (width field : ℕ) (cells : List ℤ) → ((v : ℕ) → v < length cells → CellInRange (getD cells v blank-cell)) → length (rows-text width field cells) ≤ length cells * 11

@@ -17,7 +17,7 @@ use Rattle.rules.specs.Grid.{Size, largest-code, blank-cell, CellInRange, Accep
 use Rattle.rules.specs.Tests.{both, conflict}
 use Rattle.model.specs.Bounds.{is-size, most-digits}
 use Rattle.model.specs.RefusalLaws.{size-of-test}
-use Rattle.model.specs.GridFile.{Standing, Reading, is-digit, is-comma, is-line-end, is-allowed, disallowed-number, blank, no-cells, start, in-header, fields-due, is-complete, field-cell, bad-size, refusal, with-digit, begun, after, accepted, declined, read-from, read}
+use Rattle.model.specs.GridFile.{Standing, Reading, is-digit, is-comma, is-line-end, is-hole-sign, begins-hole, is-allowed, disallowed-number, blank, hole, no-cells, start, in-header, fields-due, is-complete, field-cell, bad-size, refusal, with-digit, with-hole, begun, after, accepted, declined, read-from, read}
 
 -- ## What an accepted byte says
 
@@ -38,7 +38,7 @@ disallowed-some digits = go (eqb digits 0)
 -- each test of `refusal` has failed
 pub record Passed (s : Standing) (byte : ℕ) : Type 0 where
   pub unfinished : is-complete s ≡ false
-  pub allowed : not (is-allowed byte) ≡ false
+  pub allowed : not (is-allowed s byte) ≡ false
   pub ten-digits : is-digit byte && eqb (s .digits) most-digits ≡ false
   pub in-range : not (is-digit byte) && ltb largest-code (s .value) ≡ false
   pub enough-fields : is-line-end byte && ltb (s .field) (fields-due s) ≡ false
@@ -49,7 +49,7 @@ pub byte-passed : (s : Standing) (byte : ℕ) → refusal s byte ≡ 0 → Passe
 unfolding refusal
 byte-passed s byte h =
     let (p6, r6) = passed (is-complete s) 6 _ (omega arith) h in
-    let (p1, r1) = passed (not (is-allowed byte)) (disallowed-number (s .digits)) _ (disallowed-some (s .digits)) r6 in
+    let (p1, r1) = passed (not (is-allowed s byte)) (disallowed-number (s .digits)) _ (disallowed-some (s .digits)) r6 in
     let (p2, r2) = passed (is-digit byte && eqb (s .digits) most-digits) 2 _ (omega arith) r1 in
     let (p3, r3) = passed (not (is-digit byte) && ltb largest-code (s .value)) 3 _ (omega arith) r2 in
     let (p4, r4) = passed (is-line-end byte && ltb (s .field) (fields-due s)) 4 _ (omega arith) r3 in
@@ -57,26 +57,41 @@ byte-passed s byte h =
     let (p5, r5) = passed (is-line-end byte && in-header s && ltb 0 (bad-size s)) 5 _ (omega arith) r4′ in
     record { unfinished = p6; allowed = p1; ten-digits = p2; in-range = p3; enough-fields = p4; no-more-fields = p4′; sizes = p5 }
 
--- the three kinds of accepted bytes
+-- the four kinds of accepted bytes
 pub data Kind (s : Standing) (byte : ℕ) : Type 0 where
-  a-digit : is-digit byte ≡ true → (s .digits ≡ 10 → ⊥) → Kind s byte
-  a-comma : is-digit byte ≡ false → is-comma byte ≡ true → s .value ≤ largest-code → (s .field ≡ fields-due s → ⊥) → Kind s byte
-  a-line-end : is-digit byte ≡ false → is-comma byte ≡ false → s .value ≤ largest-code → fields-due s ≤ s .field → in-header s && ltb 0 (bad-size s) ≡ false → Kind s byte
+  a-digit : is-digit byte ≡ true → s .drilled ≡ false → (s .digits ≡ 10 → ⊥) → Kind s byte
+  a-hole-sign : byte ≡ 35 → in-header s ≡ false → s .digits ≡ 0 → s .drilled ≡ false → Kind s byte
+  a-comma : byte ≡ 44 → s .value ≤ largest-code → (s .field ≡ fields-due s → ⊥) → Kind s byte
+  a-line-end : byte ≡ 10 → s .value ≤ largest-code → fields-due s ≤ s .field → in-header s && ltb 0 (bad-size s) ≡ false → Kind s byte
+
+module _ (s : Standing) where
+  -- what is known at each of the bytes that are no digits
+  comma-kind : Passed s 44 → (s .value ≤ largest-code) × (s .field ≡ fields-due s → ⊥)
+  unfolding is-digit is-comma
+  comma-kind p = (ltb-false largest-code (s .value) (p .in-range), eqb-false (s .field) (fields-due s) (p .no-more-fields))
+
+  line-end-kind : Passed s 10 → (s .value ≤ largest-code) × (fields-due s ≤ s .field) × (in-header s && ltb 0 (bad-size s) ≡ false)
+  unfolding is-digit is-line-end
+  line-end-kind p = (ltb-false largest-code (s .value) (p .in-range), ltb-false (s .field) (fields-due s) (p .enough-fields), p .sizes)
+
+  hole-sign-kind : Passed s 35 → (in-header s ≡ false) × (s .digits ≡ 0) × (s .drilled ≡ false)
+  unfolding is-digit is-comma is-line-end is-hole-sign is-allowed begins-hole
+  hole-sign-kind p =
+      let (begins, undrilled) = both (not (in-header s) && eqb (s .digits) 0) (not (s .drilled)) (not-false _ (p .allowed)) in
+      let (in-row, first) = both (not (in-header s)) (eqb (s .digits) 0) begins in
+      (not-true _ in-row, eqb-true _ _ first, not-true _ undrilled)
 
 pub kind-of : (s : Standing) (byte : ℕ) → Passed s byte → Kind s byte
-unfolding is-allowed most-digits
-kind-of s byte p = go (is-digit byte) (is-comma byte) (is-line-end byte) refl refl refl
+unfolding is-comma is-line-end is-hole-sign begins-hole is-allowed most-digits
+kind-of s byte p = go (is-comma byte) (is-line-end byte) (is-hole-sign byte) (is-digit byte) (s .drilled) refl refl refl refl refl
   where
-    go : (d c l : Bool) → is-digit byte ≡ d → is-comma byte ≡ c → is-line-end byte ≡ l → Kind s byte
-    go true c l hd hc hl = a-digit hd (eqb-false (s .digits) 10 (rw hd at (p .ten-digits)))
-    go false true l hd hc hl = a-comma hd hc (ltb-false largest-code (s .value) (rw hd at (p .in-range))) (eqb-false (s .field) (fields-due s) (rw hc at (p .no-more-fields)))
-    go false false true hd hc hl = a-line-end hd hc (ltb-false largest-code (s .value) (rw hd at (p .in-range))) (ltb-false (s .field) (fields-due s) (rw hl at (p .enough-fields))) (rw hl at (p .sizes))
-    go false false false hd hc hl = absurd (true≢false (rw (hd, hc, hl) at (p .allowed)))
-
--- an accepted byte that is no digit and no comma is a line end
-pub line-end-there : (s : Standing) (byte : ℕ) → Passed s byte → is-digit byte ≡ false → is-comma byte ≡ false → is-line-end byte ≡ true
-unfolding is-allowed
-line-end-there s byte p d c = not-false (is-line-end byte) (rw (d, c) at (p .allowed))
+    go : (c l h d r : Bool) → is-comma byte ≡ c → is-line-end byte ≡ l → is-hole-sign byte ≡ h → is-digit byte ≡ d → s .drilled ≡ r → Kind s byte
+    go true l h d r ec el eh ed er = let e = eqb-true byte 44 ec in let (small, more) = comma-kind s (rw e at p) in a-comma e small more
+    go false true h d r ec el eh ed er = let e = eqb-true byte 10 el in let (small, whole, sizes) = line-end-kind s (rw e at p) in a-line-end e small whole sizes
+    go false false true d r ec el eh ed er = let e = eqb-true byte 35 eh in let (in-row, first, undrilled) = hole-sign-kind s (rw e at p) in a-hole-sign e in-row first undrilled
+    go false false false true false ec el eh ed er = a-digit ed er (eqb-false (s .digits) 10 (rw ed at (p .ten-digits)))
+    go false false false true true ec el eh ed er = absurd (true≢false (rw (ec, el, eh, ed, er) at (p .allowed)))
+    go false false false false r ec el eh ed er = absurd (true≢false (rw (ec, el, eh, ed) at (p .allowed)))
 
 -- ## A sound standing
 
@@ -103,12 +118,13 @@ no-cells-in-range (suc n) zero = inl refl
 no-cells-in-range (suc n) (suc i) = no-cells-in-range n i
 
 field-in-range : (s : Standing) → s .value ≤ largest-code → CellInRange (field-cell s)
-unfolding field-cell blank
-field-in-range s h = go (eqb (s .digits) 0)
+unfolding field-cell blank hole
+field-in-range s h = go (s .drilled) (eqb (s .digits) 0)
   where
-    go : (empty : Bool) → CellInRange (if empty then blank else pos (s .value))
-    go true = inl refl
-    go false = inr (s .value, refl, h)
+    go : (drilled empty : Bool) → CellInRange (if drilled then hole else if empty then blank else pos (s .value))
+    go true empty = inr (inl refl)
+    go false true = inl refl
+    go false false = inr (inr (s .value, refl, h))
 
 pub start-sound : Sound start
 unfolding start no-cells blank fields-due in-header
@@ -124,28 +140,38 @@ start-sound =
     }
 
 module _ (s : Standing) (sound : Sound s) where
-  pub digit-sound : (byte : ℕ) → (s .digits ≡ 10 → ⊥) → Sound (with-digit s byte)
-  unfolding with-digit fields-due in-header
-  digit-sound byte n =
+  -- further in the same field
+  further : (digits value : ℕ) (drilled : Bool) → digits ≤ 10
+      → Sound (record { line = s .line; field = s .field; digits = digits; value = value; drilled = drilled; height = s .height; width = s .width; cells = s .cells })
+  unfolding fields-due in-header
+  further digits value drilled few =
       record {
         cells-in-range = sound .cells-in-range;
         cell-count = sound .cell-count;
         line-from-1 = sound .line-from-1;
         field-from-1 = sound .field-from-1;
         field-due = sound .field-due;
-        digits-due = omega (arith, sound .digits-due, n);
+        digits-due = few;
         sizes-in-range = sound .sizes-in-range;
       }
 
+  pub digit-sound : (byte : ℕ) → (s .digits ≡ 10 → ⊥) → Sound (with-digit s byte)
+  unfolding with-digit
+  digit-sound byte n = further (s .digits + 1) (s .value * 10 + (byte - 48)) (s .drilled) (omega (arith, sound .digits-due, n))
+
+  pub hole-sound : Sound (with-hole s)
+  unfolding with-hole
+  hole-sound = further (s .digits) (s .value) true (sound .digits-due)
+
   -- the standing at another field, in a row and in the header
-  pub begun-row : (line field : ℕ) → in-header s ≡ false → begun s line field ≡ record { line = line; field = field; digits = 0; value = 0; height = s .height; width = s .width; cells = set (s .cells) ((s .line - 2) * s .width + (s .field - 1)) (field-cell s) }
+  pub begun-row : (line field : ℕ) → in-header s ≡ false → begun s line field ≡ record { line = line; field = field; digits = 0; value = 0; drilled = false; height = s .height; width = s .width; cells = set (s .cells) ((s .line - 2) * s .width + (s .field - 1)) (field-cell s) }
   unfolding begun
   begun-row line field h = rw h refl
 
   row-cells : s .value ≤ largest-code → (i : ℕ) → CellInRange (getD (set (s .cells) ((s .line - 2) * s .width + (s .field - 1)) (field-cell s)) i blank-cell)
   row-cells v = stored-in-range (s .cells) _ (field-cell s) (sound .cells-in-range) (field-in-range s v)
 
-  pub begun-header : (line field : ℕ) → in-header s ≡ true → begun s line field ≡ record { line = line; field = field; digits = 0; value = 0; height = if eqb (s .field) 1 then s .value else s .height; width = if eqb (s .field) 2 then s .value else s .width; cells = s .cells }
+  pub begun-header : (line field : ℕ) → in-header s ≡ true → begun s line field ≡ record { line = line; field = field; digits = 0; value = 0; drilled = false; height = if eqb (s .field) 1 then s .value else s .height; width = if eqb (s .field) 2 then s .value else s .width; cells = s .cells }
   unfolding begun
   begun-header line field h = rw h refl
 
@@ -251,16 +277,17 @@ module _ (s : Standing) (sound : Sound s) where
       go false h = row-end h c v
 
   pub after-sound : (byte : ℕ) → refusal s byte ≡ 0 → Sound (after s byte)
-  unfolding after
+  unfolding after is-digit is-comma is-hole-sign
   after-sound byte r = go (kind-of s byte p)
     where
       p : Passed s byte
       p = byte-passed s byte r
 
       go : Kind s byte → Sound (after s byte)
-      go (a-digit d n) = rw d (digit-sound byte n)
-      go (a-comma d c v n) = rw (d, c) (comma-sound v n)
-      go (a-line-end d c v e b) = rw (d, c) (line-end-sound (p .unfinished) v e b)
+      go (a-digit d undrilled n) = rw d (digit-sound byte n)
+      go (a-hole-sign e in-row first undrilled) = rw e hole-sound
+      go (a-comma e v n) = rw e (comma-sound v n)
+      go (a-line-end e v due b) = rw e (line-end-sound (p .unfinished) v due b)
 
 -- ## What every reading gives
 

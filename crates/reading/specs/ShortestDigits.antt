@@ -10,7 +10,6 @@ use lib.Dec.{eqb}
 use borrow.Author.Tests.{eqb-true, not-true}
 use Rattle.rules.specs.Tests.{both}
 use Rattle.model.specs.GridFile.{is-digit}
-use Rattle.reading.specs.DisallowedBytes.{digit-before}
 
 -- ## The definition
 
@@ -33,8 +32,12 @@ in-shortest-digits file = shortened false file
 
 -- ## Where the bytes are the same
 
--- a field of two or more digits begins with 0: a 0 with no digit right before it and a digit right after it; `first` says whether a digit
--- stands before the text itself
+-- whether a digit stands right before a place of a text; `first` says whether one stands before the text itself
+unfoldable pub digit-before : Bool → List ℕ → ℕ → Bool
+digit-before first bytes zero = first
+digit-before first bytes (suc place) = is-digit (getD bytes place 0)
+
+-- a field of two or more digits begins with 0: a 0 with no digit right before it and a digit right after it
 pub record LeadingZero (first : Bool) (bytes : List ℕ) : Type 0 where
   pub place : ℕ
   pub zero-there : getD bytes place 0 ≡ 48

@@ -12,7 +12,7 @@ use borrow.Author.Tests.{ltb-true, leb-true, eqb-true, eqb-false, not-true, le-l
 use lib.Dec.{eqb, ltb, leb}
 use lib.ListN.{getD, length, List·getD-eq-default}
 use lib.IntN.{ℤ}
-use Rattle.rules.specs.Grid.{right, down, Cell, blank, clue, cell-of, blank-cell, Grid, grid-of, OnBoard}
+use Rattle.rules.specs.Grid.{right, down, Cell, blank, clue, hole, cell-of, blank-cell, Grid, grid-of, OnBoard}
 use Rattle.rules.specs.Drawing.{Drawing, Placed, Line, rightward, leftward, downward, upward, NoLine, OneLine, TwoLines, Joined, here, more, Loop, Ordinary}
 use Rattle.rules.specs.Tests.{both, either, all-below, all-below-at}
 use Rattle.rules.specs.Places.{zero≢one}
@@ -110,6 +110,8 @@ pad-check rank chain v blank (a ∷ []) = false
 pad-check rank chain v blank (a ∷ b ∷ []) =
     not (eqb a b) && ((ltb (rank v) (rank a) || ltb (rank v) (rank b)) && (eqb (chain a) (chain v) && eqb (chain b) (chain v)))
 pad-check rank chain v blank (a ∷ b ∷ c ∷ l) = false
+pad-check rank chain v hole [] = true
+pad-check rank chain v hole (a ∷ l) = false
 
 module _ (rank chain : ℕ → ℕ) (v : ℕ) where
   clue-checked : (code : ℕ) (l : List ℕ) → pad-check rank chain v (clue code) l ≡ true
@@ -147,6 +149,11 @@ module _ (rank chain : ℕ → ℕ) (v : ℕ) where
           same-b = eqb-true _ _ s;
         },
       )
+
+  hole-checked : (l : List ℕ) → pad-check rank chain v hole l ≡ true → l ≡ []
+  unfolding pad-check
+  hole-checked [] h = refl
+  hole-checked (a ∷ l) h = zero≢one (cc)
 
 -- THE WHOLE CHECK: the lines are on the board, and every pad passes
 unfoldable pub checked : (height width : ℕ) → List ℤ → (rights downs ranks chains : List ℕ) → Bool
@@ -251,6 +258,10 @@ module _ (height width : ℕ) (cells : List ℤ) (rights downs ranks chains : Li
     | yes inside ↦ ⊎-elim (λ none. inl (no-line v none)) (λ (a, b, p). inr (two-lines v a b p)) (blank-pad v inside e)
   ]
 
+  hole-lines : (v : ℕ) → g .cell v ≡ hole → NoLine (Line width D) v
+  unfolding grid-of
+  hole-lines v e u l = no-line v (hole-checked rank chain v (neighbours width D v) (rw e at (parts .pad v (in-range v u l)))) u l
+
   -- one chain, one code
   same-chain : (v y : ℕ) → Line width D v y → chain y ≡ chain v
   unfolding one-line two-lines
@@ -261,6 +272,7 @@ module _ (height width : ℕ) (cells : List ℤ) (rights downs ranks chains : Li
       go blank e = ⊎-elim (λ none. absurd (no-line v none y l))
           (λ (a, b, p). ⊎-elim (λ q. ap chain q ∙ p .same-a) (λ q. ap chain q ∙ p .same-b) (two-lines v a b p .only y l))
           (blank-pad v (in-range v y l) e)
+      go hole e = absurd (hole-lines v e y l)
 
   joined-chain : {u v : ℕ} → Joined (Line width D) u v → chain u ≡ chain v
   joined-chain here = refl
@@ -275,6 +287,7 @@ module _ (height width : ℕ) (cells : List ℤ) (rights downs ranks chains : Li
           → (y : ℕ) × Family y × (rank v < rank y)
       go x y x≢y in-x in-y lx ly (clue code) e =
           let (a, q, r, s) = clue-pad v code e in absurd (x≢y (one-line v a q .only x lx ∙ sym (one-line v a q .only y ly)))
+      go x y x≢y in-x in-y lx ly hole e = absurd (hole-lines v e x lx)
       go x y x≢y in-x in-y lx ly blank e = ⊎-elim (λ none. absurd (no-line v none x lx))
           (λ (a, b, p). higher a b p (two-lines v a b p .only x lx) (two-lines v a b p .only y ly)) (blank-pad v (in-range v x lx) e)
         where
@@ -298,6 +311,7 @@ module _ (height width : ℕ) (cells : List ℤ) (rights downs ranks chains : Li
     wired = record {
       clue-one = λ v code e. let (a, q, r, s) = clue-pad v code e in one-line v a q;
       blank-none-or-two = blank-lines;
+      hole-none = λ v e u l. absurd (hole-lines v e u l);
       no-loop = λ Family loop. absurd (climb (height * width) Family loop (loop .pad) (loop .inside) (omega arith));
       equal-codes = λ u v c d e f j. let (a, q, r, s) = clue-pad u c e in let (b, w, x, y) = clue-pad v d f in
           omega (arith, sym r ∙ joined-chain j ∙ x);

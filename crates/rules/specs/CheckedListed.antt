@@ -2,13 +2,13 @@
 -- They are there for the example drawings of Examples.antt; they rest on Drawing.antt and Tests.antt.
 use Prim.Native.Nat.{ℕ, _+_, _-_, _<_}
 use mathlib.Core.Path.{_≡_, refl}
-use mathlib.Core.Logic.{_⊎_, inl, inr, ⊎-elim}
+use mathlib.Core.Logic.{_≢_, _⊎_, inl, inr, ⊎-elim}
 use mathlib.Core.Bool.{Bool, true, false, _&&_, _||_, not}
 use native.Mathlib.Omega.{arith}
 use borrow.Author.Tests.{leb-true, not-true, le-leb}
 use lib.Dec.{leb}
-use Rattle.rules.specs.Grid.{down, Cell, blank, clue, Grid, pads, OnBoard}
-use Rattle.rules.specs.Drawing.{Drawing, Ordinary, Listed, square-lines, Side, on-left, on-right, DiagonallyBelow, Corner, IsClue}
+use Rattle.rules.specs.Grid.{down, Cell, blank, clue, hole, Grid, pads, OnBoard}
+use Rattle.rules.specs.Drawing.{Drawing, Ordinary, Listed, square-lines, Side, on-left, on-right, DiagonallyBelow, Corner, NotBlank}
 use Rattle.rules.specs.Tests.{both, either, all-below, all-below-at}
 use Rattle.rules.specs.Places.{zero≢one}
 
@@ -38,18 +38,20 @@ unfolding diagonal
 diagonal-is on-right width p q e = e
 diagonal-is on-left width p q e = omega arith
 
-unfoldable pub is-clue : Cell → Bool
-is-clue (clue code) = true
-is-clue blank = false
+unfoldable pub not-blank : Cell → Bool
+not-blank (clue code) = true
+not-blank hole = true
+not-blank blank = false
 
-clue-is : (C : Cell) → is-clue C ≡ true → (code : ℕ) × (C ≡ clue code)
-unfolding is-clue
-clue-is (clue code) h = (code, refl)
-clue-is blank h = zero≢one (cc)
+not-blank-is : (C : Cell) → not-blank C ≡ true → C ≢ blank
+unfolding not-blank
+not-blank-is (clue code) h e = zero≢one (cc)
+not-blank-is hole h e = zero≢one (cc)
+not-blank-is blank h e = zero≢one (cc)
 
 unfoldable pub corners-checked : Side → Grid → Drawing → Bool
-unfolding has-corner diagonal is-clue all-below
-corners-checked side g D = all-below (λ p. not (has-corner side D p) || (is-clue (g .cell (diagonal side (g .width) p))
+unfolding has-corner diagonal not-blank all-below
+corners-checked side g D = all-below (λ p. not (has-corner side D p) || (not-blank (g .cell (diagonal side (g .width) p))
     || has-corner side D (diagonal side (g .width) p))) (pads g)
 
 unfoldable pub squares-checked : Grid → Drawing → Bool
@@ -63,12 +65,12 @@ module _ (g : Grid) (D : Drawing) (ordinary : Ordinary g D) where
   corner-in-range on-left p (h, k) = let below : p + g .width < pads g = ordinary .placed (down p) k in omega arith
 
   corner-checked : (side : Side) → corners-checked side g D ≡ true → (p q : ℕ) → DiagonallyBelow side (g .width) p q → Corner side D p
-      → IsClue g q ⊎ Corner side D q
+      → NotBlank g q ⊎ Corner side D q
   unfolding corners-checked
   corner-checked side ok p q below corner = ⊎-elim
       (λ n. zero≢one (cc (not-true (has-corner side D p) n, corner-is side D p corner)))
-      (λ h. ⊎-elim (λ c. inl (rw same (clue-is _ c))) (λ c. inr (rw same (is-corner side D _ c)))
-      (either (is-clue (g .cell (diagonal side (g .width) p))) _ h))
+      (λ h. ⊎-elim (λ c. inl (rw same (not-blank-is _ c))) (λ c. inr (rw same (is-corner side D _ c)))
+      (either (not-blank (g .cell (diagonal side (g .width) p))) _ h))
       (either (not (has-corner side D p)) _ (all-below-at _ (pads g) ok p (corner-in-range side p corner)))
     where
       same : q ≡ diagonal side (g .width) p
@@ -80,6 +82,6 @@ module _ (g : Grid) (D : Drawing) (ordinary : Ordinary g D) where
   checked-listed squares left-corners right-corners = record
       { ordinary = ordinary; squares = λ v u. omega (arith, leb-true (square-lines g D v) 2 (all-below-at _ (pads g) squares v (u .0 .0))); corners = by-side }
     where
-      by-side : (side : Side) (p q : ℕ) → DiagonallyBelow side (g .width) p q → Corner side D p → IsClue g q ⊎ Corner side D q
+      by-side : (side : Side) (p q : ℕ) → DiagonallyBelow side (g .width) p q → Corner side D p → NotBlank g q ⊎ Corner side D q
       by-side on-left = corner-checked on-left left-corners
       by-side on-right = corner-checked on-right right-corners

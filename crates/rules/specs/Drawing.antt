@@ -5,7 +5,7 @@ use Prim.Native.Nat.{ℕ, zero, suc, _+_, _≤_}
 use mathlib.Core.Path.{_≡_}
 use mathlib.Core.Logic.{_≢_, _⊎_, _↔_}
 use mathlib.Core.Bool.{Bool, true, false}
-use Rattle.rules.specs.Grid.{Edge, right, down, Cell, blank, clue, Grid, pads, OnBoard, UnitSquare}
+use Rattle.rules.specs.Grid.{Edge, right, down, Cell, blank, clue, hole, Grid, pads, OnBoard, UnitSquare}
 
 -- A DRAWING gives each edge line (true) or none (false): the edge to the right of a pad, and the edge downward.
 pub record Drawing : Type 0 where
@@ -61,11 +61,12 @@ pub record Loop (L : Relation) (Family : ℕ → Type 0) : Type 0 where
   pub inside : Family pad
   pub two : (v : ℕ) → Family v → (a : ℕ) × (b : ℕ) × (a ≢ b) × Family a × Family b × L v a × L v b
 
--- THE ORDINARY RULES for the lines between pads: a clue pad has one line, every other none or two; no closed loop; each chain joins
--- pads of equal code. (They are asked of every index; an index past the pads is blank and has no line, so nothing is asked there.)
+-- THE ORDINARY RULES for the lines between pads: a clue pad has one line, a blank one none or two, a hole none; no closed loop; each
+-- chain joins pads of equal code. (They are asked of every index; an index past the pads is blank and has no line, so nothing is asked there.)
 pub record Wired (cell : ℕ → Cell) (L : Relation) : Type 1 where
   pub clue-one : (v code : ℕ) → cell v ≡ clue code → OneLine L v
   pub blank-none-or-two : (v : ℕ) → cell v ≡ blank → NoLine L v ⊎ TwoLines L v
+  pub hole-none : (v : ℕ) → cell v ≡ hole → NoLine L v
   pub no-loop : (Family : ℕ → Type 0) → Loop L Family → ⊥
   pub equal-codes : (u v c d : ℕ) → cell u ≡ clue c → cell v ≡ clue d → Joined L u v → c ≡ d
 
@@ -105,12 +106,15 @@ Corner side D p = LineBeside side D p × (D .down p ≡ true)
 abbrev pub IsClue : Grid → ℕ → Type 0
 IsClue g v = (code : ℕ) × (g .cell v ≡ clue code)
 
+abbrev pub NotBlank : Grid → ℕ → Type 0
+NotBlank g v = g .cell v ≢ blank
+
 -- LISTED: ordinary, at most two lines in each unit square, and a pad with right+down (left+down) lines has diagonally below it, on that
--- side, a clue or a pad with the same two lines
+-- side, a pad that is not blank (a clue or a hole) or has the same two lines
 pub record Listed (g : Grid) (D : Drawing) : Type 1 where
   pub ordinary : Ordinary g D
   pub squares : (v : ℕ) → UnitSquare g v → square-lines g D v ≤ 2
-  pub corners : (side : Side) (p q : ℕ) → DiagonallyBelow side (g .width) p q → Corner side D p → IsClue g q ⊎ Corner side D q
+  pub corners : (side : Side) (p q : ℕ) → DiagonallyBelow side (g .width) p q → Corner side D p → NotBlank g q ⊎ Corner side D q
 
 -- JOINS THE SAME PADS PAIR BY PAIR: two clue pads are joined in the one drawing exactly where they are joined in the other
 abbrev pub SamePairs : Grid → Drawing → Drawing → Type 0

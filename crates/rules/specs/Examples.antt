@@ -8,15 +8,18 @@ use mathlib.Core.Logic.{_≢_, ⊎-elim}
 use mathlib.Core.List.{List, [], _∷_}
 use native.Mathlib.Omega.{arith}
 use lib.IntN.{ℤ, pos}
-use Rattle.rules.specs.Grid.{cell-of, blank-cell, grid-of}
+use Rattle.rules.specs.Grid.{cell-of, blank-cell, hole-cell, grid-of}
 use Rattle.rules.specs.Drawing.{Drawing, Line, rightward, leftward, downward, upward, here, more, Ordinary, Listed, on-left, on-right}
 use Rattle.rules.specs.Checked.{elem, lines-at, checked, checked-ordinary}
 use Rattle.rules.specs.CheckedListed.{corners-checked, squares-checked, checked-listed}
 use Rattle.rules.specs.Places.{zero≢one}
 
--- the cells of a grid, row by row: blank, and clues of code 5, 6 and 7
+-- the cells of a grid, row by row: blank, a hole, and clues of code 5, 6 and 7
 abbrev empty : ℤ
 empty = blank-cell
+
+abbrev drilled : ℤ
+drilled = hole-cell
 
 abbrev five : ℤ
 five = pos 5
@@ -56,6 +59,26 @@ pub left-corner-over-a-clue-is-listed : Listed (grid-of 2 3 clue-on-the-left) (l
 unfolding checked corners-checked squares-checked grid-of lines-at cell-of elem
 left-corner-over-a-clue-is-listed = checked-listed _ _
     (checked-ordinary 2 3 clue-on-the-left (1 ∷ 3 ∷ []) (2 ∷ []) (0 ∷ 0 ∷ 1 ∷ 0 ∷ 1 ∷ 2 ∷ []) (0 ∷ 5 ∷ 5 ∷ 6 ∷ 6 ∷ 5 ∷ []) refl) refl refl refl
+
+-- Pad 0 has right and down lines, and diagonally below it on the right is a hole.
+-- (_ 5 / 5 #)
+abbrev hole-on-the-right : List ℤ
+hole-on-the-right = empty ∷ five ∷ five ∷ drilled ∷ []
+
+pub right-corner-over-a-hole-is-listed : Listed (grid-of 2 2 hole-on-the-right) (lines-at (0 ∷ []) (0 ∷ []))
+unfolding checked corners-checked squares-checked grid-of lines-at cell-of elem
+right-corner-over-a-hole-is-listed = checked-listed _ _
+    (checked-ordinary 2 2 hole-on-the-right (0 ∷ []) (0 ∷ []) (1 ∷ 0 ∷ 2 ∷ 0 ∷ []) (5 ∷ 5 ∷ 5 ∷ 0 ∷ []) refl) refl refl refl
+
+-- Pad 1 has left and down lines, and diagonally below it on the left is a hole.
+-- (5 _ / # 5)
+abbrev hole-on-the-left : List ℤ
+hole-on-the-left = five ∷ empty ∷ drilled ∷ five ∷ []
+
+pub left-corner-over-a-hole-is-listed : Listed (grid-of 2 2 hole-on-the-left) (lines-at (0 ∷ []) (1 ∷ []))
+unfolding checked corners-checked squares-checked grid-of lines-at cell-of elem
+left-corner-over-a-hole-is-listed = checked-listed _ _
+    (checked-ordinary 2 2 hole-on-the-left (0 ∷ []) (1 ∷ []) (0 ∷ 1 ∷ 0 ∷ 2 ∷ []) (5 ∷ 5 ∷ 0 ∷ 5 ∷ []) refl) refl refl refl
 
 -- Pad 0 has right and down lines, so has pad 5 diagonally below it, and diagonally below that stands a clue.
 -- (_ 5 _ _ / 5 _ 7 _ / _ 7 6 6)
@@ -99,7 +122,7 @@ right-corner-is-ordinary =
 pub right-corner-is-not-listed : Listed (grid-of 2 2 other-diagonal-cells) right-corner → ⊥
 unfolding grid-of lines-at elem cell-of
 right-corner-is-not-listed h =
-    ⊎-elim (λ (code, e). zero≢one (cc)) (λ (e, f). zero≢one (cc)) (h .corners on-right 0 3 refl (refl, refl))
+    ⊎-elim (λ not-blank. not-blank refl) (λ (e, f). zero≢one (cc)) (h .corners on-right 0 3 refl (refl, refl))
 
 -- 5 and 5 on a diagonal, drawn left and down from pad 1 over the blank pad 2.
 abbrev left-corner : Drawing
@@ -112,7 +135,7 @@ left-corner-is-ordinary = checked-ordinary 2 2 diagonal-cells (0 ∷ []) (1 ∷ 
 pub left-corner-is-not-listed : Listed (grid-of 2 2 diagonal-cells) left-corner → ⊥
 unfolding grid-of lines-at elem cell-of
 left-corner-is-not-listed h =
-    ⊎-elim (λ (code, e). zero≢one (cc)) (λ (e, f). zero≢one (cc)) (h .corners on-left 1 2 refl ((0, refl, refl), refl))
+    ⊎-elim (λ not-blank. not-blank refl) (λ (e, f). zero≢one (cc)) (h .corners on-left 1 2 refl ((0, refl, refl), refl))
 
 -- NEITHER. All four lines on a blank grid: a closed loop.
 abbrev blank-cells : List ℤ
@@ -167,3 +190,21 @@ loose-end-is-not-ordinary h = ⊎-elim (λ none. none 1 (rightward refl refl)) (
     one (leftward e f) = absurd (omega arith)
     one (downward e f) = zero≢one (cc)
     one (upward e f) = absurd (omega arith)
+
+-- 5 and 5 on a diagonal, drawn right from pad 0 and down from pad 1, which is a hole: two lines at a hole.
+-- (5 # / _ 5)
+abbrev hole-between : List ℤ
+hole-between = five ∷ drilled ∷ empty ∷ five ∷ []
+
+pub lines-at-a-hole-are-not-ordinary : Ordinary (grid-of 2 2 hole-between) (lines-at (0 ∷ []) (1 ∷ [])) → ⊥
+unfolding grid-of lines-at elem cell-of
+lines-at-a-hole-are-not-ordinary h = h .wired .hole-none 1 refl 0 (leftward refl refl)
+
+-- 5 beside a hole, drawn right from pad 0: the line ends at a hole.
+-- (5 # / _ _)
+abbrev hole-beside : List ℤ
+hole-beside = five ∷ drilled ∷ empty ∷ empty ∷ []
+
+pub a-line-to-a-hole-is-not-ordinary : Ordinary (grid-of 2 2 hole-beside) (lines-at (0 ∷ []) []) → ⊥
+unfolding grid-of lines-at elem cell-of
+a-line-to-a-hole-is-not-ordinary h = h .wired .hole-none 1 refl 0 (leftward refl refl)

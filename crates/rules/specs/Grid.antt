@@ -89,26 +89,31 @@ abbrev pub column-of : ℕ → Edge → ℕ
 column-of width (right v) = 2 * (v % width) + 1
 column-of width (down v) = 2 * (v % width)
 
--- CELLS: a pad is blank, or a clue with its code.
+-- CELLS: a pad is blank, a clue with its code, or a drilled hole.
 pub data Cell : Type 0 where
   blank : Cell
   clue : ℕ → Cell
+  hole : Cell
 
--- a cell as it is lent: -1 for blank, else the code
+-- a cell as it is lent: -1 for blank, -2 for a hole, else the code
 unfoldable pub cell-of : ℤ → Cell
 cell-of (pos code) = clue code
-cell-of (negsuc n) = blank
+cell-of (negsuc zero) = blank
+cell-of (negsuc (suc n)) = hole
 
 abbrev pub blank-cell : ℤ
 blank-cell = negsuc 0
+
+abbrev pub hole-cell : ℤ
+hole-cell = negsuc 1
 
 -- codes are 0 to 2147483646
 abbrev pub largest-code : ℕ
 largest-code = 2147483646
 
--- a cell that a grid may hold: -1, or a code in range
+-- a cell that a grid may hold: -1, -2, or a code in range
 abbrev pub CellInRange : ℤ → Type 0
-CellInRange z = (z ≡ blank-cell) ⊎ ((code : ℕ) × (z ≡ pos code) × (code ≤ largest-code))
+CellInRange z = (z ≡ blank-cell) ⊎ (z ≡ hole-cell) ⊎ ((code : ℕ) × (z ≡ pos code) × (code ≤ largest-code))
 
 -- GRIDS: height, width, and what each pad holds, by its index.
 pub record Grid : Type 0 where

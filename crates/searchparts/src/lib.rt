@@ -25,7 +25,7 @@ pub fn first_of_last_row(kind: &[u8; 1024]) -> usize
     (boardparts::height(kind) - 1) * boardparts::width(kind)
 }
 
-// 1 for a clue, 0 for a blank pad.
+// 1 for a clue, 0 for a blank pad and for a hole.
 fn clue_at(kind: &[u8; 1024], v: usize) -> u8
     requires { ⌜ (v < 1024) × (length (now kind) ≡ 1024) ⌝ }
     ensures { λ r. ⌜ (r ≡ num (has-bit (now (kind .entry)) v clue-bit)) × (r ≤ 1) ⌝ }

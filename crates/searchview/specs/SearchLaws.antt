@@ -1,19 +1,20 @@
--- Laws of one step of the search: what is left of the board after an attempt is undone, an m that is not tried, that leaves the flag set or
--- that goes on, and a board that is spent, in the last row or tried with its four m. They rest on Progress.antt, NextPad.antt and on what a
--- decision promises.
+-- Laws of one step of the search: what is left of the board after an attempt is undone, where the search of a board begins, an m that is
+-- not tried, that leaves the flag set or that goes on, and a board that is spent, in the last row or tried with its four m. They rest on
+-- Progress.antt, NextPad.antt and on what a decision promises.
 use Prim.Native.Nat.{ℕ, zero, suc, _+_, _*_, _-_, _%_, _/_, _≤_, _<_}
 use mathlib.Core.Path.{_≡_, refl, sym, ap, _∙_}
 use mathlib.Core.Bool.{Bool, true, false, _||_}
 use mathlib.Core.List.{List, [], _∷_, _++_, append-nil}
 use native.Mathlib.Omega.{arith}
-use lib.Dec.{eqb}
+use lib.Dec.{eqb, leb}
 use lib.ListN.{length}
 use lib.IntN.{ℤ}
 use borrow.Author.Tests.{lt-ltb, le-ltb, eq-eqb, ne-eqb, le-leb, lt-leb}
 use Rattle.rules.specs.Grid.{right, down, Grid, pads, places}
 use Rattle.rules.specs.Drawing.{num}
 use Rattle.model.specs.Board.{State, isUndecided, on-board, line-or-none, decide, enough}
-use Rattle.model.specs.Search.{Event, layout, board-record, degree-so-far, next-pad, try, backtrack}
+use Rattle.model.specs.Search.{Event, layout, board-record, degree-so-far, next-pad, try, backtrack, search-from}
+use Rattle.model.specs.SearchStart.{flagged-search, clear-search}
 use Rattle.boardview.specs.View.{Arrays, logged, view, unwound, Entry, Since, Ready, Decided}
 use Rattle.boardview.specs.Unwind.{kept-unwound}
 use Rattle.searchview.specs.Progress.{Progress, advance, entered, stopped, goes-on, advance-append}
@@ -22,7 +23,7 @@ use Rattle.searchview.specs.Shown.{EdgesReady, is-tried, last-row, NextP
 use Rattle.searchview.specs.Searched.{Above, Entered, Attempted, Backtracked, Going, events-left}
 use Rattle.boardview.specs.Undecided.{enough-here}
 use Rattle.searchview.specs.EdgeSet.{right-decided}
-use Rattle.searchview.specs.NextPad.{below-some, below-none, last-below-pads, right-there, next-same}
+use Rattle.searchview.specs.NextPad.{below-some, below-none, last-below-pads, right-there, scan-same, next-same}
 
 -- THE BOARD AGAIN AS IT WAS
 pub ready-edges : (g : Grid) (s : Arrays) → Ready g s → EdgesReady g (s .edges)
@@ -91,6 +92,33 @@ undone-restored w s s₁ s₂ since long log more longer back =
       log-long = ap length log ∙ long;
     }
 
+-- WHERE A SEARCH BEGINS: nowhere on a flagged board, else at the first pad that the scan finds
+module _ (g : Grid) (s : Arrays) (ready : Ready g s) (high : 2 ≤ g .height) where
+  few-slots : 32 + 2 * last-row g ≤ 1024
+  few-slots = omega (arith, last-below-pads g high (ready .least-width), ready .few-pads)
+
+  view-shown : (k : ℕ) → view s .edge (right k) ≡ edges-only (s .edges) .edge (right k)
+  unfolding view edges-only
+  view-shown k = refl
+
+  -- a pad that the scan finds may be entered
+  pub found-entered : {from u : ℕ} → NextPad (s .edges) (last-row g) from u → Entered g u
+  found-entered {u = u} next = record {
+    low = next .above;
+    has-next = λ h. right-there g high (s .edges) (ready-edges g s ready) few-slots (view s) view-shown u h (next .found h);
+  }
+
+  flag-shown : view s .flag ≡ leb 1024 (s .count)
+  unfolding view
+  flag-shown = refl
+
+  pub search-flagged : 1024 ≤ s .count → search-from g (view s) ≡ []
+  search-flagged h = flagged-search g (view s) (flag-shown ∙ le-leb 1024 (s .count) h)
+
+  pub search-clear : s .count < 1024 → (u : ℕ) → NextPad (s .edges) (last-row g) 0 u → search-from g (view s) ≡ backtrack g (pads g) u (view s)
+  search-clear h u next = clear-search g (view s) (flag-shown ∙ lt-leb 1024 (s .count) h) ∙ ap (λ (k : ℕ). backtrack g (pads g) k (view s))
+      (scan-same g high (s .edges) (ready-edges g s ready) few-slots (view s) view-shown (pads g) 0 u (omega arith) (omega (arith, last-below-pads g high (ready .least-width))) next)
+
 -- ONE m
 module _ (g : Grid) (v : ℕ) (go-right go-down : Bool) (s : Arrays) where
   tried-shown : is-tried g v (edges-only (s .edges)) go-right go-down ≡ (eqb (degree-so-far g v (view s) + num go-right + num go-down) 0 || eqb (degree-so-far g v (view s) + num go-right + num go-down) 2)
@@ -132,18 +160,11 @@ module _ (g : Grid) (v : ℕ) (go-right go-down : Bool) (s : Arrays) where
       decided-right : isUndecided (view s₂ .edge (right v)) ≡ false
       decided-right = ap (λ (S : State). isUndecided (S .edge (right v))) both-decided ∙ right-decided g wide v go-right go-down (view s) flag-clear
 
-      view-shown : (k : ℕ) → view s₂ .edge (right k) ≡ edges-only (s₂ .edges) .edge (right k)
-      unfolding view edges-only
-      view-shown k = refl
-
       pub at-next : next-pad g (pads g) v (view s₂) ≡ u
-      at-next = next-same g high (s₂ .edges) (ready-edges g s₂ (second .ready)) few (view s₂) view-shown v u above decided-right next
+      at-next = next-same g high (s₂ .edges) (ready-edges g s₂ (second .ready)) few (view s₂) (view-shown g s₂ (second .ready) high) v u above decided-right next
 
       pub next-entered : Entered g u
-      next-entered = record {
-        low = next .above;
-        has-next = λ h. right-there g high (s₂ .edges) (ready-edges g s₂ (second .ready)) few (view s₂) view-shown u h (next .found h);
-      }
+      next-entered = found-entered g s₂ (second .ready) high next
 
       pub went-on : (limit : ℕ) (P : Progress) (s₃ s₄ : Arrays) (P′ : Progress) → Backtracked g limit u s₂ P s₃ P′ → Restored s s₄ → Attempted g limit v go-right go-down s P s₄ P′
       unfolding try

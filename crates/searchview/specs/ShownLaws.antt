@@ -2,7 +2,7 @@
 -- Shown.antt and on the board's view.
 use Prim.Native.Nat.{ℕ, zero, suc, _+_, _*_, _-_, _%_, _≤_, _<_}
 use mathlib.Core.Path.{_≡_, refl, ap, _∙_}
-use mathlib.Core.Bool.{Bool, true, false, _&&_, _||_, not}
+use mathlib.Core.Bool.{Bool, true, false, _&&_, _||_}
 use mathlib.Core.List.{List}
 use native.Mathlib.Omega.{arith}
 use lib.Dec.{eqb, ltb}
@@ -13,11 +13,12 @@ use Rattle.rules.specs.Places.{some-places}
 use Rattle.rules.specs.Drawing.{num}
 use Rattle.rules.specs.Record.{record-lines}
 use Rattle.rules.specs.RecordLaws.{length-field}
-use Rattle.model.specs.Board.{isLine, isBlank, has-left, has-up}
+use Rattle.model.specs.Board.{isLine, has-left, has-up}
 use Rattle.model.specs.Search.{degree-so-far, least}
-use Rattle.boardview.specs.View.{slot, slot-on, view, grid-in, has-bit, clue-bit, cell-in, Kinds}
+use Rattle.boardview.specs.View.{slot, slot-on, view, grid-in, has-bit, clue-bit, Kinds}
 use Rattle.boardview.specs.Bytes.{default-free, line-byte-test}
 use Rattle.boardview.specs.Geometry.{last-before, low-off, slot-is}
+use Rattle.boardview.specs.Items.{clue-test}
 use Rattle.boardview.specs.ShownRecord.{edges-only, bytes-shown, record-shown, put-bytes}
 use Rattle.boardview.specs.ShownRecordLaws.{put-length}
 use Rattle.searchview.specs.Progress.{advance}
@@ -68,31 +69,22 @@ module _ (g : Grid) (wide : 2 ≤ g .width) (narrow : g .width ≤ 16) (edges : 
       go true h = line-shown (down (v - g .width)) (33 + 2 * v - 2 * g .width) (let k = leb-true (g .width) v h in omega arith) (omega arith)
       go false h = no-line (33 + 2 * v - 2 * g .width) (omega arith) (low-off g wide narrow (33 + 2 * v - 2 * g .width) (let k = leb-false (g .width) v h in omega arith))
 
-module _ (kind : List ℕ) where
-  pub clue-shown : (v : ℕ) → v < 256 → not (isBlank (grid-in kind .cell v)) ≡ has-bit kind v clue-bit
-  unfolding grid-in
-  clue-shown v inside = rw (lt-ltb v 256 inside) (go (has-bit kind v clue-bit))
-    where
-      go : (b : Bool) → not (isBlank (cell-in b)) ≡ b
-      go true = refl
-      go false = refl
+module _ (kind : List ℕ) (kinds : Kinds kind) (edges : List ℕ) (ready : EdgesReady (grid-in kind) edges) (v : ℕ) (inside : v < 256) where
+  pub degree-shown : degree-so-far (grid-in kind) v (edges-only edges)
+      ≡ num (has-bit kind v clue-bit) + num (eqb (getD edges (30 + 2 * v) 0) 1) + num (eqb (getD edges (33 + 2 * v - 2 * grid-in kind .width) 0) 1)
+  unfolding degree-so-far
+  degree-shown = rw (
+    clue-test kind v inside,
+    left-line (grid-in kind) (kinds .least-width) (kinds .largest-width) edges ready v inside,
+    up-line (grid-in kind) (kinds .least-width) (kinds .largest-width) edges ready v inside,
+  ) refl
 
-  module _ (kinds : Kinds kind) (edges : List ℕ) (ready : EdgesReady (grid-in kind) edges) (v : ℕ) (inside : v < 256) where
-    pub degree-shown : degree-so-far (grid-in kind) v (edges-only edges)
-        ≡ num (has-bit kind v clue-bit) + num (eqb (getD edges (30 + 2 * v) 0) 1) + num (eqb (getD edges (33 + 2 * v - 2 * grid-in kind .width) 0) 1)
-    unfolding degree-so-far
-    degree-shown = rw (
-      clue-shown v inside,
-      left-line (grid-in kind) (kinds .least-width) (kinds .largest-width) edges ready v inside,
-      up-line (grid-in kind) (kinds .least-width) (kinds .largest-width) edges ready v inside,
-    ) refl
-
-    -- an m is tried, as the code adds it up
-    pub tried-as : (go-right go-down : Bool) (degree : ℕ)
-        → degree ≡ num (has-bit kind v clue-bit) + num (eqb (getD edges (30 + 2 * v) 0) 1) + num (eqb (getD edges (33 + 2 * v - 2 * grid-in kind .width) 0) 1) + num go-right + num go-down
-        → (eqb degree 0 || eqb degree 2) ≡ is-tried (grid-in kind) v (edges-only edges) go-right go-down
-    unfolding is-tried
-    tried-as go-right go-down degree is = rw (is, degree-shown) refl
+  -- an m is tried, as the code adds it up
+  pub tried-as : (go-right go-down : Bool) (degree : ℕ)
+      → degree ≡ num (has-bit kind v clue-bit) + num (eqb (getD edges (30 + 2 * v) 0) 1) + num (eqb (getD edges (33 + 2 * v - 2 * grid-in kind .width) 0) 1) + num go-right + num go-down
+      → (eqb degree 0 || eqb degree 2) ≡ is-tried (grid-in kind) v (edges-only edges) go-right go-down
+  unfolding is-tried
+  tried-as go-right go-down degree is = rw (is, degree-shown) refl
 
 -- A LAYOUT PUT INTO THE BUFFER
 module _ (g : Grid) (edges buffer : List ℕ) (layouts fewest-lines : ℕ) where

@@ -10,7 +10,7 @@ use Rattle.rules.specs.Drawing.{num}
 use Rattle.rules.specs.RecordLaws.{length-field}
 use Rattle.model.specs.Board.{State, has-down, decide, enough, line-or-none, fresh}
 use Rattle.model.specs.Calls.{state-byte}
-use Rattle.model.specs.Search.{Event, visit, layout, board-record, next-pad, degree-so-far, try, backtrack, search}
+use Rattle.model.specs.Search.{Event, visit, layout, board-record, next-pad, degree-so-far, try, backtrack, search-from, search}
 use Rattle.searchview.specs.Progress.{Sized}
 
 pub sized-append : (size : ℕ) (a b : List Event) → Sized size a → Sized size b → Sized size (a ++ b)
@@ -54,6 +54,14 @@ module _ (g : Grid) where
           (sized-append size (try g (λ u T. backtrack g n u T) v S false true) _ (try-sized (λ u T. backtrack g n u T) all v S false true)
           (try-sized (λ u T. backtrack g n u T) all v S true true)))))
 
+  search-from-sized : (S : State) → Sized size (search-from g S)
+  unfolding search-from
+  search-from-sized S = go (S .flag)
+    where
+      go : (b : Bool) → Sized size (elim b [ true ↦ [] | false ↦ backtrack g (pads g) (next-pad g (pads g) 0 S) S ])
+      go true = unfold Sized in tt
+      go false = backtrack-sized (pads g) (next-pad g (pads g) 0 S) S
+
   pub search-sized : Sized size (search g)
   unfolding search
-  search-sized = backtrack-sized (pads g) 0 (fresh g)
+  search-sized = search-from-sized (fresh g)

@@ -1,9 +1,9 @@
--- Laws of lines and chains that hold whatever the lines are: joining the same clue pads, what is known of a pad with two lines, and the
--- lines of a pad carried over to other lines. It rests on the rules' Drawing.antt alone.
+-- Laws of lines and chains that hold whatever the lines are: pads that are not blank, joining the same clue pads, what is known of a pad
+-- with two lines, and the lines of a pad carried over to other lines. It rests on the rules' Drawing.antt alone.
 use Prim.Native.Nat.{ℕ}
 use mathlib.Core.Path.{_≡_, refl, sym, _∙_, ap}
 use mathlib.Core.Logic.{_≢_, _⊎_, inl, inr, _↔_, ⊎-map, ⊎-elim}
-use Rattle.rules.specs.Grid.{Cell, blank, clue}
+use Rattle.rules.specs.Grid.{Cell, blank, clue, hole}
 use Rattle.rules.specs.Places.{zero≢one}
 use Rattle.rules.specs.Drawing.{Relation, Joined, NoLine, OneLine, TwoLines, Wired}
 
@@ -14,9 +14,21 @@ ClueAt cell v = (code : ℕ) × (cell v ≡ clue code)
 abbrev pub JoinSame : (ℕ → Cell) → Relation → Relation → Type 0
 JoinSame cell L M = (u v : ℕ) → ClueAt cell u → ClueAt cell v → Joined L u v ↔ Joined M u v
 
--- a pad is not both a clue and blank
-pub not-blank : (cell : ℕ → Cell) (v w : ℕ) → ClueAt cell v → cell w ≡ blank → v ≢ w
-not-blank cell v w (code, is-clue) is-blank e = zero≢one (cc)
+-- a clue is not blank, nor is a hole
+pub clue-not-blank : {C : Cell} → (code : ℕ) × (C ≡ clue code) → C ≢ blank
+clue-not-blank (code, is-clue) is-blank = zero≢one (cc)
+
+pub hole-not-blank : {C : Cell} → C ≡ hole → C ≢ blank
+hole-not-blank is-hole is-blank = zero≢one (cc)
+
+pub blank-or-not : (C : Cell) → (C ≡ blank) ⊎ (C ≢ blank)
+blank-or-not blank = inl refl
+blank-or-not (clue code) = inr (clue-not-blank (code, refl))
+blank-or-not hole = inr (hole-not-blank refl)
+
+-- a pad that is not blank is another than a blank one
+pub other-than-blank : (cell : ℕ → Cell) (v w : ℕ) → cell v ≢ blank → cell w ≡ blank → v ≢ w
+other-than-blank cell v w not-blank is-blank e = not-blank (ap cell e ∙ is-blank)
 
 -- a pad with two known lines is blank and has no other line
 module _ {cell : ℕ → Cell} {L : Relation} (wired : Wired cell L) {p a c : ℕ} (pa : L p a) (pc : L p c) (a≢c : a ≢ c) where
@@ -26,6 +38,7 @@ module _ {cell : ℕ → Cell} {L : Relation} (wired : Wired cell L) {p a c : �
       go : (C : Cell) → cell p ≡ C → cell p ≡ blank
       go blank e = e
       go (clue code) e = let o = wired .clue-one p code e in absurd (a≢c (o .only a pa ∙ sym (o .only c pc)))
+      go hole e = absurd (wired .hole-none p e a pa)
 
   pub two-lines-only : (y : ℕ) → L p y → (y ≡ a) ⊎ (y ≡ c)
   two-lines-only y l =

@@ -6,7 +6,7 @@ use mathlib.Core.Logic.{_⊎_, inl, inr, ⊎-elim}
 use native.Mathlib.Decide.{ℕ-discrete}
 use native.Mathlib.Omega.{arith}
 use Rattle.rules.specs.Grid.{right, Grid, pads, OnBoard}
-use Rattle.rules.specs.Drawing.{Drawing, Side, on-left, on-right, DiagonallyBelow, Corner, IsClue, Ordinary, Listed, SamePairs, number-of-lines}
+use Rattle.rules.specs.Drawing.{Drawing, Side, on-left, on-right, DiagonallyBelow, Corner, NotBlank, Ordinary, Listed, SamePairs, number-of-lines}
 use Rattle.shortest.specs.Weight.{weigh}
 use Rattle.shortest.specs.Step.{Better, Fine, pads-from, look}
 
@@ -30,7 +30,7 @@ listed : (g : Grid) (D : Drawing) → Ordinary g D → ((v : ℕ) → v < pads g
 unfolding OnBoard
 listed g D ordinary fine = record { ordinary = ordinary; squares = λ v u. fine v (u .0 .0) .few u; corners = corners }
   where
-    corners : (side : Side) (p q : ℕ) → DiagonallyBelow side (g .width) p q → Corner side D p → IsClue g q ⊎ Corner side D q
+    corners : (side : Side) (p q : ℕ) → DiagonallyBelow side (g .width) p q → Corner side D p → NotBlank g q ⊎ Corner side D q
     corners on-right p q below (h, k) = fine p (ordinary .placed (right p) h .0) .corner on-right q below (h, k)
     corners on-left p q below ((u, e, h), k) =
         fine u (ordinary .placed (right u) h .0) .corner on-left q (rw e below) ((u, refl, h), rw e k)

@@ -7,7 +7,7 @@ use native.Mathlib.Decide.{ℕ-discrete}
 use Rattle.rules.specs.Grid.{Cell, blank}
 use Rattle.rules.specs.Drawing.{Relation, Joined, here, more, NoLine, Loop, Wired}
 use Rattle.rules.specs.Chains.{Symmetric, by-pad}
-use Rattle.shortest.specs.Chains.{ClueAt, JoinSame, not-blank, carry-none, carry-one, carry-two, still-apart, LinesRenamed}
+use Rattle.shortest.specs.Chains.{ClueAt, JoinSame, clue-not-blank, hole-not-blank, other-than-blank, carry-none, carry-one, carry-two, still-apart, LinesRenamed}
 
 -- the exchange of p and q
 unfoldable pub swap : ℕ → ℕ → ℕ → ℕ
@@ -39,9 +39,9 @@ swap-comm p q x = by-pad p q x
     (λ e. rw (e, swap-first, swap-second)) (λ e. rw (e, swap-first, swap-second))
     (λ n m. swap-else p q x n m ∙ sym (swap-else q p x m n))
 
--- Renaming the pads by an involution that leaves the clues in place keeps the rules and the pairs.
+-- Renaming the pads by an involution that leaves in place every pad that is not blank keeps the rules and the pairs.
 module _ (cell : ℕ → Cell) {L M : Relation} (rename : ℕ → ℕ) (twice : (v : ℕ) → rename (rename v) ≡ v)
-    (clue-stays : (v : ℕ) → ClueAt cell v → rename v ≡ v) (blank-stays : (v : ℕ) → cell v ≡ blank → cell (rename v) ≡ blank)
+    (stays : (v : ℕ) → cell v ≢ blank → rename v ≡ v) (blank-stays : (v : ℕ) → cell v ≡ blank → cell (rename v) ≡ blank)
     (to-old : (a b : ℕ) → M a b → L (rename a) (rename b)) (to-new : (a b : ℕ) → L a b → M (rename a) (rename b)) where
   at-pad : (v : ℕ) → LinesRenamed L M v (rename v)
   at-pad v = record { rename = rename; twice = twice; to-old = to-old v; to-new = λ b l. rw twice at (to-new (rename v) b l) }
@@ -72,14 +72,15 @@ module _ (cell : ℕ → Cell) {L M : Relation} (rename : ℕ → ℕ) (twice : 
 
   clue-chain : {K N : Relation} → ((x y : ℕ) → K x y → N (rename x) (rename y))
       → (u v : ℕ) → ClueAt cell u → ClueAt cell v → Joined K u v → Joined N u v
-  clue-chain {N} f u v cu cv j = rw (clue-stays u cu, clue-stays v cv) at (chain {N = N} f j)
+  clue-chain {N} f u v cu cv j = rw (stays u (clue-not-blank cu), stays v (clue-not-blank cv)) at (chain {N = N} f j)
 
   pub renamed : Wired cell L → Wired cell M
   renamed o = record {
-    clue-one = λ v c e. carry-one (at-pad v) (rw (clue-stays v (c, e)) (o .clue-one v c e));
+    clue-one = λ v c e. carry-one (at-pad v) (rw (stays v (clue-not-blank (c, e))) (o .clue-one v c e));
     blank-none-or-two = λ v e. ⊎-map
         (carry-none (at-pad v))
         (carry-two (at-pad v)) (o .blank-none-or-two (rename v) (blank-stays v e));
+    hole-none = λ v e. carry-none (at-pad v) (rw (stays v (hole-not-blank e)) (o .hole-none v e));
     no-loop = λ Family l. o .no-loop (λ x. Family (rename x)) (loop Family l);
     equal-codes = λ u v c d e f j. o .equal-codes u v c d e f (clue-chain to-old u v (c, e) (d, f) j);
   }
@@ -129,15 +130,15 @@ exchange-new {L} {M} {p} {q} e a b l = rw (swap-comm p q a, swap-comm p q b) (ex
 
 -- so an exchange of two blank pads keeps the rules and the pairs
 module _ (cell : ℕ → Cell) {L M : Relation} {p q : ℕ} (p-blank : cell p ≡ blank) (q-blank : cell q ≡ blank) (e : Exchange L M p q) where
-  clue-stays : (v : ℕ) → ClueAt cell v → swap p q v ≡ v
-  clue-stays v c = swap-else p q v (not-blank cell v p c p-blank) (not-blank cell v q c q-blank)
+  stays : (v : ℕ) → cell v ≢ blank → swap p q v ≡ v
+  stays v n = swap-else p q v (other-than-blank cell v p n p-blank) (other-than-blank cell v q n q-blank)
 
   blank-stays : (v : ℕ) → cell v ≡ blank → cell (swap p q v) ≡ blank
   blank-stays v h = by-pad p q v
       (λ f. rw (f, swap-first) q-blank) (λ f. rw (f, swap-second) p-blank) (λ n m. rw (swap-else p q v n m) h)
 
   pub exchanged : Wired cell L → Wired cell M
-  exchanged = renamed cell (swap p q) (swap-twice p q) clue-stays blank-stays (exchange-old e) (exchange-new e)
+  exchanged = renamed cell (swap p q) (swap-twice p q) stays blank-stays (exchange-old e) (exchange-new e)
 
   pub exchanged-join-same : JoinSame cell L M
-  exchanged-join-same = renamed-join-same cell (swap p q) (swap-twice p q) clue-stays blank-stays (exchange-old e) (exchange-new e)
+  exchanged-join-same = renamed-join-same cell (swap p q) (swap-twice p q) stays blank-stays (exchange-old e) (exchange-new e)

@@ -1,6 +1,7 @@
 -- The two moves that shorten or lower a drawing, each stated once for a ring, so for a unit square from every corner:
 -- three lines of a unit square give way to the fourth, and a corner is flipped onto the bare blank pad opposite.
--- Each keeps the drawing ordinary and joins the same pads. It rests on Exchange.antt, Shortcut.antt and Ring.antt.
+-- Each keeps the drawing ordinary and joins the same pads; lines come only to blank pads and to pads that have lines already, so a hole
+-- stays without. It rests on Exchange.antt, Shortcut.antt and Ring.antt.
 use Prim.Native.Nat.{ℕ, _≤_}
 use mathlib.Core.Path.{_≡_, refl, sym, _∙_}
 use mathlib.Core.Logic.{_≢_, _⊎_, inl, inr, ⊎-elim}

@@ -8,7 +8,7 @@ use native.Mathlib.Decide.{ℕ-discrete}
 use Rattle.rules.specs.Grid.{Cell, blank}
 use Rattle.rules.specs.Drawing.{Relation, Joined, here, more, NoLine, Loop, Wired}
 use Rattle.rules.specs.Chains.{join-trans, join-sym, Symmetric, by-pad}
-use Rattle.shortest.specs.Chains.{ClueAt, JoinSame, not-blank, two-lines-blank, two-lines-only, LinesRenamed, carry-none, carry-one, carry-two, still-apart}
+use Rattle.shortest.specs.Chains.{ClueAt, JoinSame, clue-not-blank, hole-not-blank, other-than-blank, two-lines-blank, two-lines-only, LinesRenamed, carry-none, carry-one, carry-two, still-apart}
 use Rattle.shortest.specs.Exchange.{swap, swap-first, swap-second, swap-else, swap-twice}
 
 -- x and y are a and b, in one order or the other
@@ -84,8 +84,8 @@ module _ {cell : ℕ → Cell} {L M : Relation} (wired : Wired cell L) where
     has-line : (v x : ℕ) → M v x → v ≢ b
     has-line v x m e = b-none x (rw e at m)
 
-    not-b : (x : ℕ) → ClueAt cell x → x ≢ b
-    not-b x k = not-blank cell x b k b-blank
+    not-b : (x : ℕ) → cell x ≢ blank → x ≢ b
+    not-b x n = other-than-blank cell x b n b-blank
 
   -- at a, the line to b gives way to the line to d
   module _ {a b c d : ℕ} (s : Shortcut L M a b c d) where
@@ -146,6 +146,10 @@ module _ {cell : ℕ → Cell} {L M : Relation} (wired : Wired cell L) where
       | yes e ↦ rw e (at-a s)
       | no na ↦ elim (ℕ-discrete v d) [ yes e ↦ rw e at-d | no nd ↦ elsewhere v na nb nc nd ]
     ]
+
+    -- so a pad that is not blank has as many lines in M as in L
+    lines-stay : (v : ℕ) → cell v ≢ blank → LinesRenamed L M v v
+    lines-stay v n = at-pad v (not-b s v n) (not-b (turned s) v n) .lines
 
     -- a loop of M, with b and c put back, is a loop of L
     loop : (Family : ℕ → Type 0) → Loop M Family → Loop L (Refilled a b c d Family)
@@ -227,13 +231,14 @@ module _ {cell : ℕ → Cell} {L M : Relation} (wired : Wired cell L) where
         ((λ j. rw (stays u ku, stays v kv) at (chain-new j)), chain-old)
       where
         stays : (x : ℕ) → ClueAt cell x → read-as x ≡ x
-        stays x k = read-else x (not-b s x k) (not-b (turned s) x k)
+        stays x k = read-else x (not-b s x (clue-not-blank k)) (not-b (turned s) x (clue-not-blank k))
 
     pub shortcut-wired : Wired cell M
     shortcut-wired = record {
-      clue-one = λ v k e. carry-one (at-pad v (not-b s v (k, e)) (not-b (turned s) v (k, e)) .lines) (wired .clue-one v k e);
+      clue-one = λ v k e. carry-one (lines-stay v (clue-not-blank (k, e))) (wired .clue-one v k e);
       blank-none-or-two = λ v e. by-pad b c v (λ f. inl (rw f (b-none s))) (λ f. inl (rw f (b-none (turned s))))
           (λ nb nc. let t = at-pad v nb nc in ⊎-map (carry-none (t .lines)) (carry-two (t .lines)) (wired .blank-none-or-two v e));
+      hole-none = λ v e. carry-none (lines-stay v (hole-not-blank e)) (wired .hole-none v e);
       no-loop = λ Family l. wired .no-loop (Refilled a b c d Family) (loop Family l);
       equal-codes = λ u v k h e f j. wired .equal-codes u v k h e f (chain-old j);
     }

@@ -1,6 +1,6 @@
--- NOBODY DRAWS BETTER THAN THE LISTED LAYOUTS: demand 3, for every grid of at least two rows and two columns and any codes. The
--- statements speak of the rules alone: ordinary, listed, joining the same pads, number of lines, records. The proof of the first is the
--- work of the other files and ends in Descent.antt; the second and the third follow from it.
+-- NOBODY DRAWS BETTER THAN THE LISTED LAYOUTS: demand 3, for every grid of at least two rows and two columns, any codes and any holes.
+-- The statements speak of the rules alone: ordinary, listed, joining the same pads, number of lines, records. The proof of the first is
+-- the work of the other files and ends in Descent.antt; the second and the third follow from it.
 use Prim.Native.Nat.{ℕ, _≤_}
 use mathlib.Core.Path.{_≡_, refl, sym, _∙_, ap}
 use mathlib.Core.Logic.{_↔_}

@@ -7,9 +7,10 @@ use mathlib.Core.Logic.{_⊎_, inl, inr, ⊎-elim, Dec·and}
 use mathlib.Core.Bool.{Bool, true, false}
 use native.Mathlib.Decide.{decLt}
 use native.Mathlib.Omega.{arith}
-use Rattle.rules.specs.Grid.{right, down, Cell, blank, clue, Grid, pads, UnitSquare, OnBoard}
-use Rattle.rules.specs.Drawing.{Drawing, drawn, Line, rightward, leftward, downward, upward, NoLine, TwoLines, num, square-lines, Side, on-left, on-right, LineBeside, DiagonallyBelow, Corner, IsClue, Ordinary, number-of-lines}
+use Rattle.rules.specs.Grid.{right, down, blank, Grid, pads, UnitSquare, OnBoard}
+use Rattle.rules.specs.Drawing.{Drawing, drawn, Line, rightward, leftward, downward, upward, NoLine, TwoLines, num, square-lines, Side, on-left, on-right, LineBeside, DiagonallyBelow, Corner, NotBlank, Ordinary, number-of-lines}
 use Rattle.rules.specs.Places.{zero≢one, first-inside}
+use Rattle.shortest.specs.Chains.{blank-or-not}
 use Rattle.shortest.specs.Edges.{Joins, forth, back, joins-back, first-is-lower}
 use Rattle.shortest.specs.Ring.{Ring, turn, ring-at, RingLines, ring-lines, redraw}
 use Rattle.shortest.specs.Moves.{AsGood, fourth-alone, corner-opposite, three-lines-give-way, not-four-lines, corner-flips}
@@ -41,7 +42,7 @@ corner-pad on-left v = v + 1
 pub record Fine (g : Grid) (D : Drawing) (v : ℕ) : Type 0 where
   pub few : UnitSquare g v → square-lines g D v ≤ 2
   pub corner : (side : Side) (q : ℕ) → DiagonallyBelow side (g .width) (corner-pad side v) q → Corner side D (corner-pad side v)
-      → IsClue g q ⊎ Corner side D q
+      → NotBlank g q ⊎ Corner side D q
 
 module _ (g : Grid) (wide : 2 ≤ g .width) (D : Drawing) (ordinary : Ordinary g D) where
   -- a move on a ring
@@ -160,14 +161,15 @@ module _ (g : Grid) (wide : 2 ≤ g .width) (D : Drawing) (ordinary : Ordinary g
     flip-lighter on-right = omega arith
     flip-lighter on-left = omega arith
 
-    -- a corner over a blank pad with at most two lines in the square
+    -- the corner rule on that side of the square
     abbrev CornerRule : Side → Type 0
     CornerRule side = (q : ℕ) → DiagonallyBelow side (g .width) (corner-pad side v) q → Corner side D (corner-pad side v)
-        → IsClue g q ⊎ Corner side D q
+        → NotBlank g q ⊎ Corner side D q
 
+    -- a corner with no other line in the square obeys it, or is flipped onto the bare blank pad opposite
     corner-at : (side : Side) → drawn D (ring-of side .ab) ≡ true → drawn D (ring-of side .bc) ≡ false → drawn D (ring-of side .cd) ≡ false
         → drawn D (ring-of side .da) ≡ true → CornerRule side ⊎ Better g D
-    corner-at side ab bc cd da = go (g .cell R.c) refl
+    corner-at side ab bc cd da = go (blank-or-not (g .cell (R .c)))
       where
         R : Ring g
         R = ring-of side
@@ -176,9 +178,9 @@ module _ (g : Grid) (wide : 2 ≤ g .width) (D : Drawing) (ordinary : Ordinary g
         flip e none = move R corner-opposite (corner-flips wide R D ordinary ab da none e)
             (rw (ab, bc, cd, da) (flip-lighter side)) (rw (ab, bc, cd, da) (omega arith))
 
-        go : (C : Cell) → g .cell (R .c) ≡ C → CornerRule side ⊎ Better g D
-        go (clue code) e = inl (λ q below corner. inl (code, rw (opposite side q below) e))
-        go blank e = ⊎-elim (λ none. inr (flip e none))
+        go : (g .cell (R .c) ≡ blank) ⊎ NotBlank g (R .c) → CornerRule side ⊎ Better g D
+        go (inr n) = inl (λ q below corner. inl (rw (opposite side q below) n))
+        go (inl e) = ⊎-elim (λ none. inr (flip e none))
             (λ two. inl (λ q below corner. inr (rw (opposite side q below) (same-corner side bc cd two)))) (ordinary .wired .blank-none-or-two (R .c) e)
 
     -- two lines at the ring's first pad leave none for the other two edges

@@ -7,8 +7,8 @@ use mathlib.Core.Logic.{_↔_, _≢_, _⊎_}
 use mathlib.Core.List.{List, [], List·Memᴰ, map}
 use native.Mathlib.Omega.{arith}
 use lib.IntN.{ℤ}
-use Rattle.rules.specs.Grid.{Grid, grid-of, blank, clue, UnitSquare, places, Accepted}
-use Rattle.rules.specs.Drawing.{Drawing, Placed, Line, Joined, NoLine, OneLine, TwoLines, Ordinary, Listed, square-lines, Side, DiagonallyBelow, Corner, IsClue, SamePairs, number-of-lines}
+use Rattle.rules.specs.Grid.{Grid, grid-of, blank, clue, hole, UnitSquare, places, Accepted}
+use Rattle.rules.specs.Drawing.{Drawing, Placed, Line, Joined, NoLine, OneLine, TwoLines, Ordinary, Listed, square-lines, Side, DiagonallyBelow, Corner, NotBlank, SamePairs, number-of-lines}
 use Rattle.rules.specs.Loops.{ClosedList, no-loop-exactly}
 use Rattle.rules.specs.Record.{record-of, record-lines, Ascending}
 use Rattle.model.specs.Search.{Run, scan, search, fewest, no-fewest}
@@ -17,12 +17,13 @@ use Rattle.exact.specs.Events.{shown-codes, Distinct}
 use Rattle.exact.specs.Runs.{RunSays}
 use Rattle.promises.specs.Promises.{complete-list, Beginning, Promised, promised}
 
--- AN ORDINARY DRAWING: lines on the board; a clue pad has one line, every other none or two; no closed list of pads, each with a line to
--- the next and the last to the first; each chain joins pads of equal code
+-- AN ORDINARY DRAWING: lines on the board; a clue pad has one line, a blank one none or two, a hole none; no closed list of pads, each with a
+-- line to the next and the last to the first; each chain joins pads of equal code
 pub record OrdinaryDrawing (g : Grid) (D : Drawing) : Type 0 where
   pub placed : Placed g D
   pub clue-one : (v code : ℕ) → g .cell v ≡ clue code → OneLine (Line (g .width) D) v
   pub blank-none-or-two : (v : ℕ) → g .cell v ≡ blank → NoLine (Line (g .width) D) v ⊎ TwoLines (Line (g .width) D) v
+  pub hole-none : (v : ℕ) → g .cell v ≡ hole → NoLine (Line (g .width) D) v
   pub no-loop : (list : List ℕ) → ClosedList (Line (g .width) D) list → ⊥
   pub equal-codes : (u v c d : ℕ) → g .cell u ≡ clue c → g .cell v ≡ clue d → Joined (Line (g .width) D) u v → c ≡ d
 
@@ -30,7 +31,7 @@ pub record OrdinaryDrawing (g : Grid) (D : Drawing) : Type 0 where
 pub record ListedDrawing (g : Grid) (D : Drawing) : Type 0 where
   pub ordinary : OrdinaryDrawing g D
   pub squares : (v : ℕ) → UnitSquare g v → square-lines g D v ≤ 2
-  pub corners : (side : Side) (p q : ℕ) → DiagonallyBelow side (g .width) p q → Corner side D p → IsClue g q ⊎ Corner side D q
+  pub corners : (side : Side) (p q : ℕ) → DiagonallyBelow side (g .width) p q → Corner side D p → NotBlank g q ⊎ Corner side D q
 
 -- the drawings of the rules, no more and no fewer
 module _ (g : Grid) (wide : 1 ≤ g .width) (D : Drawing) where
@@ -39,6 +40,7 @@ module _ (g : Grid) (wide : 1 ≤ g .width) (D : Drawing) where
     placed = o .placed;
     clue-one = o .wired .clue-one;
     blank-none-or-two = o .wired .blank-none-or-two;
+    hole-none = o .wired .hole-none;
     no-loop = no-loop-exactly g wide D (o .placed) .0 (o .wired .no-loop);
     equal-codes = o .wired .equal-codes;
   }
@@ -49,6 +51,7 @@ module _ (g : Grid) (wide : 1 ≤ g .width) (D : Drawing) where
     wired = record {
       clue-one = o .clue-one;
       blank-none-or-two = o .blank-none-or-two;
+      hole-none = o .hole-none;
       no-loop = no-loop-exactly g wide D (o .placed) .1 (o .no-loop);
       equal-codes = o .equal-codes;
     };

@@ -1,81 +1,94 @@
--- From the search over the fresh arrays to the model's run: the kinds tell of the same blank pads, so the events are the grid's own, and
--- the progress from nothing is the model's result. It rests on the laws of the files beside it.
-use Prim.Native.Nat.{ℕ, _+_, _*_, _-_, _%_, _≤_}
+-- From the search over the fresh arrays to the model's run: the kinds tell of the same blank pads, clues and holes, so the events are the
+-- grid's own, and the progress from nothing is the model's result. It rests on the laws of the files beside it.
+use Prim.Native.Nat.{ℕ, _*_, _≤_, _<_}
 use mathlib.Core.Path.{_≡_, refl, sym, ap, _∙_, subst}
 use mathlib.Core.List.{List}
 use native.Mathlib.Omega.{arith}
 use native.Mathlib.Nat.{zero-mul}
 use lib.ListN.{length}
 use lib.IntN.{ℤ}
-use borrow.Author.Tests.{eq-eqb, ne-eqb, lt-ltb}
-use Rattle.rules.specs.Grid.{Edge, Grid, grid-of, pads, places, Accepted}
-use Rattle.model.specs.Board.{EdgeState, State, fresh, decide}
+use borrow.Author.Tests.{eq-eqb, ne-eqb}
+use Rattle.rules.specs.Grid.{grid-of, pads, places, Accepted}
+use Rattle.model.specs.Board.{fresh}
 use Rattle.model.specs.Refusals.{grid-refusal}
 use Rattle.model.specs.RefusalLaws.{not-refused}
 use Rattle.model.specs.Search as model
 use Rattle.boardview.specs.View.{Arrays, view, grid-in}
-use Rattle.boardview.specs.SameBlanks.{shown-decides}
-use Rattle.boardfresh.specs.FreshView.{FreshBoard, without-codes, same-blank}
+use Rattle.boardfresh.specs.FreshView.{FreshBoard}
 use Rattle.tally.specs.declared.Tally.{Tally}
 use Rattle.tally.specs.Empty.{empty}
 use Rattle.searchview.specs.Progress.{Progress, advance, start, result-of, advance-solved}
 use Rattle.searchview.specs.Sizes.{search-sized}
-use Rattle.searchview.specs.Shown.{progress}
+use Rattle.searchview.specs.Shown.{last-row, NextPad, progress}
 use Rattle.searchview.specs.Searched.{arrays, reached, Begun, Entered, Backtracked}
-use Rattle.searchview.specs.SameEvents.{backtrack-same}
+use Rattle.searchview.specs.NextPad.{last-below-pads}
+use Rattle.searchview.specs.SameEvents.{shown-searches}
+use Rattle.searchview.specs.SearchLaws.{found-entered, search-flagged, search-clear}
 use Rattle.solver.specs.Promise.{promise}
 use Rattle.solver.specs.Answers.{run-of, Solves, tally-says, Ready, Counted}
-
--- THE WHOLE SEARCH over the fresh arrays
-module _ (height width : ℕ) (cells : List ℤ) (edges : List ℕ) (ends : List ℤ) (kind : List ℕ) (made : FreshBoard (grid-of height width cells) edges ends kind) (log : List ℤ) where
-  -- the kinds decide as the grid does
-  decides : (f : ℕ) (e : Edge) (m : EdgeState) (S : State) → decide (without-codes (grid-of height width cells)) f e m S ≡ decide (grid-of height width cells) f e m S
-  decides f e m S = ap (λ (k : Grid). decide k f e m S) (sym (made .grid))
-      ∙ shown-decides (record { height = made .same-height; width = made .same-width; blanks = made .same-blanks }) f e m S
-
-  events-same : model.backtrack (without-codes (grid-of height width cells)) (height * width) 0 (view (arrays edges ends log 0)) ≡ model.search (grid-of height width cells)
-  unfolding grid-of model.search
-  events-same = ap (λ (S : State). model.backtrack (without-codes (grid-of height width cells)) (height * width) 0 S) (made .shows log)
-      ∙ backtrack-same height width (without-codes (grid-of height width cells) .cell) (grid-of height width cells .cell) (λ v. same-blank (grid-of height width cells .cell v)) decides (height * width) 0 (fresh (grid-of height width cells))
-
-  module _ (limit o visited layouts fewest-lines o′ visited′ layouts′ fewest-lines′ : ℕ) (buffer buffer′ : List ℕ) where
-    abbrev Says : Grid → Type 0
-    Says g = progress (places (g .height) (g .width)) o′ visited′ layouts′ fewest-lines′ buffer′
-        ≡ advance limit (places (g .height) (g .width)) (progress (places (g .height) (g .width)) o visited layouts fewest-lines buffer) (model.backtrack g (pads g) 0 (view (arrays edges ends log 0)))
-
-    pub whole : Says (grid-in kind) → progress (places height width) o′ visited′ layouts′ fewest-lines′ buffer′
-        ≡ advance limit (places height width) (progress (places height width) o visited layouts fewest-lines buffer) (model.search (grid-of height width cells))
-    unfolding grid-of
-    whole says = let there : Says (without-codes (grid-of height width cells)) = subst Says (made .grid) says in
-        there ∙ ap (advance limit (places height width) (progress (places height width) o visited layouts fewest-lines buffer)) events-same
-
--- WHERE IT BEGINS
-pub first-entered : (g : Grid) → 2 ≤ g .width → Entered g 0
-first-entered g wide = record { low = omega arith; has-next = λ h. lt-ltb (0 % g .width + 1) (g .width) (let z : 0 % g .width ≡ 0 = native.Mathlib.Nat.zero-mod (g .width) in omega arith) }
 
 -- with nothing counted an accepted grid is all that is asked
 pub from-empty : (height width : ℕ) (cells : List ℤ) (buffer : List ℕ) → Accepted height width cells → Ready height width cells empty buffer
 from-empty height width cells buffer accepted = record { accepted = accepted; none-yet = refl; inside = rw zero-mul (omega arith) }
 
+-- THE WHOLE SEARCH over the fresh arrays
 module _ (height width : ℕ) (cells : List ℤ) (t : Tally) (buffer : List ℕ) (begins : Ready height width cells t buffer)
-    (edges : List ℕ) (ends : List ℤ) (kind : List ℕ) (made : FreshBoard (grid-of height width cells) edges ends kind) (log : List ℤ) where
+    (edges : List ℕ) (ends : List ℤ) (kind : List ℕ) (count : ℕ) (made : FreshBoard (grid-of height width cells) edges ends kind count) (log : List ℤ) where
   same-size : places (grid-in kind .height) (grid-in kind .width) ≡ places height width
   unfolding grid-of
-  same-size = rw (made .same-height, made .same-width) refl
+  same-size = λ i. places (made .told .height i) (made .told .width i)
 
-  pub begins-there : length log ≡ 2048 → Begun kind (arrays edges ends log 0) (reached kind 0 (t .visited) (t .layouts) (t .fewest) buffer)
-  begins-there long = record
-      { kinds = made .kinds; ready = made .ready log long; clear = omega arith; inside = rw same-size (begins .inside) }
+  -- the kinds are searched as the grid is
+  events-same : model.search-from (grid-in kind) (view (arrays edges ends log count)) ≡ model.search (grid-of height width cells)
+  unfolding model.search
+  events-same = ap (model.search-from (grid-in kind)) (made .shows log) ∙ shown-searches (made .told) (fresh (grid-of height width cells))
 
-  pub counted-all : (limit : ℕ) (s′ : Arrays) (o visited layouts fewest-lines : ℕ) (buffer′ : List ℕ)
-      → Backtracked (grid-in kind) limit 0 (arrays edges ends log 0) (reached kind 0 (t .visited) (t .layouts) (t .fewest) buffer) s′ (reached kind o visited layouts fewest-lines buffer′)
-      → Counted height width cells limit t buffer (record { outcome = o; visited = visited; layouts = layouts; fewest = fewest-lines }) buffer′
-  counted-all limit s′ o visited layouts fewest-lines buffer′ back = record {
-    advanced = whole height width cells edges ends kind made log limit 0 (t .visited) (t .layouts) (t .fewest) o visited layouts fewest-lines buffer buffer′
-        (back .advanced (pads (grid-in kind)) (omega arith))
-        ∙ ap (λ (k : ℕ). advance limit (places height width) (progress (places height width) k (t .visited) (t .layouts) (t .fewest) buffer) (model.search (grid-of height width cells))) (sym (begins .none-yet));
-    same-length = back .same-length;
-  }
+  -- a tally and the buffer that have come so far are what is to be counted
+  module _ (limit : ℕ) (t′ : Tally) (buffer′ : List ℕ) (same-length : length buffer′ ≡ length buffer) where
+    abbrev Advanced : ℕ → List model.Event → Type 0
+    Advanced size events = progress size (t′ .outcome) (t′ .visited) (t′ .layouts) (t′ .fewest) buffer′
+        ≡ advance limit size (progress size (t .outcome) (t .visited) (t .layouts) (t .fewest) buffer) events
+
+    counted : Advanced (places (grid-in kind .height) (grid-in kind .width)) (model.search-from (grid-in kind) (view (arrays edges ends log count)))
+        → Counted height width cells limit t buffer t′ buffer′
+    counted says = record {
+      advanced = subst (λ size. Advanced size (model.search (grid-of height width cells))) same-size
+          (subst (Advanced (places (grid-in kind .height) (grid-in kind .width))) events-same says);
+      same-length = same-length;
+    }
+
+  -- the flag is set: nothing is searched
+  module _ (long : length log ≡ 2048) where
+    pub counted-none : 1024 ≤ count → (limit : ℕ) → Counted height width cells limit t buffer t buffer
+    unfolding advance
+    counted-none set limit = counted limit t buffer refl
+        (sym (ap (advance limit _ _) (search-flagged (grid-in kind) (arrays edges ends log count) (made .ready log long) (made .kinds .least-height) set)))
+
+    -- else it begins at the pad that is found
+    pub scan-fits : (last : ℕ) → last ≡ last-row (grid-in kind) → (0 ≤ last) × (last ≤ 256) × (length edges ≡ 1024)
+    scan-fits last is = let ready = made .ready log long in
+        (omega arith, omega (arith, is, last-below-pads (grid-in kind) (made .kinds .least-height) (made .kinds .least-width), ready .few-pads), ready .edges-long)
+
+    module _ (clear : count < 1024) (last : ℕ) (is : last ≡ last-row (grid-in kind)) (first : ℕ) (scanned : NextPad edges last 0 first) where
+      found : NextPad edges (last-row (grid-in kind)) 0 first
+      found = subst (λ l. NextPad edges l 0 first) is scanned
+
+      pub begins-there : Begun kind (arrays edges ends log count) (reached kind 0 (t .visited) (t .layouts) (t .fewest) buffer) × Entered (grid-in kind) first
+      begins-there = (
+        record { kinds = made .kinds; ready = made .ready log long; clear = clear; inside = rw same-size (begins .inside) },
+        found-entered (grid-in kind) (arrays edges ends log count) (made .ready log long) (made .kinds .least-height) found,
+      )
+
+      pub counted-all : (limit : ℕ) (s′ : Arrays) (o visited layouts fewest-lines : ℕ) (buffer′ : List ℕ)
+          → Backtracked (grid-in kind) limit first (arrays edges ends log count) (reached kind 0 (t .visited) (t .layouts) (t .fewest) buffer) s′ (reached kind o visited layouts fewest-lines buffer′)
+          → Counted height width cells limit t buffer (record { outcome = o; visited = visited; layouts = layouts; fewest = fewest-lines }) buffer′
+      counted-all limit s′ o visited layouts fewest-lines buffer′ back = counted limit (record { outcome = o; visited = visited; layouts = layouts; fewest = fewest-lines }) buffer′ (back .same-length)
+          (back .advanced (pads (grid-in kind)) (omega arith)
+          ∙ ap (advance limit size (reached kind 0 (t .visited) (t .layouts) (t .fewest) buffer)) (sym (search-clear (grid-in kind) (arrays edges ends log count) (made .ready log long) (made .kinds .least-height) clear first found))
+          ∙ ap (λ (k : ℕ). advance limit size (reached kind k (t .visited) (t .layouts) (t .fewest) buffer) (model.search-from (grid-in kind) (view (arrays edges ends log count)))) (sym (begins .none-yet)))
+        where
+          size : ℕ
+          size = places (grid-in kind .height) (grid-in kind .width)
 
 -- THE MODEL'S RESULT
 module _ (height width : ℕ) (cells : List ℤ) (limit : ℕ) (buffer : List ℕ) where

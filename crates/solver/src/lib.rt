@@ -138,7 +138,8 @@ pub struct Solved {
     pub fewest: usize,
 }
 
-// Searches a whole grid and counts on from the tally.
+// Searches a whole grid and counts on from the tally: nothing where the fresh board has its flag set, else from the first pad with its
+// right edge undecided, or in the last row.
 fn search_from(
     tally: Tally,
     cells: &[i32],
@@ -151,10 +152,15 @@ fn search_from(
     ensures { λ r. ⌜ answers.Counted height width (now (cells .entry)) limit tally (now (buffer .entry)) r (now (buffer .exit)) ⌝ }
 {
     let fresh = boardfresh::fresh_board(height, width, cells);
+    let count = fresh.count;
+    if FLAGGED <= count {
+        return tally;
+    }
     let mut edges = fresh.edges;
     let mut ends = fresh.ends;
     let kind = fresh.kind;
     let mut log = [0i32; 2048];
+    let first = searchparts::next_pad(&edges, searchparts::first_of_last_row(&kind), 0);
     let mut visited = tally.visited;
     let mut layouts = tally.layouts;
     let mut fewest = tally.fewest;
@@ -168,8 +174,8 @@ fn search_from(
         &mut visited,
         &mut layouts,
         &mut fewest,
-        0,
-        0,
+        first,
+        count,
     );
     Tally {
         outcome,

@@ -1,6 +1,6 @@
 // Runs what document 01 leaves to a run of the search: limits 0, 1, visited - 1 and visited, buffers of a record less a byte, exactly full
-// and a byte short of two records, sizes 1, 2, 16 and 17, a wrong number of cells and a bad cell. Prints number, index, outcome, layouts,
-// visited, fewest and the sum of the buffer's bytes.
+// and a byte short of two records, sizes 1, 2, 16 and 17, a wrong number of cells and a bad cell; and nothing but holes, and clues that holes
+// shut in. Prints number, index, outcome, layouts, visited, fewest and the sum of the buffer's bytes.
 ghost use Prim.Native.Nat.{_≤_, _<_};
 use libc::STDOUT_FILENO;
 use solver::Solved;
@@ -57,6 +57,14 @@ fn blank(height: usize, width: usize, count: usize, limit: u64)
     show(r, sum(&buffer));
 }
 
+// Two clues of one code, each shut in by the same two holes.
+fn shut_in(limit: u64) {
+    let cells = [5i32, -2, -2, 5];
+    let mut buffer = [7u8; 40];
+    let r = solver::solve(2, 2, &cells, limit, &mut buffer);
+    show(r, sum(&buffer));
+}
+
 fn limits() {
     square(5, 0, 40);
     square(5, 1, 40);
@@ -79,7 +87,7 @@ fn blank_rooms() {
 }
 
 fn refusals() {
-    square(-2, 1000, 40);
+    square(-3, 1000, 40);
     square(2147483647, 1000, 40);
     blank(2, 2, 5, 1000);
     blank(1, 2, 2, 1000);
@@ -92,10 +100,19 @@ fn sizes() {
     blank(16, 16, 256, 3);
 }
 
+fn holes() {
+    square(-2, 0, 40);
+    square(-2, 1, 40);
+    square(-2, 1, 8);
+    shut_in(0);
+    shut_in(1000);
+}
+
 fn main() {
     limits();
     rooms();
     blank_rooms();
     refusals();
     sizes();
+    holes();
 }

@@ -14,7 +14,7 @@ no-marks-requires : tie.Need-no-marks-requires
 no-marks-requires c κs = search needs
 
 returns : tie.Need-returns
-returns c = fresh-held _ _ _ _ _ _ (c .before .before .before .before .before .fresh-board .ensures) (c .before .no-entries .ensures) (c .no-marks .ensures)
+returns c = fresh-held _ _ _ _ _ _ _ (c .before .before .before .before .before .fresh-board .ensures) (c .before .no-entries .ensures) (c .no-marks .ensures)
 
 pub fresh-spec : {M : Type 1} → statement M
 fresh-spec =

@@ -1,22 +1,23 @@
--- `boardfresh::fresh_board` meets its contract: what the three arrays hold is what FreshView.antt asks for.
+-- `boardfresh::fresh_board` meets its contract: the holes are shut on the bare arrays, and the log begins anew. Assumes nothing.
 use borrow.Author.Needs.{needs}
-use denote.Ref.{now}
-use Rattle.boardfresh.specs.FreshView.{accepted-cells, fresh-board}
+use lib.ListN.{length-replicate}
+use lib.IntN.{pos}
+use Rattle.boardfresh.specs.FreshView.{fresh-made}
 use Rattle.boardfresh.proofs.fresh_board.Statement.{statement}
 use Rattle.boardfresh.proofs.fresh_board.Tie as tie
 
-fresh-edges-requires : tie.Need-fresh-edges-requires
-fresh-edges-requires c κs = search needs
+bare-board-requires : tie.Need-bare-board-requires
+bare-board-requires c κs = search needs
 
-fresh-ends-requires : tie.Need-fresh-ends-requires
-fresh-ends-requires c κs = accepted-cells (c .before .args .height) (c .before .args .width) (now (c .before .args .cells)) (c .before .pre)
+shut-holes-requires : tie.Need-shut-holes-requires
+shut-holes-requires c κs = let bare = c .before .before .before .before .before .before .before .bare-board .ensures in
+    (bare .kinds, bare .ready _ (length-replicate 2048 (pos 0)))
 
-fresh-kind-requires : tie.Need-fresh-kind-requires
-fresh-kind-requires c κs = search needs
+restart-requires : tie.Need-restart-requires
+restart-requires c κs = search needs
 
 returns : tie.Need-returns
-returns c = fresh-board _ _ (now (c .before .before .before .args .cells)) (c .before .before .before .pre) _ (c .fresh-kind .ensures) _ (c .before .before .fresh-edges .ensures) _ (c .before .fresh-ends .ensures)
+returns c = rw (c .restart .ensures) (fresh-made _ _ _ _ (c .before .before .before .before .before .before .before .before .before .bare-board .ensures) _ _ (c .before .shut-holes .ensures))
 
 pub fresh-board-spec : {M : Type 1} → statement M
-fresh-board-spec =
-    tie.close (tie.spec fresh-edges-requires fresh-ends-requires fresh-kind-requires returns)
+fresh-board-spec = tie.close (tie.spec bare-board-requires shut-holes-requires restart-requires returns)

@@ -7,7 +7,7 @@ use Rattle.rules.specs.Drawing.{on-left, on-right}
 use Rattle.boardview.specs.View.{undecided-in, grid-in, has-bit}
 use Rattle.boardview.specs.Stores.{going-count}
 use Rattle.boardview.specs.Steps.{done-then, done-ended, slot-is-on, detour-off, detour-first, detour-both}
-use Rattle.boardview.specs.Items.{recount-decided, corner-off, corner-clue, corner-ends, corner-lines, bar-off, bar-none}
+use Rattle.boardview.specs.Items.{recount-decided, corner-off, corner-taken, corner-ends, corner-lines, bar-off, bar-none}
 use Rattle.boardview.specs.Check.{check-nothing, check-ends, check-settles}
 use Rattle.boardview.specs.Cycle.{same-on, none-room, none-high, none-first, none-second, none-is-stored, none-returns, none-raised, none-again, line-again, line-raised, line-room, line-first, line-second, line-is-stored, line-returns, line-end, right-up-left, right-up-right, right-up, right-left, right-right, right-below, right-corner, left-corner, right-bar-on, left-bar-on, right-done, down-left, down-left-below, down-if-left, down-right, down-right-below, down-if-right, down-far-left, down-far-right, picked-small, down-right-corner, down-left-corner, down-left-bar-on, down-right-bar-on, down-done, corner-exists, corner-down, corner-line-right, corner-line-left, corner-not-first, small-pad, past-left, past-up, settle-rests, leave-there, settle-leaves, draw-high, draw-right, draw-down, draw-small, settle-draws-right, settle-draws-down, line-stops, Apart, apart-begins, apart-ready, apart-fewer, apart-done, apart-more, past-there}
 use Prim.Native.Nat.{ℕ, _<_, _+_, _*_, _-_}
@@ -378,7 +378,7 @@ corner-left-has-requires : (t : ℕ) → corner-left-lts.Need-has-requires (corn
 corner-left-has-requires t c κs = (omega (arith, (c .before .before .before .pre .1 .1)))
 
 corner-left-returns-3 : (t : ℕ) → corner-left-lts.Need-returns-3 (corner-left-claims t) (corner-left-at t) corner-left.Post
-corner-left-returns-3 t c = let start = c .before .before .before .before .before in corner-clue (start .args .kind .now) on-left _ (start .pre .1 .4) (start .args .q) (start .args .a) (start .pre .1 .0) (c .before .before .before .before .if1 .left) (c .before .before .if2 .left) (omega (arith, ((start .pre .1 .2) (slot-is-on (grid-in (start .args .kind .now)) _ (start .pre .1 .4) (start .args .a) (start .pre .1 .0) (omega (arith, c .before .before .if2 .left)))), (start .pre .1 .4) .few-pads)) (sym (c .before .has .ensures) ∙ c .if3 .taken)
+corner-left-returns-3 t c = let start = c .before .before .before .before .before in corner-taken (start .args .kind .now) on-left _ (start .pre .1 .4) (start .args .q) (start .args .a) (start .pre .1 .0) (c .before .before .before .before .if1 .left) (c .before .before .if2 .left) (start .pre .1 .3) (omega (arith, ((start .pre .1 .2) (slot-is-on (grid-in (start .args .kind .now)) _ (start .pre .1 .4) (start .args .a) (start .pre .1 .0) (omega (arith, c .before .before .if2 .left)))), (start .pre .1 .4) .few-pads)) (sym (c .before .has .ensures) ∙ c .if3 .taken)
 
 corner-left-has-requires-2 : (t : ℕ) → corner-left-lts.Need-has-requires-2 (corner-left-claims t) (corner-left-at t) corner-left.Post
 corner-left-has-requires-2 t c κs = (omega (arith, (c .before .before .before .before .before .pre .1 .1)))
@@ -408,7 +408,7 @@ corner-left-returns-4 : (t : ℕ) → corner-left-lts.Need-returns-4 (corner-lef
 corner-left-returns-4 t c =
     let start = c .before .before .before .before .before .before .before .before .before .before .before .before .before .before .before .before .before in
     let if2-left = c .before .before .before .before .before .before .before .before .before .before .before .before .before .before .if2 .left in
-    rw (c .go-on2 .ensures) (corner-lines (start .args .kind .now) on-left _ (start .pre .1 .4) (start .args .q) (start .args .a) (start .pre .1 .0) (c .before .before .before .before .before .before .before .before .before .before .before .before .before .before .before .before .if1 .left) (if2-left) (omega (arith, ((start .pre .1 .2) (slot-is-on (grid-in (start .args .kind .now)) _ (start .pre .1 .4) (start .args .a) (start .pre .1 .0) (omega (arith, if2-left)))), (start .pre .1 .4) .few-pads)) (sym (c .before .before .before .before .before .before .before .before .before .before .before .before .before .has .ensures) ∙ c .before .before .before .before .before .before .before .before .before .before .before .before .if3 .left) (corner-exists (start .args .kind .now) (start .pre .1 .3) (start .args .q) ((start .pre .1 .2) (slot-is-on (grid-in (start .args .kind .now)) _ (start .pre .1 .4) (start .args .a) (start .pre .1 .0) (omega (arith, if2-left)))) _ on-left (c .before .before .before .before .before .before .before .before .before .before .before .has2 .ensures) ∙ (c .before .before .before .before .before .before .before .before .before .before .if4 .taken)) _ _ (c .before .before .before .before .before .before .decide-line-right .ensures) (rw (c .before .before .go-on .ensures) at (c .before .decide-line-down .ensures)))
+    rw (c .go-on2 .ensures) (corner-lines (start .args .kind .now) on-left _ (start .pre .1 .4) (start .args .q) (start .args .a) (start .pre .1 .0) (c .before .before .before .before .before .before .before .before .before .before .before .before .before .before .before .before .if1 .left) (if2-left) (start .pre .1 .3) (omega (arith, ((start .pre .1 .2) (slot-is-on (grid-in (start .args .kind .now)) _ (start .pre .1 .4) (start .args .a) (start .pre .1 .0) (omega (arith, if2-left)))), (start .pre .1 .4) .few-pads)) (sym (c .before .before .before .before .before .before .before .before .before .before .before .before .before .has .ensures) ∙ c .before .before .before .before .before .before .before .before .before .before .before .before .if3 .left) (corner-exists (start .args .kind .now) (start .pre .1 .3) (start .args .q) ((start .pre .1 .2) (slot-is-on (grid-in (start .args .kind .now)) _ (start .pre .1 .4) (start .args .a) (start .pre .1 .0) (omega (arith, if2-left)))) _ on-left (c .before .before .before .before .before .before .before .before .before .before .before .has2 .ensures) ∙ (c .before .before .before .before .before .before .before .before .before .before .if4 .taken)) _ _ (c .before .before .before .before .before .before .decide-line-right .ensures) (rw (c .before .before .go-on .ensures) at (c .before .decide-line-down .ensures)))
 
 corner-left-stop-requires : (t : ℕ) → corner-left-lts.Need-stop-requires (corner-left-claims t) (corner-left-at t) corner-left.Post
 corner-left-stop-requires t c κs = search needs
@@ -417,7 +417,7 @@ corner-left-returns-5 : (t : ℕ) → corner-left-lts.Need-returns-5 (corner-lef
 corner-left-returns-5 t c =
     let start = c .before .before .before .before .before .before .before .before in
     let if2-left = c .before .before .before .before .before .if2 .left in
-    rw (c .stop .ensures) (corner-ends (start .args .kind .now) on-left _ (start .pre .1 .4) (start .args .q) (start .args .a) (start .pre .1 .0) (c .before .before .before .before .before .before .before .if1 .left) (if2-left) (omega (arith, ((start .pre .1 .2) (slot-is-on (grid-in (start .args .kind .now)) _ (start .pre .1 .4) (start .args .a) (start .pre .1 .0) (omega (arith, if2-left)))), (start .pre .1 .4) .few-pads)) (sym (c .before .before .before .before .has .ensures) ∙ c .before .before .before .if3 .left) (corner-exists (start .args .kind .now) (start .pre .1 .3) (start .args .q) ((start .pre .1 .2) (slot-is-on (grid-in (start .args .kind .now)) _ (start .pre .1 .4) (start .args .a) (start .pre .1 .0) (omega (arith, if2-left)))) _ on-left (c .before .before .has2 .ensures) ∙ c .before .if4 .left))
+    rw (c .stop .ensures) (corner-ends (start .args .kind .now) on-left _ (start .pre .1 .4) (start .args .q) (start .args .a) (start .pre .1 .0) (c .before .before .before .before .before .before .before .if1 .left) (if2-left) (start .pre .1 .3) (omega (arith, ((start .pre .1 .2) (slot-is-on (grid-in (start .args .kind .now)) _ (start .pre .1 .4) (start .args .a) (start .pre .1 .0) (omega (arith, if2-left)))), (start .pre .1 .4) .few-pads)) (sym (c .before .before .before .before .has .ensures) ∙ c .before .before .before .if3 .left) (corner-exists (start .args .kind .now) (start .pre .1 .3) (start .args .q) ((start .pre .1 .2) (slot-is-on (grid-in (start .args .kind .now)) _ (start .pre .1 .4) (start .args .a) (start .pre .1 .0) (omega (arith, if2-left)))) _ on-left (c .before .before .has2 .ensures) ∙ c .before .if4 .left))
 
 corner-right-returns : (t : ℕ) → corner-right-lts.Need-returns (corner-right-claims t) (corner-right-at t) corner-right.Post
 corner-right-returns t c = done-ended (grid-in (c .before .args .kind .now)) 1 _ _ (c .before .pre .1 .4) (c .if1 .taken)
@@ -432,7 +432,7 @@ corner-right-has-requires : (t : ℕ) → corner-right-lts.Need-has-requires (co
 corner-right-has-requires t c κs = (omega (arith, (c .before .before .before .pre .1 .1)))
 
 corner-right-returns-3 : (t : ℕ) → corner-right-lts.Need-returns-3 (corner-right-claims t) (corner-right-at t) corner-right.Post
-corner-right-returns-3 t c = let start = c .before .before .before .before .before in corner-clue (start .args .kind .now) on-right _ (start .pre .1 .4) (start .args .q) (start .args .a) (start .pre .1 .0) (c .before .before .before .before .if1 .left) (c .before .before .if2 .left) (omega (arith, ((start .pre .1 .2) (slot-is-on (grid-in (start .args .kind .now)) _ (start .pre .1 .4) (start .args .a) (start .pre .1 .0) (omega (arith, c .before .before .if2 .left)))), (start .pre .1 .4) .few-pads)) (sym (c .before .has .ensures) ∙ c .if3 .taken)
+corner-right-returns-3 t c = let start = c .before .before .before .before .before in corner-taken (start .args .kind .now) on-right _ (start .pre .1 .4) (start .args .q) (start .args .a) (start .pre .1 .0) (c .before .before .before .before .if1 .left) (c .before .before .if2 .left) (start .pre .1 .3) (omega (arith, ((start .pre .1 .2) (slot-is-on (grid-in (start .args .kind .now)) _ (start .pre .1 .4) (start .args .a) (start .pre .1 .0) (omega (arith, c .before .before .if2 .left)))), (start .pre .1 .4) .few-pads)) (sym (c .before .has .ensures) ∙ c .if3 .taken)
 
 corner-right-has-requires-2 : (t : ℕ) → corner-right-lts.Need-has-requires-2 (corner-right-claims t) (corner-right-at t) corner-right.Post
 corner-right-has-requires-2 t c κs = (omega (arith, (c .before .before .before .before .before .pre .1 .1)))
@@ -459,7 +459,7 @@ corner-right-returns-4 : (t : ℕ) → corner-right-lts.Need-returns-4 (corner-r
 corner-right-returns-4 t c =
     let start = c .before .before .before .before .before .before .before .before .before .before .before .before .before .before .before .before .before in
     let if2-left = c .before .before .before .before .before .before .before .before .before .before .before .before .before .before .if2 .left in
-    rw (c .go-on2 .ensures) (corner-lines (start .args .kind .now) on-right _ (start .pre .1 .4) (start .args .q) (start .args .a) (start .pre .1 .0) (c .before .before .before .before .before .before .before .before .before .before .before .before .before .before .before .before .if1 .left) (if2-left) (omega (arith, ((start .pre .1 .2) (slot-is-on (grid-in (start .args .kind .now)) _ (start .pre .1 .4) (start .args .a) (start .pre .1 .0) (omega (arith, if2-left)))), (start .pre .1 .4) .few-pads)) (sym (c .before .before .before .before .before .before .before .before .before .before .before .before .before .has .ensures) ∙ c .before .before .before .before .before .before .before .before .before .before .before .before .if3 .left) (corner-exists (start .args .kind .now) (start .pre .1 .3) (start .args .q) ((start .pre .1 .2) (slot-is-on (grid-in (start .args .kind .now)) _ (start .pre .1 .4) (start .args .a) (start .pre .1 .0) (omega (arith, if2-left)))) _ on-right (c .before .before .before .before .before .before .before .before .before .before .before .has2 .ensures) ∙ (c .before .before .before .before .before .before .before .before .before .before .if4 .taken)) _ _ (c .before .before .before .before .before .before .decide-line-right .ensures) (rw (c .before .before .go-on .ensures) at (c .before .decide-line-down .ensures)))
+    rw (c .go-on2 .ensures) (corner-lines (start .args .kind .now) on-right _ (start .pre .1 .4) (start .args .q) (start .args .a) (start .pre .1 .0) (c .before .before .before .before .before .before .before .before .before .before .before .before .before .before .before .before .if1 .left) (if2-left) (start .pre .1 .3) (omega (arith, ((start .pre .1 .2) (slot-is-on (grid-in (start .args .kind .now)) _ (start .pre .1 .4) (start .args .a) (start .pre .1 .0) (omega (arith, if2-left)))), (start .pre .1 .4) .few-pads)) (sym (c .before .before .before .before .before .before .before .before .before .before .before .before .before .has .ensures) ∙ c .before .before .before .before .before .before .before .before .before .before .before .before .if3 .left) (corner-exists (start .args .kind .now) (start .pre .1 .3) (start .args .q) ((start .pre .1 .2) (slot-is-on (grid-in (start .args .kind .now)) _ (start .pre .1 .4) (start .args .a) (start .pre .1 .0) (omega (arith, if2-left)))) _ on-right (c .before .before .before .before .before .before .before .before .before .before .before .has2 .ensures) ∙ (c .before .before .before .before .before .before .before .before .before .before .if4 .taken)) _ _ (c .before .before .before .before .before .before .decide-line-right .ensures) (rw (c .before .before .go-on .ensures) at (c .before .decide-line-down .ensures)))
 
 corner-right-stop-requires : (t : ℕ) → corner-right-lts.Need-stop-requires (corner-right-claims t) (corner-right-at t) corner-right.Post
 corner-right-stop-requires t c κs = search needs
@@ -468,7 +468,7 @@ corner-right-returns-5 : (t : ℕ) → corner-right-lts.Need-returns-5 (corner-r
 corner-right-returns-5 t c =
     let start = c .before .before .before .before .before .before .before .before in
     let if2-left = c .before .before .before .before .before .if2 .left in
-    rw (c .stop .ensures) (corner-ends (start .args .kind .now) on-right _ (start .pre .1 .4) (start .args .q) (start .args .a) (start .pre .1 .0) (c .before .before .before .before .before .before .before .if1 .left) (if2-left) (omega (arith, ((start .pre .1 .2) (slot-is-on (grid-in (start .args .kind .now)) _ (start .pre .1 .4) (start .args .a) (start .pre .1 .0) (omega (arith, if2-left)))), (start .pre .1 .4) .few-pads)) (sym (c .before .before .before .before .has .ensures) ∙ c .before .before .before .if3 .left) (corner-exists (start .args .kind .now) (start .pre .1 .3) (start .args .q) ((start .pre .1 .2) (slot-is-on (grid-in (start .args .kind .now)) _ (start .pre .1 .4) (start .args .a) (start .pre .1 .0) (omega (arith, if2-left)))) _ on-right (c .before .before .has2 .ensures) ∙ c .before .if4 .left))
+    rw (c .stop .ensures) (corner-ends (start .args .kind .now) on-right _ (start .pre .1 .4) (start .args .q) (start .args .a) (start .pre .1 .0) (c .before .before .before .before .before .before .before .if1 .left) (if2-left) (start .pre .1 .3) (omega (arith, ((start .pre .1 .2) (slot-is-on (grid-in (start .args .kind .now)) _ (start .pre .1 .4) (start .args .a) (start .pre .1 .0) (omega (arith, if2-left)))), (start .pre .1 .4) .few-pads)) (sym (c .before .before .before .before .has .ensures) ∙ c .before .before .before .if3 .left) (corner-exists (start .args .kind .now) (start .pre .1 .3) (start .args .q) ((start .pre .1 .2) (slot-is-on (grid-in (start .args .kind .now)) _ (start .pre .1 .4) (start .args .a) (start .pre .1 .0) (omega (arith, if2-left)))) _ on-right (c .before .before .has2 .ensures) ∙ c .before .if4 .left))
 
 decide-line-down-mul-slot : (t : ℕ) → decide-line-down-lts.Need-mul-slot (decide-line-down-claims t) (decide-line-down-at t) decide-line-down.Post
 decide-line-down-mul-slot t c = omega (arith, (c .pre .1 .1), (c .pre .1 .2) .largest-width, (c .pre .1 .2) .least-width)

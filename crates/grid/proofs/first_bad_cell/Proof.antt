@@ -5,7 +5,7 @@ use mathlib.Core.Path.{_≡_}
 use lib.ListN.{length, drop}
 use native.Mathlib.Omega.{arith}
 use Rattle.model.specs.Refusals.{first-bad-cell}
-use Rattle.grid.proofs.Cells.{below-blank, above-codes, sound-cell, bad-here, sound-here, none-left}
+use Rattle.grid.proofs.Cells.{below-hole, above-codes, sound-cell, bad-here, sound-here, none-left}
 use Rattle.grid.proofs.first_bad_cell.Statement.{statement}
 use Rattle.grid.proofs.first_bad_cell.Tie as tie
 
@@ -25,7 +25,7 @@ shared-slice-copy-out-cell : tie.Need-shared-slice-copy-out-cell Inv-loop μ-loo
 shared-slice-copy-out-cell c = omega arith
 
 returns : tie.Need-returns Inv-loop μ-loop
-returns c = bad-here _ _ (c .before .before .loop-test .taken) (below-blank _ (record { sfits = c .before .cell .given }) (c .if1 .taken)) (c .before .before .before .loop .inv .1)
+returns c = bad-here _ _ (c .before .before .loop-test .taken) (below-hole _ (record { sfits = c .before .cell .given }) (c .if1 .taken)) (c .before .before .before .loop .inv .1)
 
 returns-2 : tie.Need-returns-2 Inv-loop μ-loop
 returns-2 c = bad-here _ _ (c .before .before .before .loop-test .taken) (above-codes _ (record { sfits = c .before .before .cell .given }) (c .if2 .taken)) (c .before .before .before .before .loop .inv .1)

@@ -1,12 +1,12 @@
 -- `Board::undo` meets its contract: back to the fresh board where no checkpoint stands, else to the last mark. Assumes nothing.
-use Rattle.board.specs.CallLaws.{can-begin, undone-to-fresh, can-go-back, undone-to-last}
+use Rattle.board.specs.CallLaws.{undone-to-fresh, can-go-back, undone-to-last}
 use native.Mathlib.Nat.{pos-of-ne-zero}
 use borrow.Author.Needs.{needs}
 use Rattle.board.proofs.Board.undo.Statement.{statement}
 use Rattle.board.proofs.Board.undo.Tie as tie
 
 back-to-requires : tie.Need-back-to-requires
-back-to-requires c κs = can-begin _ _ (c .before .pre .1) (c .if1 .taken)
+back-to-requires c κs = search needs
 
 returns : tie.Need-returns
 returns c = λ B held. rw (c .back-to .ensures) (undone-to-fresh _ B held (c .before .if1 .taken))
