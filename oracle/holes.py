@@ -2,8 +2,8 @@
 """A second board and search for grids with holes, to hold the definitions and the proved library against.
 
 The Rust knows no holes, so the judge of grids with holes is this program. It rests on document 01, on order 4 of document 02
-and, for the order in which things happen, on the reference's board.rs and solver.rs; it was written without looking at the
-definitions or the code of this repository. On grids without holes it is the Rust written again.
+and, for the order in which things happen, on the reference's board.rs and solver.rs; it was written from these, and not from
+the definitions or the code of this repository. On grids without holes it is the Rust written again.
 
     python3 oracle/holes.py known [FILE..]              the known grids K1 to K8, and files of grids with their lists
     python3 oracle/holes.py sequences                   the sequences below: what each call answers, and what the board then shows
@@ -16,6 +16,7 @@ The last two commands are in holes_beside.py.
 import sys
 
 sys.setrecursionlimit(20000)
+sys.dont_write_bytecode = True
 UNDECIDED, LINE, NONE = 0, 1, 2
 BLANK, HOLE = -1, -2
 LARGEST_CODE, CHECKPOINTS, NO_LAYOUT = 2147483646, 256, 481

@@ -201,7 +201,7 @@ class Library:
         self.library = ctypes.CDLL(path)
 
     def ask(self, name, height, width, cells, *lent):
-        """Calls a function; a list that is lent is a kind of number and its numbers. Gives the lent lists as they are after it."""
+        """Calls a function. What is lent is a kind of number and its numbers; it comes back, without the cells, as it is after the call."""
         arguments, slices = [ctypes.c_size_t(height), ctypes.c_size_t(width)], []
         for one in ((ctypes.c_int32, cells), *lent):
             if isinstance(one, int):
@@ -214,11 +214,13 @@ class Library:
         return [function(*arguments)] + [list(numbers) for numbers in slices[1:]]
 
     def replay(self, size, calls, length):
-        """Whether the numbers of the calls came back, and nothing past them was changed."""
-        numbers = [number for one in calls for number in one]
-        return self.ask("hunekowha_replay", *size, (ctypes.c_uint64, numbers), (ctypes.c_int64, [7] * (length + 3)))[::2]
+        """How many numbers came back, and the lent answer, three numbers longer than it need be."""
+        numbers, room = [number for one in calls for number in one], [7] * (length + 3)
+        count, _, answer = self.ask("hunekowha_replay", *size, (ctypes.c_uint64, numbers), (ctypes.c_int64, room))
+        return [count, answer]
 
     def solve(self, size, limit, room):
+        """How many numbers came back, the lent buffer, and the lent answer, two numbers longer than it need be."""
         return self.ask("hunekowha_solve", *size, limit, (ctypes.c_uint8, [7] * room), (ctypes.c_uint64, [7] * 8))
 
 

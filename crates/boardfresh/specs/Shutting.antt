@@ -84,7 +84,7 @@ module _ (g : Grid) (least : 2 ≤ g .width) (largest : g .width ≤ 16) (v : �
   one-slot n true e u l on is S = rw (on, is refl) refl
   one-slot n false e u l off is S = rw off refl
 
-  pub four-sides : (S : State) → shut g (around g v) S ≡ four-shut g v S
+  four-sides : (S : State) → shut g (around g v) S ≡ four-shut g v S
   unfolding around
   four-sides S =
       one-slot (30 + 2 * v) (has-left g v) (right (v - 1)) (v - 1) _ (slot-left g least largest v below) (edge-left g least largest v below) S

@@ -1,4 +1,4 @@
--- The grids that the theorems speak of: at least two rows and two columns, and no clue past the pads. Every accepted grid is one.
+-- The grids that the theorems speak of: at least two rows and two columns, and blank past the pads. Every accepted grid is one.
 use Prim.Native.Nat.{ℕ, _≤_}
 use mathlib.Core.Path.{_≡_, ap}
 use mathlib.Core.List.{List}

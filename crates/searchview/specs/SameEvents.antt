@@ -76,11 +76,5 @@ module _ (g : Grid) where
 
 -- THE EVENTS of the grid that the kinds tell of are the grid's own
 module _ {g : Grid} {kind : List ℕ} (told : Shows g kind) where
-  pub shown-next-pad : (n v : ℕ) (S : State) → next-pad (grid-in kind) n v S ≡ next-pad g n v S
-  shown-next-pad n v S = ap (λ (k : Grid). next-pad k n v S) (shown-plain told) ∙ next-pad-same g n v S
-
-  pub shown-backtracks : (n v : ℕ) (S : State) → backtrack (grid-in kind) n v S ≡ backtrack g n v S
-  shown-backtracks n v S = ap (λ (k : Grid). backtrack k n v S) (shown-plain told) ∙ backtrack-same g n v S
-
   pub shown-searches : (S : State) → search-from (grid-in kind) S ≡ search-from g S
   shown-searches S = ap (λ (k : Grid). search-from k S) (shown-plain told) ∙ search-from-same g S
