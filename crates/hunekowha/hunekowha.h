@@ -156,7 +156,7 @@ size_t hunekowha_record(size_t height, size_t width, size_t count, size_t k, con
  *   flag    1 where the flag of the board is set, else 0
  *   edges   the record of the board, (2 * height - 1) * (2 * width - 1) numbers
  *   ends    a number for each pad, by index: -1 a line passes through it; -v - 2 it is the end of a chain that begins at
- *           a clue of code v; else the index of the pad at the other end of its chain
+ *           a clue of code v; else the index of the pad at the other end of its chain, its own where it has no line
  * A declined call leaves the board as it was. Where the grid itself is declined (7 to 9), the board is the fresh blank
  * board of 2 rows and 2 columns, and a block has 16 numbers.
  *
