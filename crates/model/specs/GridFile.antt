@@ -90,7 +90,7 @@ bad-size s = if not (is-size (s .height)) then 1 else if not (is-size (s .value)
 unfoldable pub begins-hole : Standing → ℕ → Bool
 begins-hole s byte = is-hole-sign byte && not (in-header s) && eqb (s .digits) 0 && not (s .drilled)
 
--- digits are allowed where no `#` was read, commas and 0A everywhere; any other byte is disallowed
+-- commas and 0A are allowed everywhere, digits where no `#` was read, and a `#` that begins a hole; any other byte is disallowed
 unfoldable pub is-allowed : Standing → ℕ → Bool
 is-allowed s byte = is-comma byte || is-line-end byte || (is-digit byte && not (s .drilled)) || begins-hole s byte
 
