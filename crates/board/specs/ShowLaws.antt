@@ -12,7 +12,7 @@ use lib.IntN.{ℤ, pos}
 use Rattle.rules.specs.Grid.{places, Grid, pads}
 use Rattle.rules.specs.Record.{field, tabulate}
 use Rattle.rules.specs.RecordLaws.{tabulate-same, length-field}
-use Rattle.model.specs.Board.{end-number}
+use Rattle.model.specs.JoinedEnds.{end-number}
 use Rattle.model.specs.Calls as model
 use Rattle.boardview.specs.View.{view, grid-in, flag-in}
 use Rattle.boardview.specs.Ends.{number-of-end}

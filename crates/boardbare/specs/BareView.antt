@@ -11,7 +11,8 @@ use lib.IntN.{ℤ, pos, negsuc}
 use borrow.Author.Tests.{ltb-true, ltb-false}
 use Rattle.rules.specs.Grid.{Edge, Cell, blank, clue, hole, Grid, pads, grid-of, cell-of, blank-cell, Accepted}
 use Rattle.rules.specs.Drawing.{Side}
-use Rattle.model.specs.Board.{undecided, none, at-pad, isBlank, isClue, on-board, barred, bare-end, bare}
+use Rattle.model.specs.JoinedEnds.{at-pad, bare-end}
+use Rattle.model.specs.Board.{undecided, none, isBlank, isClue, on-board, barred, bare}
 use Rattle.boardview.specs.View.{pick, Arrays, slot, slot-on, state-of, end-of, end-at, view, has-bit, clue-bit, taken-bit, corner-bit, bar-bit, cell-in, grid-in, Kinds, Ready}
 use Rattle.boardview.specs.Bytes.{default-free, edge-on}
 use Rattle.boardview.specs.SameKinds.{plain-cell, plain, same-barred, Shows, shown-plain}
@@ -61,7 +62,7 @@ module _ (g : Grid) (few : pads g ≤ 256) (edges : List ℕ) (filled : EdgesFro
 
 -- ENDS
 module _ (g : Grid) (cells : List ℤ) (ends : List ℤ) (few : length cells ≤ 256) (filled : EndsFrom cells 0 ends) where
-  bare-end-of : (z : ℤ) (v : ℕ) → end-of (bare-end-number z v) ≡ bare-end g v (cell-of z)
+  bare-end-of : (z : ℤ) (v : ℕ) → end-of (bare-end-number z v) ≡ bare-end v (cell-of z)
   unfolding end-of bare-end-number cell-of
   bare-end-of (pos code) v = refl
   bare-end-of (negsuc zero) v = refl
@@ -76,14 +77,14 @@ module _ (g : Grid) (cells : List ℤ) (ends : List ℤ) (few : length cells ≤
       go false e = let past = ltb-false v 512 e in
           List·getD-eq-default ends (pos v) {n = v} (omega (arith, filled .as-long)) ∙ rw (List·getD-eq-default cells blank-cell {n = v} (omega arith)) refl
 
-  pub bare-end-at : (v : ℕ) → end-at ends v ≡ bare-end g v (cell-of (getD cells v blank-cell))
+  pub bare-end-at : (v : ℕ) → end-at ends v ≡ bare-end v (cell-of (getD cells v blank-cell))
   bare-end-at v = ap end-of (number-at v) ∙ bare-end-of (getD cells v blank-cell) v
 
   -- a pad's end is the pad itself, or a clue
   own-end : (v w : ℕ) → end-at ends v ≡ at-pad w → w ≡ v
   own-end v w e = go (cell-of (getD cells v blank-cell)) (sym (bare-end-at v) ∙ e)
     where
-      go : (c : Cell) → bare-end g v c ≡ at-pad w → w ≡ v
+      go : (c : Cell) → bare-end v c ≡ at-pad w → w ≡ v
       go blank h = cc
       go (clue code) h = cc
       go hole h = cc

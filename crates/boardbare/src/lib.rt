@@ -94,7 +94,7 @@ fn put_bare_end(ends: &mut [i32; 512], cells: &[i32], v: usize)
 }
 
 // The ends of all pads.
-fn bare_ends(cells: &[i32]) -> [i32; 512]
+pub fn bare_ends(cells: &[i32]) -> [i32; 512]
     requires { ⌜ CellsInRange (now cells) ⌝ }
     ensures { λ r. ⌜ EndsFrom (now (cells .entry)) 0 r ⌝ }
 {

@@ -7,8 +7,8 @@ ghost use lib.ListN.{getD, set, length};
 ghost use lib.Dec.{eqb, ltb};
 ghost use lib.IntN.{pos};
 ghost use Rattle.rules.specs.Drawing.{num};
-ghost use Rattle.model.specs.Board.{isThrough};
-ghost use Rattle.boardview.specs.View.{pick, stopped, ended, going, end-at, has-bit, grid-in, second-pad, joined, unjoinable, pad-number, code-number, rival, keeps-apart, clue-apart, slot-around, past-around, action-around, Kinds};
+ghost use Rattle.model.specs.JoinedEnds.{isThrough, unjoinable};
+ghost use Rattle.boardview.specs.View.{pick, stopped, ended, going, end-at, has-bit, grid-in, second-pad, joined, pad-number, code-number, rival, keeps-apart, clue-apart, slot-around, past-around, action-around, Kinds};
 ghost use Rattle.boardview.specs.Actions.{action-index};
 ghost use Rattle.boardview.specs.Unwind.{log-stored, log-joined, LineBegun};
 use grid::Edge;
@@ -184,7 +184,7 @@ fn rivals(a: usize, b: usize) -> bool
 }
 
 // Step c: the line cannot be, by the ends of its pads.
-fn cannot_join(ends: &[i32; 512], v: usize, q: usize) -> bool
+pub fn cannot_join(ends: &[i32; 512], v: usize, q: usize) -> bool
     requires { ⌜ (v < 512) × (q < 512) × (length (now ends) ≡ 512) ⌝ }
     ensures { λ r. ⌜ r ≡ unjoinable (end-at (now (ends .entry)) v) (end-at (now (ends .entry)) q) q ⌝ }
 {
@@ -224,7 +224,7 @@ fn log_line(ends: &[i32; 512], log: &mut [i32; 2048], slot: usize, v: usize, q: 
 }
 
 // Step c: both pads get -1, then pad A (if there is one) gets B and pad B gets A.
-fn join_ends(ends: &mut [i32; 512], v: usize, q: usize)
+pub fn join_ends(ends: &mut [i32; 512], v: usize, q: usize)
     requires { ⌜ (v < 512) × (q < 512) × (length (now ends) ≡ 512) ⌝ }
     ensures { λ _. ⌜ now (ends .exit) ≡ joined v q (now (ends .entry)) ⌝ }
 {

@@ -9,7 +9,7 @@ use native.Mathlib.Decide.{ℕ-discrete}
 use lib.ListN.{getD, set, length, length-set}
 use lib.Seq.{getD-set-same, getD-set-other, ext-getD}
 use lib.IntN.{ℤ, pos, negsuc}
-use Rattle.model.specs.Board.{End, through, at-pad, at-clue, end-number, isThrough, put-end, put-end-at, joined-ends}
+use Rattle.model.specs.JoinedEnds.{End, through, at-pad, at-clue, end-number, isThrough, put-end, put-end-at, joined-ends}
 use Rattle.model.specs.BoardLaws.{same-pad, is-pad-end, put-same, put-other, put-at-same, put-at-other}
 use Rattle.boardview.specs.View.{end-of, end-at, put-number, joined, unjoined}
 use Rattle.boardview.specs.Bytes.{default-free}

@@ -8,7 +8,8 @@ use lib.Dec.{eqb, ltb, leb}
 use Rattle.rules.specs.Grid.{Edge, right, down, first, second, Cell, blank, clue, hole, Grid}
 use Rattle.rules.specs.Drawing.{num, Side, on-left, on-right}
 use Rattle.boardview.specs.View.{grid-in}
-use Rattle.model.specs.Board.{EdgeState, undecided, line, none, isLine, isUndecided, isBlank, isClue, isHole, sameState, End, through, at-pad, at-clue, State, set-flag, set-edge, Item, detour, corner, bar, check-pad, keep-apart, settle, check-end, line-or-none, lines, undecideds, decide-first, Decide, Check, has-down, has-side, diagonal, on-board, barred, shape-items, around, degree, settled, do-item, do-items, check-items, cannot-join, join-ends, after-store, decide, check, enough, shut, shut-at, prepared}
+use Rattle.model.specs.JoinedEnds.{End, through, at-pad, at-clue}
+use Rattle.model.specs.Board.{EdgeState, undecided, line, none, isLine, isUndecided, isBlank, isClue, isHole, sameState, State, set-flag, set-edge, Item, detour, corner, bar, check-pad, keep-apart, settle, check-end, line-or-none, lines, undecideds, decide-first, Decide, Check, has-down, has-side, diagonal, on-board, barred, shape-items, around, degree, settled, do-item, do-items, check-items, cannot-join, join-ends, after-store, decide, check, enough, shut, shut-at, prepared}
 
 -- the same grid with every clue's code 0
 abbrev pub plain-cell : Cell → Cell

@@ -8,8 +8,8 @@ use native.Mathlib.Omega.{arith}
 use lib.ListN.{getD, set, length, length-set}
 use lib.Seq.{getD-set-same, getD-set-other, set-set, set-getD}
 use lib.IntN.{ℤ, pos, negsuc}
-use Rattle.model.specs.Board.{isThrough}
-use Rattle.boardview.specs.View.{Arrays, logged, pick, end-of, end-at, put-number, joined, unjoined, second-pad, slot-logged, undone-one, unwound, Since, unjoinable, stopped, going}
+use Rattle.model.specs.JoinedEnds.{isThrough, unjoinable}
+use Rattle.boardview.specs.View.{Arrays, logged, pick, end-of, end-at, put-number, joined, unjoined, second-pad, slot-logged, undone-one, unwound, Since, stopped, going}
 use Rattle.boardview.specs.Ends.{length-put}
 
 -- UNDOING ENTRIES

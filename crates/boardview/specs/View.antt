@@ -11,7 +11,8 @@ use lib.IntN.{ℤ, pos, negsuc, natAbs}
 use lib.Bits.{bitAnd}
 use Rattle.rules.specs.Grid.{Edge, right, down, Cell, blank, clue, hole, Grid, pads}
 use Rattle.rules.specs.Drawing.{num, Side, on-left, on-right}
-use Rattle.model.specs.Board.{EdgeState, undecided, line, none, End, through, at-pad, at-clue, isThrough, unequal-negative, isPad, State, Item, detour, corner, bar, check-pad, keep-apart, when, has-down, on-board, has-side, barred, do-item, settled, decide, check, Decide, Check}
+use Rattle.model.specs.JoinedEnds.{End, through, at-pad, at-clue, isThrough}
+use Rattle.model.specs.Board.{EdgeState, undecided, line, none, State, Item, detour, corner, bar, check-pad, keep-apart, when, has-down, on-board, has-side, barred, do-item, settled, decide, check, Decide, Check}
 
 -- one of two values, by a test
 abbrev pub pick : {A : Type 0} → Bool → A → A → A
@@ -245,10 +246,6 @@ pub record Done (g : Grid) (rank : ℕ) (s : Arrays) (is : List Item) (s′ : Ar
 -- THE ITEMS that the functions do, by slots: nothing where the first slot is off the board.
 unfoldable pub detour-at : Grid → ℕ → ℕ → ℕ → List Item
 detour-at g a b c = when (slot-on g a) (detour (edge-of a) (edge-of b) (edge-of c) ∷ [])
-
--- step c's test, by the two ends and the second pad's index
-unfoldable pub unjoinable : End → End → ℕ → Bool
-unjoinable A B q = isThrough A || (isThrough B || (unequal-negative A B || isPad A q))
 
 -- the pad that an end names, or 512
 unfoldable pub pad-number : End → ℕ

@@ -11,7 +11,8 @@ use Rattle.rules.specs.Grid.{Edge, first, second, Grid, pads, right, down, blan
 use Rattle.rules.specs.Drawing.{drawn, NoLine, num, Listed}
 use Rattle.rules.specs.Places.{zero≢one, next-in-row}
 use Rattle.rules.specs.Tests.{conflict, num-none}
-use Rattle.model.specs.Board.{isLine, isUndecided, End, State, isClue, undecideds, around, degree, line, through, at-pad, at-clue}
+use Rattle.model.specs.JoinedEnds.{End, through, at-pad, at-clue}
+use Rattle.model.specs.Board.{isLine, isUndecided, State, isClue, undecideds, around, degree, line}
 use Rattle.propagation.specs.Ends.{Room, other-room, clue-room}
 use Rattle.propagation.specs.Refutation.{finished-wired}
 use Rattle.propagation.specs.Edges.{drawing, board-lines, edge-of}

@@ -1,19 +1,19 @@
--- Record k of a buffer: what its line is where there is one. And the records that were put into a buffer one after the other, each
--- as long as the field has places, are found there again: their lines are the lines of the records. It rests on Listing.antt.
+-- Record k of a buffer: what its line is where there is one. And for records that were put into a buffer one after the other, each as long
+-- as the field has places, the lines there are the lines of the records. It rests on Listing.antt and the model's HasRecord.antt.
 use Prim.Native.Nat.{ℕ, zero, suc, _+_, _*_, _-_, _≤_, _<_}
 use mathlib.Core.Path.{_≡_, refl, sym, ap, _∙_}
 use mathlib.Core.Bool.{Bool, true, false}
 use mathlib.Core.List.{List, [], _∷_, _++_, append-assoc}
 use native.Mathlib.Omega.{arith}
 use lib.Dec.{ltb}
-use lib.ListN.{length, take, drop, length-append, length-drop}
-use lib.Seq.{length-take-le, take-at, drop-at}
+use lib.ListN.{length, length-append, length-drop}
+use lib.Seq.{length-take-le}
 use Rattle.rules.specs.Grid.{places}
 use Rattle.rules.specs.Places.{some-places}
 use Rattle.model.specs.Bounds.{is-size}
 use Rattle.model.specs.RefusalLaws.{size-of-test}
-use Rattle.model.specs.Records.{record-length, has-record, record-at}
-use Rattle.model.specs.HasRecord.{HasRecord, what-a-record-has, record-is-there}
+use Rattle.model.specs.Records.{has-record, record-at}
+use Rattle.model.specs.HasRecord.{HasRecord, what-a-record-has, record-is-there, that-part, this-record, record-here}
 use Rattle.model.specs.Search.{Event, visit, layout, scan, concat}
 use Rattle.model.specs.Printed.{layout-line, layout-lines}
 use Rattle.printed.specs.Written.{layout-text}
@@ -23,13 +23,8 @@ use Rattle.listing.specs.Listing.{line-text}
 -- ## The line of record k
 
 module _ (height width count k : ℕ) (buffer : List ℕ) where
-  -- the part of the buffer from k times the length on
-  pub that-part : HasRecord height width count k (length buffer) → record-at height width count k buffer ≡ take (places height width) (drop (k * places height width) buffer)
-  unfolding record-at record-length
-  that-part t = rw (record-is-there _ _ _ _ _ t) refl
-
   part-length : HasRecord height width count k (length buffer) → length (record-at height width count k buffer) ≡ places height width
-  part-length t = rw (that-part t) (length-take-le _ _ (rw length-drop (omega (arith, t .inside))))
+  part-length t = rw (that-part height width count k buffer t) (length-take-le _ _ (rw length-drop (omega (arith, t .inside))))
 
   pub that-line : HasRecord height width count k (length buffer) → line-text height width count k buffer ≡ layout-line height width (k + 1) (record-at height width count k buffer)
   unfolding line-text
@@ -81,14 +76,9 @@ module _ (height width layouts : ℕ) (tall : is-size height ≡ true) (wide : i
     abbrev buffer : List ℕ
     buffer = front ++ (r ++ rest)
 
-    this-record : HasRecord height width layouts k (length buffer)
-    this-record = record { tall = tall; wide = wide; counted = below; inside = rw (length-append front (r ++ rest), length-append r rest) (omega arith) }
-
-    pub record-here : record-at height width layouts k buffer ≡ r
-    record-here = that-part height width layouts k buffer this-record ∙ ap (λ (l : List ℕ). take size l) (drop-at front (r ++ rest) (k * size) at) ∙ take-at r rest size long
-
     pub line-here : line-text height width layouts k buffer ≡ layout-line height width (k + 1) r
-    line-here = that-line height width layouts k buffer this-record ∙ ap (λ (l : List ℕ). layout-line height width (k + 1) l) record-here
+    line-here = that-line height width layouts k buffer (this-record height width layouts tall wide front r rest k at long below)
+        ∙ ap (λ (l : List ℕ). layout-line height width (k + 1) l) (record-here height width layouts tall wide front r rest k at long below)
 
   pub lines-there : (records : List (List ℕ)) → AllLong size records → (front rest : List ℕ) (k : ℕ) → length front ≡ k * size → k + length records ≤ layouts
       → lines-from height width layouts (front ++ (concat records ++ rest)) (length records) k ≡ layout-lines height width (k + 1) records

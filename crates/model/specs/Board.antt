@@ -5,9 +5,9 @@ use Prim.Native.Nat.{ℕ, zero, suc, _+_, _*_, _-_, _%_}
 use mathlib.Core.Bool.{Bool, true, false, _&&_, _||_, not}
 use mathlib.Core.List.{List, [], _∷_, _++_}
 use lib.Dec.{eqb, ltb, leb}
-use lib.IntN.{ℤ, pos, negsuc}
 use Rattle.rules.specs.Grid.{Edge, right, down, first, second, Cell, blank, clue, hole, Grid, pads}
 use Rattle.rules.specs.Drawing.{num, Side, on-left, on-right}
+use Rattle.model.specs.JoinedEnds.{End, through, at-pad, at-clue, bare-end, unjoinable, joined-ends}
 
 -- THE STATE of an edge: `EdgeState` of the Rust.
 pub data EdgeState : Type 0 where
@@ -36,38 +36,6 @@ sameEdge (right a) (down b) = false
 sameEdge (down a) (right b) = false
 sameEdge (down a) (down b) = eqb a b
 
--- THE END of a pad: a line passes through it, or the other end of its chain is this pad, or a clue of this code.
-pub data End : Type 0 where
-  through : End
-  at-pad : ℕ → End
-  at-clue : ℕ → End
-
--- document 01's end number: -1 through, the index of a pad, -v - 2 for a clue of value v
-unfoldable pub end-number : End → ℤ
-end-number through = negsuc 0
-end-number (at-pad v) = pos v
-end-number (at-clue code) = negsuc (suc code)
-
-abbrev pub isThrough : End → Bool
-isThrough through = true
-isThrough (at-pad a) = false
-isThrough (at-clue c) = false
-
--- both end numbers are negative, and they are unequal
-abbrev pub unequal-negative : End → End → Bool
-unequal-negative through through = false
-unequal-negative through (at-pad b) = false
-unequal-negative through (at-clue d) = true
-unequal-negative (at-pad a) B = false
-unequal-negative (at-clue c) through = true
-unequal-negative (at-clue c) (at-pad b) = false
-unequal-negative (at-clue c) (at-clue d) = not (eqb c d)
-
-abbrev pub isPad : End → ℕ → Bool
-isPad through v = false
-isPad (at-pad a) v = eqb a v
-isPad (at-clue c) v = false
-
 -- THE STATE of a board: edges, ends and flag.
 pub record State : Type 0 where
   pub edge : Edge → EdgeState
@@ -79,24 +47,6 @@ set-edge S e m = record { edge = λ x. elim (sameEdge x e) [ true ↦ m | false 
 
 unfoldable pub set-flag : State → State
 set-flag S = record { edge = S .edge; end = S .end; flag = true }
-
--- one end changed
-abbrev pub pick-end : Bool → End → End → End
-pick-end true a b = a
-pick-end false a b = b
-
-unfoldable pub put-end : (ℕ → End) → ℕ → End → ℕ → End
-put-end ends v e u = pick-end (eqb u v) e (ends u)
-
--- the end of the pad that `at` names, if it names one
-unfoldable pub put-end-at : (ℕ → End) → End → End → ℕ → End
-put-end-at ends through e = ends
-put-end-at ends (at-clue c) e = ends
-put-end-at ends (at-pad v) e = put-end ends v e
-
--- step c: both pads get -1, then pad A (if there is one) gets B and pad B gets A
-unfoldable pub joined-ends : (ℕ → End) → ℕ → ℕ → End → End → ℕ → End
-joined-ends ends u v A B = put-end-at (put-end-at (put-end (put-end ends u through) v through) A B) B A
 
 -- ITEMS: what a decision does after its state is stored, and what a pad check does.
 pub data Item : Type 0 where
@@ -282,8 +232,7 @@ module _ (g : Grid) where
 
   -- step c: where the line cannot be, the flag is set; else the ends are joined
   unfoldable pub cannot-join : Edge → State → Bool
-  cannot-join e S = let A = S .end (first e) in let B = S .end (second (g .width) e) in
-      isThrough A || (isThrough B || (unequal-negative A B || isPad A (second (g .width) e)))
+  cannot-join e S = unjoinable (S .end (first e)) (S .end (second (g .width) e)) (second (g .width) e)
 
   unfoldable pub join-ends : Edge → State → State
   join-ends e S = record {
@@ -326,11 +275,6 @@ module _ (g : Grid) where
 
   -- THE BARE BOARD: all edges undecided, a clue's end at its code, any other pad's at itself, the flag clear. What would be an edge off
   -- the board, to the right of the last column or below the last row, holds none for ever; no call reaches it.
-  abbrev pub bare-end : ℕ → Cell → End
-  bare-end v blank = at-pad v
-  bare-end v (clue c) = at-clue c
-  bare-end v hole = at-pad v
-
   unfoldable pub bare : State
   bare = record { edge = λ e. elim (on-board e) [ true ↦ undecided | false ↦ none ]; end = λ v. bare-end v (g .cell v); flag = false }
 

@@ -11,7 +11,8 @@ use lib.Dec.{ltb}
 use Rattle.rules.specs.Grid.{Edge, right, down, Cell, blank, clue, hole, Grid, pads, OnBoard}
 use Rattle.rules.specs.Tests.{both, both-on, conflict}
 use Rattle.rules.specs.Places.{zero≢one, next-column}
-use Rattle.model.specs.Board.{End, through, at-pad, at-clue, put-end, put-end-at, isBlank, isClue, isHole, has-left, has-right, on-board}
+use Rattle.model.specs.JoinedEnds.{End, through, at-pad, at-clue, put-end, put-end-at}
+use Rattle.model.specs.Board.{isBlank, isClue, isHole, has-left, has-right, on-board}
 
 -- WHAT A PAD IS
 pub blank-of : (C : Cell) → isBlank C ≡ true → C ≡ blank

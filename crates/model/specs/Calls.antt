@@ -10,7 +10,8 @@ use lib.IntN.{ℤ}
 use Rattle.rules.specs.Grid.{Edge, Place, edge, no-edge, place-at, field-side, Grid, grid-of, blank-cell, pads}
 use Rattle.rules.specs.Drawing.{num}
 use Rattle.rules.specs.Record.{field, undecided-byte, line-byte, none-byte, tabulate}
-use Rattle.model.specs.Board.{EdgeState, undecided, line, none, State, decide, enough, fresh, end-number}
+use Rattle.model.specs.JoinedEnds.{end-number}
+use Rattle.model.specs.Board.{EdgeState, undecided, line, none, State, decide, enough, fresh}
 use Rattle.model.specs.Refusals.{grid-refusal}
 
 -- A BOARD: its grid, its state, and the states at the checkpoints not yet undone, the last one first.

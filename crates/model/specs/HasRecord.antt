@@ -1,13 +1,18 @@
--- Whether there is a record k in a buffer: what the test of Records.antt asks, as facts.
+-- Whether there is a record k in a buffer: what the test of Records.antt asks, as facts; which part of the buffer it is; and that records
+-- which were put into a buffer one after the other are found there again.
 use Prim.Native.Nat.{ℕ, _+_, _*_, _≤_, _<_}
-use mathlib.Core.Path.{_≡_, refl}
+use mathlib.Core.Path.{_≡_, refl, ap, _∙_}
 use mathlib.Core.Bool.{true, _&&_}
+use mathlib.Core.List.{List, _++_}
+use native.Mathlib.Omega.{arith}
 use borrow.Author.Tests.{ltb-true, leb-true, lt-ltb, le-leb}
 use lib.Dec.{ltb, leb}
+use lib.ListN.{length, take, drop, length-append}
+use lib.Seq.{take-at, drop-at}
 use Rattle.rules.specs.Grid.{places}
 use Rattle.rules.specs.Tests.{both}
 use Rattle.model.specs.Bounds.{is-size}
-use Rattle.model.specs.Records.{record-length, has-record}
+use Rattle.model.specs.Records.{record-length, has-record, record-at}
 
 module _ (height width count k room : ℕ) where
   -- sound sizes, k below the count, and the record ends in time
@@ -28,3 +33,19 @@ module _ (height width count k room : ℕ) where
   pub record-is-there : HasRecord → has-record height width count k room ≡ true
   unfolding has-record record-length
   record-is-there t = rw (t .tall, t .wide, lt-ltb _ _ (t .counted), le-leb _ _ (t .inside)) refl
+
+-- the part of the buffer from k times the length on
+pub that-part : (height width count k : ℕ) (buffer : List ℕ) → HasRecord height width count k (length buffer)
+    → record-at height width count k buffer ≡ take (places height width) (drop (k * places height width) buffer)
+unfolding record-at record-length
+that-part height width count k buffer t = rw (record-is-there _ _ _ _ _ t) refl
+
+-- the record that stands after the front is record k
+module _ (height width count : ℕ) (tall : is-size height ≡ true) (wide : is-size width ≡ true)
+    (front r rest : List ℕ) (k : ℕ) (at : length front ≡ k * places height width) (long : length r ≡ places height width) (below : k < count) where
+  pub this-record : HasRecord height width count k (length (front ++ (r ++ rest)))
+  this-record = record { tall = tall; wide = wide; counted = below; inside = rw (length-append front (r ++ rest), length-append r rest) (omega arith) }
+
+  pub record-here : record-at height width count k (front ++ (r ++ rest)) ≡ r
+  record-here = that-part height width count k (front ++ (r ++ rest)) this-record
+      ∙ ap (λ (l : List ℕ). take (places height width) l) (drop-at front (r ++ rest) (k * places height width) at) ∙ take-at r rest (places height width) long

@@ -12,7 +12,8 @@ use Rattle.rules.specs.Grid.{cell-of, blank-cell, hole-cell, grid-of, place-at,
 use Rattle.rules.specs.Record.{codes, drawing-of, field, record-lines, tabulate}
 use Rattle.model.specs.Bounds.{is-size}
 use Rattle.model.specs.Refusals.{grid-refusal, is-cell, first-bad-cell}
-use Rattle.model.specs.Board.{fresh, prepared, shut-at, shut, bare, end-number, decide, check, after-store, cannot-join, join-ends, check-items, settled, decide-first, degree, undecideds, lines, keep-aparts, around, do-item, do-items, shape-items, barred, joined-ends, put-end, put-end-at, set-flag, set-edge, enough}
+use Rattle.model.specs.JoinedEnds.{end-number, unjoinable, joined-ends, put-end, put-end-at}
+use Rattle.model.specs.Board.{fresh, prepared, shut-at, shut, bare, decide, check, after-store, cannot-join, join-ends, check-items, settled, decide-first, degree, undecideds, lines, keep-aparts, around, do-item, do-items, shape-items, barred, set-flag, set-edge, enough}
 use Rattle.model.specs.Calls.{shown, fresh-board, new, edge-at, decide-edge, read-edge, add-checkpoint, undo}
 use Rattle.model.specs.Records.{has-record, record-length, record-at}
 use Rattle.model.specs.Search.{Solved, solve, concat, scan, search, search-from, fewest, backtrack, try, degree-so-far, next-pad, board-record}
@@ -160,7 +161,7 @@ Sequence-10 =
 -- all of them, by computation
 pub hole-sequences :
     Sequence-1 × Sequence-2 × Sequence-3 × Sequence-4 × Sequence-5 × Sequence-6 × Sequence-7 × Sequence-8 × Sequence-9 × Sequence-10
-unfolding do-call seen replay shown new grid-refusal is-size is-cell first-bad-cell fresh-board edge-at decide-edge read-edge add-checkpoint undo grid-of cell-of field tabulate place-at parity fresh prepared shut-at shut bare end-number decide check after-store cannot-join join-ends check-items settled decide-first degree undecideds lines keep-aparts around do-item do-items shape-items barred joined-ends put-end put-end-at set-flag set-edge enough
+unfolding do-call seen replay shown new grid-refusal is-size is-cell first-bad-cell fresh-board edge-at decide-edge read-edge add-checkpoint undo grid-of cell-of field tabulate place-at parity fresh prepared shut-at shut bare end-number decide check after-store cannot-join unjoinable join-ends check-items settled decide-first degree undecideds lines keep-aparts around do-item do-items shape-items barred joined-ends put-end put-end-at set-flag set-edge enough
 hole-sequences = (refl, refl, refl, refl, refl, refl, refl, refl, refl, refl)
 
 -- SEARCHES: layouts, visited, fewest and codes
@@ -201,5 +202,5 @@ Clear-with-limit-0 = solve 2 2 ((pos 5) ∷ hole-cell ∷ (pos 5) ∷ hole-cell 
 
 pub hole-searches :
     Decided-with-the-holes × Later-start × Corner-over-a-hole × Two-layouts × Flagged × Flagged-with-limit-0 × Clear-with-limit-0
-unfolding known solve concat grid-refusal is-size is-cell first-bad-cell has-record record-length record-at grid-of cell-of codes drawing-of field record-lines tabulate place-at parity scan search search-from fewest backtrack try degree-so-far next-pad board-record fresh prepared shut-at shut bare end-number decide check after-store cannot-join join-ends check-items settled decide-first degree undecideds lines keep-aparts around do-item do-items shape-items barred joined-ends put-end put-end-at set-flag set-edge enough
+unfolding known solve concat grid-refusal is-size is-cell first-bad-cell has-record record-length record-at grid-of cell-of codes drawing-of field record-lines tabulate place-at parity scan search search-from fewest backtrack try degree-so-far next-pad board-record fresh prepared shut-at shut bare end-number decide check after-store cannot-join unjoinable join-ends check-items settled decide-first degree undecideds lines keep-aparts around do-item do-items shape-items barred joined-ends put-end put-end-at set-flag set-edge enough
 hole-searches = (refl, refl, refl, refl, refl, refl, refl)

@@ -7,7 +7,8 @@ use lib.ListN.{replicate}
 use lib.IntN.{ℤ, pos, negsuc}
 use Rattle.rules.specs.Grid.{cell-of, blank-cell, grid-of, places, place-at, parity}
 use Rattle.rules.specs.Record.{codes, drawing-of, field, record-lines, tabulate}
-use Rattle.model.specs.Board.{fresh, prepared, shut-at, shut, bare, end-number, decide, check, after-store, cannot-join, join-ends, check-items, settled, decide-first, degree, undecideds, lines, keep-aparts, around, do-item, do-items, shape-items, barred, joined-ends, put-end, put-end-at, set-flag, set-edge, enough}
+use Rattle.model.specs.JoinedEnds.{end-number, unjoinable, joined-ends, put-end, put-end-at}
+use Rattle.model.specs.Board.{fresh, prepared, shut-at, shut, bare, decide, check, after-store, cannot-join, join-ends, check-items, settled, decide-first, degree, undecideds, lines, keep-aparts, around, do-item, do-items, shape-items, barred, set-flag, set-edge, enough}
 use Rattle.model.specs.KnownFiles.{K10 as Largest-code-read, K11 as Letter-refused, K12 as One-row-refused, known-files}
 use Rattle.model.specs.Bounds.{is-size}
 use Rattle.model.specs.Refusals.{grid-refusal, is-cell, first-bad-cell}
@@ -68,5 +69,5 @@ pub record KnownGrids : Type 0 where
   pub K12 : One-row-refused
 
 pub known-grids : KnownGrids
-unfolding known solve concat grid-refusal is-size is-cell first-bad-cell has-record record-length record-at grid-of cell-of codes drawing-of field record-lines tabulate place-at parity scan search search-from fewest backtrack try degree-so-far next-pad board-record fresh prepared shut-at shut bare end-number decide check after-store cannot-join join-ends check-items settled decide-first degree undecideds lines keep-aparts around do-item do-items shape-items barred joined-ends put-end put-end-at set-flag set-edge enough
+unfolding known solve concat grid-refusal is-size is-cell first-bad-cell has-record record-length record-at grid-of cell-of codes drawing-of field record-lines tabulate place-at parity scan search search-from fewest backtrack try degree-so-far next-pad board-record fresh prepared shut-at shut bare end-number decide check after-store cannot-join unjoinable join-ends check-items settled decide-first degree undecideds lines keep-aparts around do-item do-items shape-items barred joined-ends put-end put-end-at set-flag set-edge enough
 known-grids = record { K1 = refl; K2 = refl; K3 = refl; K4 = refl; K5 = refl; K6 = refl; K7 = refl; K8 = refl; K1-spent = refl; K1-full = refl; K9 = (refl, refl); K10 = known-files .0; K11 = known-files .1; K12 = known-files .2 }

@@ -5,6 +5,7 @@ pub mod Text
 pub mod Bounds
 pub mod Refusals
 pub mod RefusalLaws
+pub mod JoinedEnds
 pub mod Board
 pub mod BoardLaws
 pub mod Calls
@@ -27,3 +28,7 @@ pub mod KnownRoutes
 pub mod Sequences
 pub mod HoleSequences
 pub mod SmallGrids
+pub mod Judge
+pub mod JudgedGrids
+pub mod JudgeText
+pub mod KnownJudged

@@ -9,7 +9,8 @@ use mathlib.Core.List.{List, [], _∷_}
 use lib.IntN.{ℤ, pos, negsuc}
 use Rattle.rules.specs.Grid.{cell-of, blank-cell, grid-of, place-at, parity}
 use Rattle.rules.specs.Record.{field, tabulate}
-use Rattle.model.specs.Board.{fresh, prepared, shut-at, shut, bare, end-number, decide, check, after-store, cannot-join, join-ends, check-items, settled, decide-first, degree, undecideds, lines, keep-aparts, around, do-item, do-items, shape-items, barred, joined-ends, put-end, put-end-at, set-flag, set-edge, enough}
+use Rattle.model.specs.JoinedEnds.{end-number, unjoinable, joined-ends, put-end, put-end-at}
+use Rattle.model.specs.Board.{fresh, prepared, shut-at, shut, bare, decide, check, after-store, cannot-join, join-ends, check-items, settled, decide-first, degree, undecideds, lines, keep-aparts, around, do-item, do-items, shape-items, barred, set-flag, set-edge, enough}
 use Rattle.model.specs.Calls.{Board, Answer, shown, fresh-board, edge-at, decide-edge, read-edge, add-checkpoint, undo}
 
 pub data Call : Type 0 where
@@ -322,5 +323,5 @@ Sequence-20 =
 -- all of them, by computation
 pub sequences :
     Sequence-1 × Sequence-2 × Sequence-3 × Sequence-4 × Sequence-5 × Sequence-6 × Sequence-7 × Sequence-8 × Sequence-9 × Sequence-10 × Sequence-11 × Sequence-12 × Sequence-13 × Sequence-14 × Sequence-15 × Sequence-16 × Sequence-17 × Sequence-18 × Sequence-19 × Sequence-20
-unfolding do-call seen replay shown fresh-board edge-at decide-edge read-edge add-checkpoint undo grid-of cell-of field tabulate place-at parity fresh prepared shut-at shut bare end-number decide check after-store cannot-join join-ends check-items settled decide-first degree undecideds lines keep-aparts around do-item do-items shape-items barred joined-ends put-end put-end-at set-flag set-edge enough
+unfolding do-call seen replay shown fresh-board edge-at decide-edge read-edge add-checkpoint undo grid-of cell-of field tabulate place-at parity fresh prepared shut-at shut bare end-number decide check after-store cannot-join unjoinable join-ends check-items settled decide-first degree undecideds lines keep-aparts around do-item do-items shape-items barred joined-ends put-end put-end-at set-flag set-edge enough
 sequences = (refl, refl, refl, refl, refl, refl, refl, refl, refl, refl, refl, refl, refl, refl, refl, refl, refl, refl, refl, refl)

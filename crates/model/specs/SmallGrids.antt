@@ -12,7 +12,8 @@ use Rattle.rules.specs.Grid.{Cell, blank, clue, hole, cell-of, blank-cell, hole
 use Rattle.rules.specs.Drawing.{Drawing, num, square-lines}
 use Rattle.rules.specs.Record.{codes, drawing-of, field, tabulate}
 use Rattle.rules.specs.Tests.{all-below}
-use Rattle.model.specs.Board.{has-left, has-right, has-up, has-down, fresh, prepared, shut-at, shut, bare, decide, check, after-store, cannot-join, join-ends, check-items, settled, decide-first, degree, undecideds, lines, keep-aparts, around, do-item, do-items, shape-items, barred, joined-ends, put-end, put-end-at, set-flag, set-edge, enough, isBlank, isClue}
+use Rattle.model.specs.JoinedEnds.{unjoinable, joined-ends, put-end, put-end-at}
+use Rattle.model.specs.Board.{has-left, has-right, has-up, has-down, fresh, prepared, shut-at, shut, bare, decide, check, after-store, cannot-join, join-ends, check-items, settled, decide-first, degree, undecideds, lines, keep-aparts, around, do-item, do-items, shape-items, barred, set-flag, set-edge, enough, isBlank, isClue}
 use Rattle.model.specs.Search.{Event, visit, layout, search, search-from, backtrack, try, degree-so-far, next-pad, board-record}
 
 -- THE DRAWING of a list of codes, one for each pad
@@ -86,9 +87,11 @@ module _ (g : Grid) where
     unfoldable pub none-closed : List ℕ → Bool
     none-closed chain = all-below (λ u. eqb (lines-at u) 0 || not (all-below (λ v. not (isClue (g .cell v) && eqb (getD chain u 0) (getD chain v 0))) (pads g))) (pads g)
 
+    unfoldable pub is-ordinary : Bool
+    is-ordinary = all-below (λ v. right-number (g .cell v) (lines-at v)) (pads g) && (codes-agree (labels (pads g)) && none-closed (labels (pads g)))
+
     unfoldable pub is-listed : Bool
-    is-listed = all-below (λ v. right-number (g .cell v) (lines-at v) && (square-right v && (corner-right-at v && corner-left-at v))) (pads g)
-        && (codes-agree (labels (pads g)) && none-closed (labels (pads g)))
+    is-listed = is-ordinary && all-below (λ v. square-right v && (corner-right-at v && corner-left-at v)) (pads g)
 
   -- those that keep the rules
   unfoldable pub listed-among : List (List ℕ) → List (List ℕ)
@@ -139,7 +142,7 @@ pub record SmallGrids : Type 0 where
   pub hole-ends-a-bar-3-3 : Agree 3 3 (o ∷ pos 0 ∷ o ∷ pos 0 ∷ o ∷ pos 1 ∷ o ∷ pos 1 ∷ h ∷ [])
 
 pub small-grids : SmallGrids
-unfolding all-below drawing-of-codes codes-at before-each all-drawings relabel labels codes-agree none-closed is-listed listed-among found-codes codes drawing-of field tabulate place-at parity grid-of cell-of search search-from backtrack try degree-so-far next-pad board-record fresh prepared shut-at shut bare decide check after-store cannot-join join-ends check-items settled decide-first degree undecideds lines keep-aparts around do-item do-items shape-items barred joined-ends put-end put-end-at set-flag set-edge enough
+unfolding all-below drawing-of-codes codes-at before-each all-drawings relabel labels codes-agree none-closed is-ordinary is-listed listed-among found-codes codes drawing-of field tabulate place-at parity grid-of cell-of search search-from backtrack try degree-so-far next-pad board-record fresh prepared shut-at shut bare decide check after-store cannot-join unjoinable join-ends check-items settled decide-first degree undecideds lines keep-aparts around do-item do-items shape-items barred joined-ends put-end put-end-at set-flag set-edge enough
 small-grids = record {
   blank-2-2 = refl;
   pair-2-2 = refl;

@@ -1,16 +1,16 @@
 -- The edges of a board's state: two edges are the same or not, setting one leaves the others, and the lines of a state are a drawing.
 use Prim.Native.Nat.{ℕ}
 use mathlib.Core.Path.{_≡_, refl, sym, _∙_, ap}
-use mathlib.Core.Logic.{_≢_, _⊎_, inl, inr, ⊎-elim}
+use mathlib.Core.Logic.{_≢_, _⊎_, inl, inr}
 use mathlib.Core.Bool.{Bool, true, false}
 use borrow.Author.Tests.{eq-eqb, eqb-true}
 use Rattle.rules.specs.Grid.{Edge, first, second, Grid, right, down}
-use Rattle.rules.specs.Drawing.{Drawing, Relation, Line, rightward, leftward, downward, upward}
+use Rattle.rules.specs.Drawing.{Drawing, drawn, Relation, Line}
 use Rattle.rules.specs.Places.{zero≢one}
 use Rattle.rules.specs.Tests.{conflict}
 use Rattle.model.specs.Board.{EdgeState, isLine, isUndecided, sameState, sameEdge, State, set-edge, line-or-none, undecided, line, none}
 use Rattle.propagation.specs.Undecided.{DecidedStay}
-use Rattle.rules.specs.Chains.{line-back}
+use Rattle.rules.specs.Chains.{edge-of-line, line-forward, line-of-edge}
 
 same-edge : (x e : Edge) → sameEdge x e ≡ true → x ≡ e
 same-edge (right a) (right b) h = ap right (eqb-true a b h)
@@ -93,19 +93,17 @@ module _ (g : Grid) where
     pub is : S .edge edge ≡ line
     pub ends : ((x ≡ first edge) × (y ≡ second (g .width) edge)) ⊎ ((x ≡ second (g .width) edge) × (y ≡ first edge))
 
-  pub edge-of : (S : State) (x y : ℕ) → board-lines S x y → Along S x y
+  drawn-line : (S : State) (e : Edge) → drawn (drawing S) e ≡ isLine (S .edge e)
   unfolding drawing
-  edge-of S x y (rightward p h) = record { edge = right x; is = is-line _ h; ends = inl (refl, p) }
-  edge-of S x y (leftward p h) = record { edge = right y; is = is-line _ h; ends = inr (p, refl) }
-  edge-of S x y (downward p h) = record { edge = down x; is = is-line _ h; ends = inl (refl, p) }
-  edge-of S x y (upward p h) = record { edge = down y; is = is-line _ h; ends = inr (p, refl) }
+  drawn-line S (right v) = refl
+  drawn-line S (down v) = refl
+
+  pub edge-of : (S : State) (x y : ℕ) → board-lines S x y → Along S x y
+  edge-of S x y l = let t = edge-of-line (g .width) (drawing S) x y l in
+      record { edge = t .edge; is = is-line _ (sym (drawn-line S (t .edge)) ∙ t .is); ends = t .ends }
 
   pub forward : (S : State) (e : Edge) → S .edge e ≡ line → board-lines S (first e) (second (g .width) e)
-  unfolding drawing
-  forward S (right v) h = rightward refl (ap isLine h)
-  forward S (down v) h = downward refl (ap isLine h)
+  forward S e h = line-forward (g .width) (drawing S) e (drawn-line S e ∙ ap isLine h)
 
   pub line-of : (S : State) (x y : ℕ) → Along S x y → board-lines S x y
-  line-of S x y t = ⊎-elim
-      (λ (p, q). rw (p, q) (forward S (t .edge) (t .is)))
-      (λ (p, q). rw (p, q) (line-back (g .width) (drawing S) _ _ (forward S (t .edge) (t .is)))) (t .ends)
+  line-of S x y t = line-of-edge (g .width) (drawing S) x y (record { edge = t .edge; is = drawn-line S (t .edge) ∙ ap isLine (t .is); ends = t .ends })

@@ -7,7 +7,8 @@ use mathlib.Core.Logic.{_≢_, _⊎_, inl, inr}
 use mathlib.Core.Bool.{false}
 use Rattle.rules.specs.Grid.{Cell, clue}
 use Rattle.rules.specs.Drawing.{Relation, NoLine, OneLine, TwoLines, Joined}
-use Rattle.model.specs.Board.{End, isClue, through, at-pad, at-clue}
+use Rattle.model.specs.JoinedEnds.{End, through, at-pad, at-clue}
+use Rattle.model.specs.Board.{isClue}
 use Rattle.rules.specs.Chains.{Symmetric}
 
 -- at most one line

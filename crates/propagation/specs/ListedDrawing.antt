@@ -6,16 +6,16 @@ use mathlib.Core.Logic.{inl, inr, ⊎-elim}
 use mathlib.Core.Bool.{Bool, true, false, _&&_}
 use mathlib.Core.List.{List·Memᴰ}
 use native.Mathlib.Omega.{arith}
-use borrow.Author.Tests.{lt-ltb, ltb-true}
-use lib.Dec.{ltb}
+use borrow.Author.Tests.{lt-ltb}
 use Rattle.rules.specs.Grid.{Edge, first, second, Cell, Grid, pads, right, down, blank, clue, hole}
-use Rattle.rules.specs.Drawing.{Drawing, drawn, Placed, Line, NoLine, OneLine, TwoLines, Joined, num, square-lines, Side, DiagonallyBelow, Corner, Listed, rightward, downward, here, more, on-left, on-right}
-use Rattle.rules.specs.Places.{next-in-row}
-use Rattle.rules.specs.Tests.{both, both-on, not-so, num-none}
-use Rattle.model.specs.Board.{State, isBlank, has-right, has-down, on-board, has-side, barred, shape-items, around, detour, corner, bar}
-use Rattle.model.specs.BoardLaws.{blank-of}
+use Rattle.rules.specs.Drawing.{Drawing, drawn, Placed, Line, NoLine, OneLine, TwoLines, Joined, num, square-lines, Side, DiagonallyBelow, Corner, Listed, here, more, on-left, on-right}
+use Rattle.rules.specs.Places.{first-inside, second-inside}
+use Rattle.rules.specs.Tests.{both-on, not-so, num-none}
+use Rattle.model.specs.Board.{State, isBlank, has-down, on-board, has-side, barred, shape-items, around, detour, corner, bar}
+use Rattle.model.specs.BoardLaws.{blank-of, on-board-of-test}
 use Rattle.propagation.specs.Edges.{board-lines, edge-of}
-use Rattle.propagation.specs.Squares.{SquareAt, upper-right, lower-right, left-down, right-down, upper-in, lower-in, Role, square-edge, detours-at, corner-pad, lower-pad, edge-beside, Standing, standing, one-of-three, detours-only, detour-parts, corner-parts, bar-parts, detour-no-corner, detour-no-bar, corner-no-bar, Neighbour, neighbour, one-before, row-before, left-on, right-on, up-on, upper-edge, left-edge, right-edge, lower-edge, in-square, corner-across, corner-downward, bar-across, bar-downward, to-left, to-right, to-above, to-below}
+use Rattle.rules.specs.Chains.{line-forward}
+use Rattle.propagation.specs.Squares.{SquareAt, upper-right, lower-right, left-down, right-down, upper-in, lower-in, Role, square-edge, detours-at, corner-pad, lower-pad, edge-beside, Standing, standing, one-of-three, detours-only, detour-parts, corner-parts, bar-parts, detour-no-corner, detour-no-bar, corner-no-bar, upper-edge, left-edge, right-edge, lower-edge, in-square, corner-across, corner-downward, bar-across, bar-downward}
 use Rattle.propagation.specs.Counting.{among, none-among, one-to, two-to, some-among, two-among, around-apart, right-column, right-in, down-in, beside, leads}
 use Rattle.propagation.specs.Bars.{line-beside, no-barred-corner}
 use Rattle.propagation.specs.Agreement.{Agrees, drawn-degree, NoneOrTwo}
@@ -32,19 +32,14 @@ module _ (g : Grid) (wide : 2 ≤ g .width) (D : Drawing) (listed : Listed g D) 
 
   -- EDGES AND PADS
   pub its-line : (e : Edge) → drawn D e ≡ true → Line W D (first e) (second W e)
-  its-line (right v) h = rightward refl h
-  its-line (down v) h = downward refl h
+  its-line e h = line-forward W D e h
 
   pub line-on : (e : Edge) → drawn D e ≡ true → OnTheBoard e
   line-on (right v) h = both-on (lt-ltb (v % W + 1) W (right-column g wide D on v h)) (lt-ltb v (pads g) (right-in g wide D on v h))
   line-on (down v) h = lt-ltb (v + W) (pads g) (down-in g wide D on v h)
 
   pub both-pads : (e : Edge) → OnTheBoard e → (first e < pads g) × (second W e < pads g)
-  both-pads (right v) h =
-      let (r, i) = both (has-right g v) (ltb v (pads g)) h in
-      let k = ltb-true v (pads g) i in
-      (k, next-in-row W v (g .height) (ltb-true (v % W + 1) W r) k)
-  both-pads (down v) h = let k = ltb-true (v + W) (pads g) h in ((omega arith), k)
+  both-pads e h = let on = on-board-of-test g e h in (first-inside g e on, second-inside g e on)
 
   -- a chain of the board's lines stays among the pads
   pub reach : (S : State) → Agrees D S → {v w : ℕ} → v < pads g → Joined (board-lines g S) v w → w < pads g

@@ -13,11 +13,12 @@ use Rattle.rules.specs.Grid.{Edge, first, second, Grid, pads, clue}
 use Rattle.rules.specs.Drawing.{Drawing, drawn, Line, Joined, Wired, Listed, more}
 use Rattle.rules.specs.Places.{zero≢one}
 use Rattle.rules.specs.Tests.{both, either, conflict, not-so}
-use Rattle.model.specs.Board.{EdgeState, isLine, isUndecided, sameState, End, isThrough, unequal-negative, isPad, State, set-edge, Item, isBlank, check-end, other-clue, undecideds, Decide, Check, line-or-none, keep-aparts, on-board, shape-items, around, degree, settled, do-item, do-items, check-items, cannot-join, join-ends, after-store, decide, check, undecided, line, none, through, at-pad, at-clue, detour, corner, bar, check-pad, keep-apart, settle}
+use Rattle.model.specs.JoinedEnds.{End, through, at-pad, at-clue}
+use Rattle.model.specs.Board.{EdgeState, isLine, isUndecided, sameState, State, set-edge, Item, isBlank, check-end, other-clue, undecideds, Decide, Check, line-or-none, keep-aparts, on-board, shape-items, around, degree, settled, do-item, do-items, check-items, cannot-join, join-ends, after-store, decide, check, undecided, line, none, detour, corner, bar, check-pad, keep-apart, settle}
 use Rattle.propagation.specs.Undecided.{undecided-edges, undecided-no-more, undecided-less}
 use Rattle.rules.specs.Chains.{Symmetric, join-trans, join-sym, join-mono, line-back}
 use Rattle.propagation.specs.Ends.{Ends}
-use Rattle.propagation.specs.Refutation.{no-third, no-clash, no-ring}
+use Rattle.propagation.specs.Refutation.{nothing-against}
 use Rattle.propagation.specs.Edges.{same-or-not, set-here, set-elsewhere, set-stays, is-line, line-or-none-decided, drawing, board-lines, Along, edge-of, is-way}
 use Rattle.propagation.specs.Objects.{Holds, Plain, is-detour, is-corner, is-bar}
 use Rattle.propagation.specs.Items.{Onward, CallsKeep, item-done, goes-on}
@@ -170,52 +171,13 @@ module _ (g : Grid) (wide : 2 ≤ g .width) (D : Drawing) (listed : Listed g D) 
 
   -- STEP c finds nothing against a line of the drawing
   module _ (S : State) (e : Edge) (fits : Fits g D S) (free : isUndecided (S .edge e) ≡ true) (is-drawn : drawn D e ≡ true) where
-    abbrev A : End
-    A = S .end (first e)
-
-    abbrev B : End
-    B = S .end (second (g .width) e)
-
     no-line-yet : board-lines g S (first e) (second (g .width) e) → ⊥
     no-line-yet = no-line-before g S e free (geometry g wide)
 
-    no-line-back : board-lines g S (second (g .width) e) (first e) → ⊥
-    no-line-back l = no-line-yet (line-back (g .width) (drawing S) _ _ l)
-
-    not-through-A : A ≡ through → ⊥
-    not-through-A h = no-third (line-back (g .width) (drawing S)) (fits .ends-say) wired (within S fits) both-ways (first e) (second (g .width) e) h no-line-yet (its-line g wide D listed e is-drawn)
-
-    not-through-B : B ≡ through → ⊥
-    not-through-B h = no-third (line-back (g .width) (drawing S)) (fits .ends-say) wired (within S fits) both-ways (second (g .width) e) (first e) h no-line-back
-        (both-ways _ _ (its-line g wide D listed e is-drawn))
-
-    not-unequal : (X Y : End) → A ≡ X → B ≡ Y → unequal-negative X Y ≡ true → ⊥
-    not-unequal through Y p q h = not-through-A p
-    not-unequal (at-pad a) Y p q h = zero≢one (cc)
-    not-unequal (at-clue c) through p q h = not-through-B q
-    not-unequal (at-clue c) (at-pad b) p q h = zero≢one (cc)
-    not-unequal (at-clue c) (at-clue x) p q h = no-clash (line-back (g .width) (drawing S)) (fits .ends-say) wired (within S fits) both-ways (first e) (second (g .width) e) c x p q
-        (λ y. let k = eq-eqb c x y in let j : not (eqb c x) ≡ false = rw k refl in zero≢one (cc)) (its-line g wide D listed e is-drawn)
-
-    not-closing : (X : End) → A ≡ X → isPad X (second (g .width) e) ≡ true → ⊥
-    not-closing through p h = zero≢one (cc)
-    not-closing (at-clue c) p h = zero≢one (cc)
-    not-closing (at-pad a) p h = no-ring (line-back (g .width) (drawing S)) (fits .ends-say) wired (within S fits) both-ways (first e) (second (g .width) e) (geometry g wide .apart e)
-        (p ∙ ap at-pad (eqb-true a (second (g .width) e) h)) no-line-yet (its-line g wide D listed e is-drawn)
-
-    is-through : (X : End) → isThrough X ≡ true → X ≡ through
-    is-through through h = refl
-    is-through (at-pad a) h = zero≢one (cc)
-    is-through (at-clue c) h = zero≢one (cc)
-
     can-join : cannot-join g e (set-edge S e line) ≡ false
     unfolding cannot-join set-edge
-    can-join = rw (
-      not-so (isThrough A) (λ h. not-through-A (is-through A h)),
-      not-so (isThrough B) (λ h. not-through-B (is-through B h)),
-      not-so (unequal-negative A B) (not-unequal A B refl refl),
-      not-so (isPad A (second (g .width) e)) (not-closing A refl),
-    ) refl
+    can-join = nothing-against (line-back (g .width) (drawing S)) (fits .ends-say) wired (within S fits) both-ways (first e) (second (g .width) e) (geometry g wide .apart e)
+        no-line-yet (its-line g wide D listed e is-drawn)
 
   -- THE INDUCTION over the bound
   abbrev SoundDecide : ℕ → Type 0

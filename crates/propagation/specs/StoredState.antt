@@ -1,21 +1,16 @@
 -- Step b and step c on a board: storing a none changes no line and no end; storing a line, where step c finds nothing against it, adds one
 -- line and joins the ends, and the ends still say what they should.
-use Prim.Native.Nat.{ℕ}
 use mathlib.Core.Path.{_≡_, refl, sym, _∙_, ap}
 use mathlib.Core.Logic.{_≢_, inl, inr, ⊎-elim}
-use mathlib.Core.Bool.{true, false, not}
-use borrow.Author.Tests.{eqb-false, eqb-true, not-false}
-use lib.Dec.{eqb}
+use mathlib.Core.Bool.{true, false}
 use Rattle.rules.specs.Grid.{Edge, first, second, Grid}
-use Rattle.rules.specs.Places.{zero≢one}
-use Rattle.rules.specs.Tests.{neither, conflict}
-use Rattle.model.specs.Board.{EdgeState, isLine, isUndecided, End, isThrough, unequal-negative, isPad, State, set-edge, joined-ends, on-board, cannot-join, join-ends, line, none, through, at-pad, at-clue}
-use Rattle.model.specs.BoardLaws.{same-pad}
+use Rattle.rules.specs.Tests.{conflict}
+use Rattle.model.specs.JoinedEnds.{End, joined-ends}
+use Rattle.model.specs.Board.{EdgeState, isLine, isUndecided, State, set-edge, on-board, cannot-join, join-ends, line, none}
 use Rattle.propagation.specs.Undecided.{DecidedStay}
 use Rattle.rules.specs.Chains.{line-back}
 use Rattle.propagation.specs.Ends.{Added}
-use Rattle.propagation.specs.EndsKept.{stored-ends}
-use Rattle.propagation.specs.Storing.{stored}
+use Rattle.propagation.specs.Storing.{joined-say}
 use Rattle.propagation.specs.Edges.{same-or-not, set-here, set-elsewhere, decided-elsewhere, is-line, is-undecided, drawing, same-drawing, board-lines, edge-of, forward, line-of}
 use Rattle.propagation.specs.Objects.{Holds, Geometry, chains, board}
 
@@ -88,26 +83,6 @@ module _ (g : Grid) (S : State) (e : Edge) (undecided-before : isUndecided (S .e
 
   -- where step c finds nothing against the line
   module _ (geo : Geometry g) (can-join : cannot-join g e (set-edge S e line) ≡ false) where
-    record Joinable : Type 0 where
-      not-through-A : isThrough end-A ≡ false
-      not-through-B : isThrough end-B ≡ false
-      equal-codes : unequal-negative end-A end-B ≡ false
-      not-closing : isPad end-A (second (g .width) e) ≡ false
-
-    joinable : Joinable
-    unfolding cannot-join set-edge
-    joinable = let (a, b) = neither _ _ can-join in let (c, d) = neither _ _ b in let (x, y) = neither _ _ d in
-        record { not-through-A = a; not-through-B = c; equal-codes = x; not-closing = y }
-
-    not-through : (X : End) → isThrough X ≡ false → X ≢ through
-    not-through X h p = let k = ap isThrough p in zero≢one (cc)
-
-    not-that-pad : (X : End) (v : ℕ) → isPad X v ≡ false → X ≢ at-pad v
-    not-that-pad X v h p = let k : eqb v v ≡ false = sym (ap (λ Y. isPad Y v) p) ∙ h in eqb-false v v k refl
-
-    one-code : (X Y : End) → unequal-negative X Y ≡ false → (c d : ℕ) → X ≡ at-clue c → Y ≡ at-clue d → c ≡ d
-    one-code X Y h c d p q = let k : not (eqb c d) ≡ false = rw (p, q) at h in eqb-true c d (not-false (eqb c d) k)
-
     line-added : Added (board-lines g S) (board-lines g with-line) (first e) (second (g .width) e)
     line-added = record {
       keep = λ x y l. let t = edge-of g S x y l in line-of g with-line x y (record {
@@ -123,22 +98,5 @@ module _ (g : Grid) (S : State) (e : Edge) (undecided-before : isUndecided (S .e
     }
 
     pub line-chains : Holds g S chains → Holds g with-line chains
-    unfolding Holds with-line join-ends set-edge
-    line-chains h = rw line-ends (stored-ends (record {
-      both-ways = line-back (g .width) (drawing S);
-      ends = h;
-      added = line-added;
-      stored = stored (S .end) (first e) (second (g .width) e) end-A end-B (geo .apart e) not-B
-          (λ p. not-B (h .pad-end _ _ p .back)) (λ x p q. geo .apart e (same-pad (sym (h .pad-end _ _ p .back) ∙ h .pad-end _ _ q .back)));
-      at-u = refl;
-      at-v = refl;
-      A-not-through = not-through end-A (joinable .not-through-A);
-      B-not-through = not-through end-B (joinable .not-through-B);
-      apart = geo .apart e;
-      no-line-yet = no-line-before geo;
-      not-closing = not-B;
-      one-code = one-code end-A end-B (joinable .equal-codes);
-    }))
-      where
-        not-B : end-A ≢ at-pad (second (g .width) e)
-        not-B = not-that-pad end-A (second (g .width) e) (joinable .not-closing)
+    unfolding Holds with-line join-ends set-edge cannot-join
+    line-chains h = rw line-ends (joined-say (first e) (second (g .width) e) (line-back (g .width) (drawing S)) h line-added (geo .apart e) (no-line-before geo) can-join)

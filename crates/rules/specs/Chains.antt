@@ -1,10 +1,12 @@
 -- Chains of lines, whatever the lines are: set end to end, turned round, carried over to more lines; and the lines of a drawing, which
--- lead both ways. Small laws that the definitions of Drawing.antt leave unsaid.
+-- lead both ways and are the edges that it draws. Small laws that the definitions of Drawing.antt leave unsaid.
 use Prim.Native.Nat.{ℕ}
 use mathlib.Core.Path.{_≡_, refl}
-use mathlib.Core.Logic.{_≢_}
+use mathlib.Core.Logic.{_≢_, _⊎_, inl, inr, ⊎-elim}
+use mathlib.Core.Bool.{true}
 use native.Mathlib.Decide.{ℕ-discrete}
-use Rattle.rules.specs.Drawing.{Drawing, Relation, Line, Joined, rightward, leftward, downward, upward, here, more}
+use Rattle.rules.specs.Grid.{Edge, first, second, right, down}
+use Rattle.rules.specs.Drawing.{Drawing, drawn, Relation, Line, Joined, rightward, leftward, downward, upward, here, more}
 
 -- lines lead both ways
 abbrev pub Symmetric : Relation → Type 0
@@ -36,3 +38,25 @@ line-back width D a b (rightward e h) = leftward e h
 line-back width D a b (leftward e h) = rightward e h
 line-back width D a b (downward e h) = upward e h
 line-back width D a b (upward e h) = downward e h
+
+-- A LINE BETWEEN TWO PADS is an edge that is drawn, read forward or backward
+module _ (width : ℕ) (D : Drawing) where
+  pub record Along (x y : ℕ) : Type 0 where
+    pub edge : Edge
+    pub is : drawn D edge ≡ true
+    pub ends : ((x ≡ first edge) × (y ≡ second width edge)) ⊎ ((x ≡ second width edge) × (y ≡ first edge))
+
+  pub edge-of-line : (x y : ℕ) → Line width D x y → Along x y
+  edge-of-line x y (rightward p h) = record { edge = right x; is = h; ends = inl (refl, p) }
+  edge-of-line x y (leftward p h) = record { edge = right y; is = h; ends = inr (p, refl) }
+  edge-of-line x y (downward p h) = record { edge = down x; is = h; ends = inl (refl, p) }
+  edge-of-line x y (upward p h) = record { edge = down y; is = h; ends = inr (p, refl) }
+
+  pub line-forward : (e : Edge) → drawn D e ≡ true → Line width D (first e) (second width e)
+  line-forward (right v) h = rightward refl h
+  line-forward (down v) h = downward refl h
+
+  pub line-of-edge : (x y : ℕ) → Along x y → Line width D x y
+  line-of-edge x y t = ⊎-elim
+      (λ (p, q). rw (p, q) (line-forward (t .edge) (t .is)))
+      (λ (p, q). rw (p, q) (line-back width D _ _ (line-forward (t .edge) (t .is)))) (t .ends)

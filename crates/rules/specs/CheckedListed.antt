@@ -1,15 +1,15 @@
--- Two more checks by computing, for the unit squares and for the corners on each side: an ordinary drawing that passes them is listed.
--- They are there for the example drawings of Examples.antt; they rest on Drawing.antt and Tests.antt.
-use Prim.Native.Nat.{ℕ, _+_, _-_, _<_}
+-- Two more checks by computing, for the unit squares and for the corners on each side: an ordinary drawing is listed exactly where it passes
+-- them. The example drawings of Examples.antt are checked by them, and the judge of a drawing asks them. They rest on Drawing.antt and Tests.antt.
+use Prim.Native.Nat.{ℕ, _+_, _-_, _%_, _≤_, _<_}
 use mathlib.Core.Path.{_≡_, refl}
-use mathlib.Core.Logic.{_≢_, _⊎_, inl, inr, ⊎-elim}
+use mathlib.Core.Logic.{_≢_, _⊎_, inl, inr, ⊎-elim, ⊎-map}
 use mathlib.Core.Bool.{Bool, true, false, _&&_, _||_, not}
 use native.Mathlib.Omega.{arith}
-use borrow.Author.Tests.{leb-true, not-true, le-leb}
-use lib.Dec.{leb}
-use Rattle.rules.specs.Grid.{down, Cell, blank, clue, hole, Grid, pads, OnBoard}
+use borrow.Author.Tests.{leb-true, ltb-true, not-true, le-leb, lt-ltb}
+use lib.Dec.{leb, ltb}
+use Rattle.rules.specs.Grid.{down, Cell, blank, clue, hole, Grid, pads, OnBoard, UnitSquare}
 use Rattle.rules.specs.Drawing.{Drawing, Ordinary, Listed, square-lines, Side, on-left, on-right, DiagonallyBelow, Corner, NotBlank}
-use Rattle.rules.specs.Tests.{both, either, all-below, all-below-at}
+use Rattle.rules.specs.Tests.{both, both-on, either, either-on, conflict, all-below, all-below-at, all-below-so}
 use Rattle.rules.specs.Places.{zero≢one}
 
 -- has the pad the corner on that side
@@ -38,6 +38,11 @@ unfolding diagonal
 diagonal-is on-right width p q e = e
 diagonal-is on-left width p q e = omega arith
 
+is-diagonal : (side : Side) (width p : ℕ) → 0 < width → DiagonallyBelow side width p (diagonal side width p)
+unfolding diagonal
+is-diagonal on-right width p some = refl
+is-diagonal on-left width p some = omega arith
+
 unfoldable pub not-blank : Cell → Bool
 not-blank (clue code) = true
 not-blank hole = true
@@ -49,14 +54,24 @@ not-blank-is (clue code) h e = zero≢one (cc)
 not-blank-is hole h e = zero≢one (cc)
 not-blank-is blank h e = zero≢one (cc)
 
+is-not-blank : (C : Cell) → C ≢ blank → not-blank C ≡ true
+unfolding not-blank
+is-not-blank (clue code) n = refl
+is-not-blank hole n = refl
+is-not-blank blank n = absurd (n refl)
+
 unfoldable pub corners-checked : Side → Grid → Drawing → Bool
 unfolding has-corner diagonal not-blank all-below
 corners-checked side g D = all-below (λ p. not (has-corner side D p) || (not-blank (g .cell (diagonal side (g .width) p))
     || has-corner side D (diagonal side (g .width) p))) (pads g)
 
+-- has the pad a neighbour to the right and one below
+abbrev pub is-square : Grid → ℕ → Bool
+is-square g v = ltb (v % g .width + 1) (g .width) && ltb (v + g .width) (pads g)
+
 unfoldable pub squares-checked : Grid → Drawing → Bool
 unfolding all-below
-squares-checked g D = all-below (λ v. leb (square-lines g D v) 2) (pads g)
+squares-checked g D = all-below (λ v. not (is-square g v) || leb (square-lines g D v) 2) (pads g)
 
 module _ (g : Grid) (D : Drawing) (ordinary : Ordinary g D) where
   corner-in-range : (side : Side) (p : ℕ) → Corner side D p → p < pads g
@@ -79,9 +94,37 @@ module _ (g : Grid) (D : Drawing) (ordinary : Ordinary g D) where
   -- an ordinary drawing that passes them is listed
   pub checked-listed : squares-checked g D ≡ true → corners-checked on-left g D ≡ true → corners-checked on-right g D ≡ true → Listed g D
   unfolding squares-checked
-  checked-listed squares left-corners right-corners = record
-      { ordinary = ordinary; squares = λ v u. omega (arith, leb-true (square-lines g D v) 2 (all-below-at _ (pads g) squares v (u .0 .0))); corners = by-side }
+  checked-listed squares left-corners right-corners = record { ordinary = ordinary; squares = by-square; corners = by-side }
     where
+      by-square : (v : ℕ) → UnitSquare g v → square-lines g D v ≤ 2
+      by-square v ((below, inside), down-inside) = ⊎-elim
+          (λ n. conflict (both-on (lt-ltb _ _ inside) (lt-ltb _ _ down-inside)) (not-true (is-square g v) n))
+          (λ few. leb-true (square-lines g D v) 2 few) (either (not (is-square g v)) _ (all-below-at _ (pads g) squares v below))
+
       by-side : (side : Side) (p q : ℕ) → DiagonallyBelow side (g .width) p q → Corner side D p → NotBlank g q ⊎ Corner side D q
       by-side on-left = corner-checked on-left left-corners
       by-side on-right = corner-checked on-right right-corners
+
+-- and a listed one passes them
+module _ (g : Grid) (some : 0 < g .width) (D : Drawing) (listed : Listed g D) where
+  pub listed-squares : squares-checked g D ≡ true
+  unfolding squares-checked
+  listed-squares = all-below-so _ (pads g) (λ v below. go v below (is-square g v) refl)
+    where
+      go : (v : ℕ) → v < pads g → (b : Bool) → is-square g v ≡ b → not (is-square g v) || leb (square-lines g D v) 2 ≡ true
+      go v below false h = rw h refl
+      go v below true h = let (inside, down-inside) = both (ltb (v % g .width + 1) (g .width)) _ h in
+          either-on (not (is-square g v)) (leb (square-lines g D v) 2) (inr (le-leb _ _ (listed .squares v ((below, ltb-true _ _ inside), ltb-true _ _ down-inside))))
+
+  pub listed-corners : (side : Side) → corners-checked side g D ≡ true
+  unfolding corners-checked
+  listed-corners side = all-below-so _ (pads g) (λ p below. go p (has-corner side D p) refl)
+    where
+      go : (p : ℕ) → (b : Bool) → has-corner side D p ≡ b
+          → not (has-corner side D p) || (not-blank (g .cell (diagonal side (g .width) p)) || has-corner side D (diagonal side (g .width) p)) ≡ true
+      go p false h = rw h refl
+      go p true h =
+          let q = diagonal side (g .width) p in
+          let corner = is-corner side D p h in
+          let kept = ⊎-map (is-not-blank (g .cell q)) (corner-is side D q) (listed .corners side p q (is-diagonal side (g .width) p some) corner) in
+          either-on (not (has-corner side D p)) (not-blank (g .cell q) || has-corner side D q) (inr (either-on (not-blank (g .cell q)) (has-corner side D q) kept))

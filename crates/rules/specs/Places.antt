@@ -111,11 +111,16 @@ module _ (width v : ℕ) where
     | no n ↦ let k : v % width < width = mod-lt v some in omega arith
   ]
 
--- the first pad of an edge of the board is a pad
+-- the first and the second pad of an edge of the board are pads
 pub first-inside : (g : Grid) (e : Edge) → OnBoard g e → first e < pads g
 unfolding OnBoard
 first-inside g (right v) h = h .0
 first-inside g (down v) h = omega arith
+
+pub second-inside : (g : Grid) (e : Edge) → OnBoard g e → second (g .width) e < pads g
+unfolding OnBoard
+second-inside g (right v) (below, inside) = next-in-row (g .width) v (g .height) inside below
+second-inside g (down v) h = h
 
 module _ (g : Grid) (wide : 2 ≤ g .width) where
   abbrev some : 0 < g .width

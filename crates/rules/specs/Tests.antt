@@ -61,6 +61,11 @@ all-below-at test zero h v l = absurd (omega arith)
 all-below-at test (suc n) h v l = elim (ℕ-discrete v n)
     [ yes e ↦ rw e (both (all-below test n) (test n) h .1) | no ne ↦ all-below-at test n (both (all-below test n) (test n) h .0) v (omega arith) ]
 
+pub all-below-so : (test : ℕ → Bool) (n : ℕ) → ((v : ℕ) → v < n → test v ≡ true) → all-below test n ≡ true
+unfolding all-below
+all-below-so test zero so = refl
+all-below-so test (suc n) so = both-on (all-below-so test n (λ v l. so v (omega arith))) (so n (omega arith))
+
 -- the number of a test is 0 or 1, and 0 only where it fails
 pub num-small : (b : Bool) → num b ≤ 1
 num-small true = omega arith

@@ -1,6 +1,6 @@
 -- `boardparts::passed` meets its contract.
 use Rattle.boardview.specs.Signed.{from-bits, not-passed, end-read}
-use Rattle.model.specs.Board.{isThrough}
+use Rattle.model.specs.JoinedEnds.{isThrough}
 use Rattle.boardview.specs.View.{end-of}
 use lib.IntN.{pos}
 use lib.ListN.{getD}

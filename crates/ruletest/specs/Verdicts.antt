@@ -1,0 +1,172 @@
+-- WHAT THE JUDGE SAYS OF A DRAWING, in the words of the rules: 1 or 2 exactly where the record is that of an ordinary drawing of the grid, 2
+-- exactly where it is that of a listed one, and that is exactly where a complete list of `solve` holds it, whoever drew it; the lines are the
+-- drawing's. It rests on RuleTest.antt and on what a search promises (crate `promises`).
+use Prim.Native.Nat.{ℕ, _≤_}
+use mathlib.Core.Path.{_≡_, refl, sym, _∙_, ap}
+use mathlib.Core.Logic.{_↔_}
+use mathlib.Core.Bool.{Bool, true, false, _&&_}
+use mathlib.Core.List.{List, [], List·Memᴰ}
+use native.Mathlib.Omega.{arith}
+use lib.ListN.{length}
+use lib.IntN.{ℤ}
+use borrow.Author.Tests.{eq-eqb, ne-eqb}
+use lib.Dec.{eqb}
+use Rattle.rules.specs.Grid.{Grid, grid-of, places, Accepted}
+use Rattle.rules.specs.Drawing.{Drawing, drawn, Ordinary, number-of-lines}
+use Rattle.rules.specs.Record.{byte-of, record-of, record-lines, OrdinaryRecord, ListedRecord}
+use Rattle.rules.specs.RecordLaws.{length-field}
+use Rattle.rules.specs.LineCount.{record-lines-of}
+use Rattle.rules.specs.Tests.{conflict}
+use Rattle.model.specs.Choice.{if_then_else_}
+use Rattle.model.specs.Bounds.{is-size}
+use Rattle.model.specs.Refusals.{grid-refusal}
+use Rattle.model.specs.RefusalLaws.{test-of-size, accepted-is-not-refused}
+use Rattle.model.specs.Search.{Run, scan, search, solved, solve}
+use Rattle.model.specs.Judge.{Judged, is-ordinary-record, has-listed-shape, verdict, judge}
+use Rattle.propagation.specs.ProperGrid.{Proper, accepted-proper}
+use Rattle.exact.specs.Exact.{solve-is-run}
+use Rattle.promises.specs.Promises.{complete-list, Promised, promised}
+use Rattle.ruletest.specs.RuleTest.{ordinary-exactly, listed-exactly}
+use Rattle.ruletest.specs.HeldRecords.{Holds, is-held, held-is}
+
+-- what is said of a record on an accepted grid
+pub record Says (height width : ℕ) (cells : List ℤ) (bytes : List ℕ) (said : Judged) : Type 1 where
+  -- the grid is not refused
+  pub accepted : (said .number ≡ 0) × (said .index ≡ 0)
+  -- a verdict is 0, 1 or 2
+  pub at-most-2 : said .verdict ≤ 2
+  -- at least 1 exactly where it is the record of an ordinary drawing
+  pub ordinary : (1 ≤ said .verdict) ↔ OrdinaryRecord (grid-of height width cells) bytes
+  -- 2 exactly where it is the record of a listed one
+  pub listed : (said .verdict ≡ 2) ↔ ListedRecord (grid-of height width cells) bytes
+  -- and that is exactly where a search that ended complete, with whatever limit and buffer, has left it in its buffer
+  pub in-complete-list : (limit : ℕ) (buffer : List ℕ) → solve height width cells limit buffer .outcome ≡ 0
+      → (said .verdict ≡ 2) ↔ Holds height width (solve height width cells limit buffer) bytes
+  -- the lines are those of the drawing, and 0 beside 0
+  pub its-lines : (D : Drawing) → Ordinary (grid-of height width cells) D → bytes ≡ record-of (grid-of height width cells) D
+      → said .lines ≡ number-of-lines (grid-of height width cells) D
+  pub no-lines : said .verdict ≡ 0 → said .lines ≡ 0
+
+-- ## The verdict
+
+module _ (g : Grid) (proper : Proper g) (bytes : List ℕ) where
+  -- by the two tests
+  record Told (ordinary shape : Bool) : Type 0 where
+    is : verdict g bytes ≡ (if ordinary then (if shape then 2 else 1) else 0)
+
+  told : Told (is-ordinary-record g bytes) (has-listed-shape g bytes)
+  told = record { is = unfold verdict in refl }
+
+  pub verdict-small : verdict g bytes ≤ 2
+  verdict-small = go (is-ordinary-record g bytes) (has-listed-shape g bytes) told
+    where
+      go : (o s : Bool) → Told o s → verdict g bytes ≤ 2
+      go false s t = omega (arith, t .is)
+      go true false t = omega (arith, t .is)
+      go true true t = omega (arith, t .is)
+
+  some-test : (1 ≤ verdict g bytes) ↔ (is-ordinary-record g bytes ≡ true)
+  some-test = go (is-ordinary-record g bytes) (has-listed-shape g bytes) told
+    where
+      go : (o s : Bool) → Told o s → (1 ≤ verdict g bytes) ↔ (o ≡ true)
+      go false s t = ((λ h. absurd (omega (arith, t .is))), λ h. conflict h refl)
+      go true false t = ((λ h. refl), λ h. omega (arith, t .is))
+      go true true t = ((λ h. refl), λ h. omega (arith, t .is))
+
+  both-tests : (verdict g bytes ≡ 2) ↔ (is-ordinary-record g bytes && has-listed-shape g bytes ≡ true)
+  both-tests = go (is-ordinary-record g bytes) (has-listed-shape g bytes) told
+    where
+      go : (o s : Bool) → Told o s → (verdict g bytes ≡ 2) ↔ (o && s ≡ true)
+      go false s t = ((λ h. absurd (omega (arith, t .is))), λ h. conflict h refl)
+      go true false t = ((λ h. absurd (omega (arith, t .is))), λ h. conflict h refl)
+      go true true t = ((λ h. refl), λ h. omega (arith, t .is))
+
+  pub ordinary-verdict : (1 ≤ verdict g bytes) ↔ OrdinaryRecord g bytes
+  ordinary-verdict = ((λ h. ordinary-exactly g proper bytes .0 (some-test .0 h)), λ r. some-test .1 (ordinary-exactly g proper bytes .1 r))
+
+  pub listed-verdict : (verdict g bytes ≡ 2) ↔ ListedRecord g bytes
+  listed-verdict = ((λ h. listed-exactly g proper bytes .0 (both-tests .0 h)), λ r. both-tests .1 (listed-exactly g proper bytes .1 r))
+
+-- ## The call
+
+module _ (height width : ℕ) (cells : List ℤ) (accepted : Accepted height width cells) (bytes : List ℕ) where
+  abbrev g : Grid
+  g = grid-of height width cells
+
+  proper : Proper g
+  proper = accepted-proper height width cells accepted
+
+  abbrev its-verdict : ℕ
+  its-verdict = verdict g bytes
+
+  judged : judge height width cells bytes ≡ record { number = 0; index = 0; verdict = its-verdict; lines = if eqb its-verdict 0 then 0 else record-lines bytes }
+  unfolding judge
+  judged = rw (accepted-is-not-refused height width cells accepted) refl
+
+  -- a listed record is one of the complete list of `solve`, and none else is
+  module _ (limit : ℕ) (buffer : List ℕ) (complete : solve height width cells limit buffer .outcome ≡ 0) where
+    abbrev run : Run
+    run = scan limit (places height width) 0 (length buffer) (search g)
+
+    solves-it : solve height width cells limit buffer ≡ solved run buffer
+    solves-it = solve-is-run height width cells accepted limit buffer
+
+    its-promise : Promised g limit (length buffer) run
+    its-promise = promised height width cells accepted limit (length buffer)
+
+    whole : run .records ≡ complete-list g
+    whole = its-promise .complete (sym (ap (λ s. s .outcome) solves-it) ∙ complete)
+
+    listed-member : (r : List ℕ) → ListedRecord g r ↔ List·Memᴰ r (run .records)
+    listed-member r = (
+      (λ l. rw (whole, l .shown) (its-promise .exactly-the-listed .nothing-lost (l .drawing) (l .listed))),
+      λ m. its-promise .exactly-the-listed .nothing-added r (rw whole at m),
+    )
+
+    long : (r : List ℕ) → List·Memᴰ r (run .records) → length r ≡ places height width
+    unfolding record-of grid-of
+    long r m = let l = listed-member r .1 m in ap length (l .shown) ∙ length-field height width (λ e. byte-of (drawn (l .drawing) e))
+
+    abbrev tall-enough : is-size height ≡ true
+    tall-enough = test-of-size height (accepted .height-in-range)
+
+    abbrev wide-enough : is-size width ≡ true
+    wide-enough = test-of-size width (accepted .width-in-range)
+
+    held : ListedRecord g bytes → Holds height width (solved run buffer) bytes
+    held l = let (k, below, there) = is-held height width (length (run .records)) tall-enough wide-enough (run .records) long [] _ 0 (omega arith) (omega arith) bytes (listed-member bytes .0 l) in
+        record { k = k; below = below; there = there }
+
+    from-held : Holds height width (solved run buffer) bytes → ListedRecord g bytes
+    from-held h = listed-member bytes .1 (rw (sym (h .there))
+        (held-is height width (length (run .records)) tall-enough wide-enough (run .records) long [] _ 0 (omega arith) (omega arith) (h .k) (omega arith) (omega (arith, h .below))))
+
+    pub listed-held : (its-verdict ≡ 2) ↔ Holds height width (solve height width cells limit buffer) bytes
+    listed-held = rw solves-it ((λ h. held (listed-verdict g proper bytes .0 h)), λ h. listed-verdict g proper bytes .1 (from-held h))
+
+  -- the lines of its drawing
+  drawing-lines : (D : Drawing) → Ordinary g D → bytes ≡ record-of g D → (if eqb its-verdict 0 then 0 else record-lines bytes) ≡ number-of-lines g D
+  drawing-lines D ordinary shown =
+      let some : 1 ≤ its-verdict = ordinary-verdict g proper bytes .1 (record { drawing = D; ordinary = ordinary; shown = shown }) in
+      rw (ne-eqb its-verdict 0 (λ e. omega arith)) (ap record-lines shown ∙ record-lines-of g (proper .tall) (proper .wide) D (ordinary .placed))
+
+  none-beside-0 : its-verdict ≡ 0 → (if eqb its-verdict 0 then 0 else record-lines bytes) ≡ 0
+  none-beside-0 e = rw (eq-eqb its-verdict 0 e) refl
+
+  -- ON AN ACCEPTED GRID
+  pub judge-says : Says height width cells bytes (judge height width cells bytes)
+  judge-says = rw judged (record {
+    accepted = (refl, refl);
+    at-most-2 = verdict-small g proper bytes;
+    ordinary = ordinary-verdict g proper bytes;
+    listed = listed-verdict g proper bytes;
+    in-complete-list = listed-held;
+    its-lines = drawing-lines;
+    no-lines = none-beside-0;
+  })
+
+-- ON ANY OTHER GRID: its number beside a 0
+pub refused-says : (height width : ℕ) (cells : List ℤ) (bytes : List ℕ) → (grid-refusal height width cells .0 ≡ 0 → ⊥)
+    → judge height width cells bytes ≡ record { number = grid-refusal height width cells .0; index = grid-refusal height width cells .1; verdict = 0; lines = 0 }
+unfolding judge
+refused-says height width cells bytes refused = rw (ne-eqb _ 0 refused) refl

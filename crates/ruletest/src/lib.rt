@@ -1,0 +1,1 @@
+// The theory of the judge of a drawing. There is no code here: the statements and their proofs stand in specs/.
