@@ -61,7 +61,7 @@ module _ (g : Grid) (few : pads g ≤ 256) (edges : List ℕ) (filled : EdgesFro
       go false = refl
 
 -- ENDS
-module _ (g : Grid) (cells : List ℤ) (ends : List ℤ) (few : length cells ≤ 256) (filled : EndsFrom cells 0 ends) where
+module _ (cells : List ℤ) (ends : List ℤ) (few : length cells ≤ 256) (filled : EndsFrom cells 0 ends) where
   bare-end-of : (z : ℤ) (v : ℕ) → end-of (bare-end-number z v) ≡ bare-end v (cell-of z)
   unfolding end-of bare-end-number cell-of
   bare-end-of (pos code) v = refl
@@ -178,15 +178,15 @@ module _ (height width : ℕ) (cells : List ℤ) (ok : Accepted height width cel
       entries = λ k below. absurd (omega arith);
       bytes = bare-bytes (plain the-grid) few edges filled-edges;
       rim = bare-rim (plain the-grid) few edges filled-edges;
-      near = λ v w h e. rw (own-end the-grid cells ends few-cells filled-ends v w e) h;
-      paired = λ v w e. let same = own-end the-grid cells ends few-cells filled-ends v w e in ap (λ x. end-at ends x) same ∙ (e ∙ ap at-pad same);
+      near = λ v w h e. rw (own-end cells ends few-cells filled-ends v w e) h;
+      paired = λ v w e. let same = own-end cells ends few-cells filled-ends v w e in ap (λ x. end-at ends x) same ∙ (e ∙ ap at-pad same);
     }
 
     shows-bare : (log : List ℤ) → view (the-arrays log) ≡ bare the-grid
     unfolding view bare grid-of
     shows-bare log = λ i. record {
       edge = λ e. bare-edge the-grid few edges filled-edges e i;
-      end = λ v. bare-end-at the-grid cells ends few-cells filled-ends v i;
+      end = λ v. bare-end-at cells ends few-cells filled-ends v i;
       flag = false;
     }
 

@@ -1,20 +1,19 @@
 -- The head and the lines together are the text that `routes` prints: for every file and every buffer (`whole`); for a buffer of 61,504 bytes
 -- and every file (`whole-file`); and for the first 4,096 bytes of any standard input (`routes-whole`). It rests on the contracts of `head`
 -- and `line` (Listing.antt), on BufferRecords.antt, and on the laws of the reader.
-use Prim.Native.Nat.{ℕ, zero, suc, _+_, _*_, _-_}
+use Prim.Native.Nat.{ℕ, zero, suc, _+_, _*_}
 use mathlib.Core.Path.{_≡_, refl, sym, ap, _∙_}
 use mathlib.Core.Bool.{true}
 use mathlib.Core.List.{List, [], _++_, append-nil}
 use native.Mathlib.Omega.{arith}
 use lib.ListN.{length, take}
-use lib.Seq.{take-at}
 use Rattle.rules.specs.Grid.{grid-of, places, Accepted}
 use Rattle.model.specs.Bounds.{is-size}
 use Rattle.model.specs.RefusalLaws.{test-of-size}
 use Rattle.model.specs.GridFile.{Reading, read}
 use Rattle.model.specs.Printed.{layout-lines, found-text, reading-text, printed}
 use Rattle.model.specs.Routes.{routes-room, routes-found, routes-text}
-use Rattle.printed.specs.Written.{zeros, Written}
+use Rattle.printed.specs.Written.{text-of-bytes}
 use Rattle.reading.specs.ReadingLaws.{SoundReading, read-sound}
 use Rattle.reading.specs.LongFiles.{first-bytes-suffice}
 use Rattle.searchview.specs.Sizes.{search-sized}
@@ -22,10 +21,6 @@ use Rattle.printed.specs.declared.LayoutLine.{LayoutLine}
 use Rattle.listing.specs.declared.Heading.{Heading}
 use Rattle.listing.specs.Listing.{found-within, grid-found, file-text, reading-head, reading-records, put-records, Headed, Lined}
 use Rattle.listing.specs.BufferRecords.{AllLong, lines-from, lines-there, scan-long}
-
--- the bytes before the length are the text
-pub text-of-bytes : {size : ℕ} {text bytes : List ℕ} {long : ℕ} → Written size text bytes long → take long bytes ≡ text
-text-of-bytes {size} {text} {bytes} {long} w = ap (λ (l : List ℕ). take long l) (w .all-bytes) ∙ take-at text (zeros (size - length text)) long (sym (w .its-length))
 
 -- the bytes of so many lines from layout k on, each up to its length
 unfoldable pub line-bytes : (ℕ → LayoutLine) → ℕ → ℕ → List ℕ

@@ -1,6 +1,7 @@
 -- `printed::layout_line` meets its contract: the array is filled by two numbers, the codes and the line's end; it stays
 -- empty where H or W is out of bounds. Assumes nothing.
-use Rattle.printed.proofs.LineLaws.{filled-first, filled-more, filled-room, filled-written, digits-20, field-21, codes-256, layout-parts, no-height, no-width}
+use Rattle.printed.specs.Filled.{filled-first, filled-more, filled-room, filled-written, digits-20, field-21}
+use Rattle.printed.proofs.LineLaws.{codes-256, layout-parts, no-height, no-width}
 use Rattle.printed.specs.Written.{nothing-written}
 use Rattle.printed.proofs.CodeLaws.{all-pads}
 use borrow.Author.Tests.{not-true, not-false}

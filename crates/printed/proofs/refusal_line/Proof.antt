@@ -1,6 +1,7 @@
 -- `printed::refusal_line` meets its contract: the array is filled by the word and the line's three numbers.
 -- Assumes nothing.
-use Rattle.printed.proofs.LineLaws.{filled-first, filled-more, filled-room, filled-written, digits-20, digits-3, field-21, field-4, refusal-parts}
+use Rattle.printed.specs.Filled.{filled-first, filled-more, filled-room, filled-written, digits-20, digits-3, field-21, field-4}
+use Rattle.printed.proofs.LineLaws.{refusal-parts}
 use Rattle.model.specs.Text.{bytes}
 use native.Mathlib.Omega.{arith}
 use borrow.Author.Needs.{needs}

@@ -1,5 +1,6 @@
 -- `printed::summary_line` meets its contract: the array is filled by the line's four parts. Assumes nothing.
-use Rattle.printed.proofs.LineLaws.{filled-first, filled-more, filled-room, filled-written, digits-20, digits-3, field-21, field-4, summary-parts}
+use Rattle.printed.specs.Filled.{filled-first, filled-more, filled-room, filled-written, digits-20, digits-3, field-21, field-4}
+use Rattle.printed.proofs.LineLaws.{summary-parts}
 use native.Mathlib.Omega.{arith}
 use borrow.Author.Needs.{needs}
 use Rattle.printed.proofs.summary_line.Statement.{statement}

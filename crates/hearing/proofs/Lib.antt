@@ -1,0 +1,4 @@
+-- Laws that the proofs of the crate share.
+mod DigitLaws
+mod RowLaws
+mod TextLaws

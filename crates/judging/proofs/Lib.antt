@@ -1,0 +1,8 @@
+-- Laws that the proofs of the crate cite.
+mod Lines
+mod Stretches
+mod Cells
+mod Drawn
+mod EveryPad
+mod Ordinary
+mod Answers

@@ -1,0 +1,47 @@
+-- What the functions that follow a record promise of the array of the ends: what it shows after a line, an edge, a place and a stretch of the
+-- record, and that every pad which an end names has its number in the array. It rests on the model's Judge.antt and on boardview's View.antt.
+-- Nothing is proved in this file.
+use Prim.Native.Nat.{ℕ, _<_}
+use mathlib.Core.Path.{_≡_}
+use mathlib.Core.Bool.{Bool, true, false}
+use mathlib.Core.List.{List}
+use lib.Dec.{eqb}
+use lib.ListN.{getD, length}
+use lib.IntN.{ℤ}
+use Rattle.rules.specs.Grid.{cell-of, blank-cell, Grid}
+use Rattle.rules.specs.Record.{line-byte, none-byte}
+use Rattle.model.specs.Choice.{if_then_else_}
+use Rattle.model.specs.JoinedEnds.{End, at-pad}
+use Rattle.model.specs.Judge.{Followed, wrong, so-far, after-line, followed, finished}
+use Rattle.boardview.specs.View.{end-at}
+
+-- WHAT A FUNCTION TELLS: true and the ends, or false where a byte or a line was wrong
+abbrev pub told : Bool → List ℤ → Followed
+told true ends = so-far (λ v. end-at ends v)
+told false ends = wrong
+
+-- IN USE: the array has 512 ends, and each pad that an end names is below 512
+pub record InUse (ends : List ℤ) : Type 0 where
+  pub long : length ends ≡ 512
+  pub near : (v w : ℕ) → v < 512 → end-at ends v ≡ at-pad w → w < 512
+
+-- A STEP was followed, from one array to the next
+pub record Stepped (step : (ℕ → End) → Followed) (before : List ℤ) (r : Bool) (after : List ℤ) : Type 0 where
+  pub says : told r after ≡ step (λ v. end-at before v)
+  pub in-use : InUse after
+
+-- the byte of an edge between pads u and v: 1 for a line, 2 for none, and no other
+unfoldable pub after-edge : ℕ → ℕ → ℕ → (ℕ → End) → Followed
+after-edge u v byte ends =
+    if eqb byte line-byte then after-line u v ends
+    else if eqb byte none-byte then so-far ends
+    else wrong
+
+-- A STRETCH OF A RECORD was followed, from place number `from` up to `upto`, whatever the cells of the grid are
+pub record FollowedOn (width : ℕ) (bytes : List ℕ) (from upto : ℕ) (before : List ℤ) (r : Bool) (after : List ℤ) : Type 0 where
+  pub says : (g : Grid) → g .width ≡ width → followed g bytes from ≡ told true before → followed g bytes upto ≡ told r after
+  pub in-use : InUse after
+
+-- whether a pad is finished, by the list of cells and the array of ends
+unfoldable pub finished-at : List ℤ → List ℤ → ℕ → Bool
+finished-at cells ends v = finished (cell-of (getD cells v blank-cell)) v (end-at ends v)
