@@ -31,7 +31,7 @@
  *   6  the file ends before its last row does, or goes on after it
  *  13  a byte that is no digit, no comma and no line end, after a digit of its field: a letter typed for a digit, or a `#`, a
  *      space or a return (0D hexadecimal) behind a number
- * A grid, for a board, a search or writing:
+ * A grid, for a board, a search, a drawing to be judged or writing:
  *   7  a height or width outside 2 to 16
  *   8  the number of cells is not height * width
  *   9  a cell below -2 or equal to 2147483647
@@ -131,6 +131,32 @@ size_t hunekowha_solve(size_t height, size_t width, const int32_t *cells, size_t
  */
 size_t hunekowha_record(size_t height, size_t width, size_t count, size_t k, const uint8_t *buffer, size_t buffer_length,
                         uint64_t *answer, size_t answer_length);
+
+/*
+ * Judges a drawing, whoever drew it: whether a record is that of a layout of the grid, and whether hunekowha_solve lists it.
+ *
+ * A drawing is ordinary if a pad with a code has one line, a hole none and every other pad none or two, if no lines close a
+ * loop, and if each chain of lines joins two pads of equal code. It is listed if besides no unit square (four neighbouring
+ * pads) has more than two lines, and if a pad with lines to the right and downward, or to the left and downward, has
+ * diagonally below it, on that side, a code, a hole or a pad with the same two lines. A complete list of hunekowha_solve
+ * holds exactly the listed drawings.
+ *
+ *   height, width          the size of the grid
+ *   cells, cells_length    its cells, height * width of them
+ *   record, record_length  the record of the drawing, (2 * height - 1) * (2 * width - 1) bytes: 1 or 2 at each edge place, 0 at
+ *                          all others
+ *   answer, answer_length  at least 4 numbers
+ *
+ * Returns 4, or 0 where `answer` is too short.
+ *   answer[0]  0, or the number of the refusal of the grid, 7 to 9, whatever the record holds
+ *   answer[1]  the index of the first bad cell beside 9, else 0
+ *   answer[2]  the verdict: 0 no layout, 1 an ordinary one that is not listed, 2 a listed one. A record of another length, one
+ *              with a byte other than 1 or 2 at an edge place, or with a byte other than 0 at another place, is no layout; 0
+ *              beside a refusal
+ *   answer[3]  how many lines the drawing has; 0 beside the verdict 0
+ */
+size_t hunekowha_judge(size_t height, size_t width, const int32_t *cells, size_t cells_length, const uint8_t *record,
+                       size_t record_length, uint64_t *answer, size_t answer_length);
 
 /*
  * Makes calls on a board, one after another, and writes what the board shows after each. The board begins as the fresh

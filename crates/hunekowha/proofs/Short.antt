@@ -15,7 +15,8 @@ use Rattle.model.specs.Bounds.{is-size}
 use Rattle.model.specs.GridFile.{Reading, read}
 use Rattle.model.specs.Writing.{Writing, write}
 use Rattle.model.specs.Records.{record-length, has-record, record-at}
-use Rattle.hunekowha.specs.Lent.{written, read-numbers, read-gives, write-numbers, write-gives, record-place, record-gives, solve-numbers, solve-gives}
+use Rattle.model.specs.Judge.{Judged, judge}
+use Rattle.hunekowha.specs.Lent.{written, read-numbers, read-gives, write-numbers, write-gives, record-place, record-gives, judge-numbers, judge-gives, solve-numbers, solve-gives}
 use Rattle.model.specs.Search.{Solved, solve}
 
 -- a copy of a whole list to the front
@@ -84,6 +85,17 @@ module _ (height width count k : ℕ) (buffer : List ℕ) where
         → after ≡ paste answer 0 (k * length found ∷ length found ∷ []) 2 → record-gives height width count k buffer answer ≡ record { returned = 2; answer = after }
     unfolding record-gives
     record-whole long found after part put = rw (le-leb 2 (length answer) long, put, ← placed found part .0)
+
+-- JUDGE
+module _ (height width : ℕ) (cells : List ℤ) (bytes answer : List ℕ) where
+  pub judge-short : length answer < 4 → judge-gives height width cells bytes answer ≡ record { returned = 0; answer = answer }
+  unfolding judge-gives
+  judge-short short = rw (lt-leb 4 (length answer) short)
+
+  pub judge-whole : 4 ≤ length answer → (r : Judged) (after : List ℕ) → r ≡ judge height width cells bytes
+      → after ≡ paste answer 0 (judge-numbers r) 4 → judge-gives height width cells bytes answer ≡ record { returned = 4; answer = after }
+  unfolding judge-gives
+  judge-whole long r after same put = rw (le-leb 4 (length answer) long, put, ← same)
 
 -- SOLVE
 module _ (height width : ℕ) (cells : List ℤ) (limit : ℕ) (buffer answer : List ℕ) where

@@ -10,6 +10,7 @@ use lib.IntN.{ℤ}
 use Rattle.model.specs.GridFile.{Reading, read}
 use Rattle.model.specs.Writing.{Writing, write}
 use Rattle.model.specs.Records.{record-length, has-record}
+use Rattle.model.specs.Judge.{Judged, judge}
 use Rattle.model.specs.Search.{Solved, solve}
 
 -- a list whose first elements were overwritten
@@ -50,11 +51,12 @@ write-gives height width cells text answer =
     }
     else record { returned = 0; text = text; answer = answer }
 
--- RECORD: where record k begins and how many bytes it has; 0 and 0 where there is none
+-- RECORD: what is returned, and the numbers after the call
 pub record NumbersGiven : Type 0 where
   pub returned : ℕ
   pub answer : List ℕ
 
+-- where record k begins and how many bytes it has; 0 and 0 where there is none
 unfoldable pub record-place : ℕ → ℕ → ℕ → ℕ → ℕ → List ℕ
 record-place height width count k room =
     if has-record height width count k room
@@ -65,6 +67,16 @@ unfoldable pub record-gives : ℕ → ℕ → ℕ → ℕ → List ℕ → List 
 record-gives height width count k buffer answer =
     if leb 2 (length answer)
     then record { returned = 2; answer = written (record-place height width count k (length buffer)) answer }
+    else record { returned = 0; answer = answer }
+
+-- JUDGE: the refusal of the grid, or the verdict on the record and its lines
+abbrev pub judge-numbers : Judged → List ℕ
+judge-numbers r = r .number ∷ r .index ∷ r .verdict ∷ r .lines ∷ []
+
+unfoldable pub judge-gives : ℕ → ℕ → List ℤ → List ℕ → List ℕ → NumbersGiven
+judge-gives height width cells bytes answer =
+    if leb 4 (length answer)
+    then record { returned = 4; answer = written (judge-numbers (judge height width cells bytes)) answer }
     else record { returned = 0; answer = answer }
 
 -- SOLVE: what is returned, the buffer and the numbers after the call

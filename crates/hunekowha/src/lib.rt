@@ -1,6 +1,6 @@
-// The router for other languages: reading and writing a grid file, the search, a record's place, and board calls replayed. hunekowha.h
-// beside this folder explains each function, argument and number. Each result, and every lent number and byte after the call, is what
-// specs/Lent.antt says. No function asks anything of its caller beyond what the types say.
+// The router for other languages: reading and writing a grid file, the search, a record's place, a drawing judged, and board calls replayed.
+// hunekowha.h beside this folder explains each function, argument and number. Each result, and every lent number and byte after the call, is
+// what specs/Lent.antt says. No function asks anything of its caller beyond what the types say.
 ghost use mathlib.Core.Path.{_≡_};
 ghost use Rattle.model.specs.Calls as model;
 ghost use Rattle.board.specs.Held.{Held, IsBoard, Says};
@@ -10,7 +10,7 @@ ghost use lib.Seq.{paste};
 use board::Answer;
 use board::Board;
 use grid::Edge;
-ghost use Rattle.hunekowha.specs.Lent.{read-gives, write-gives, record-gives, solve-gives};
+ghost use Rattle.hunekowha.specs.Lent.{read-gives, write-gives, record-gives, judge-gives, solve-gives};
 ghost use Rattle.hunekowha.specs.Replay.{replay-gives};
 
 // Reads a grid file into five numbers and 256 cells.
@@ -81,6 +81,31 @@ pub extern "C" fn hunekowha_record(
     let numbers = [(k * length) as u64, length as u64];
     lend::put_numbers(answer, 0, &numbers);
     2
+}
+
+// Judges a drawing of a grid, held as a record, and writes four numbers.
+#[no_mangle]
+pub extern "C" fn hunekowha_judge(
+    height: usize,
+    width: usize,
+    cells: &[i32],
+    bytes: &[u8],
+    answer: &mut [u64],
+) -> usize
+    ensures { λ r. ⌜ judge-gives height width (now (cells .entry)) (now (bytes .entry)) (now (answer .entry)) ≡ record { returned = r; answer = now (answer .exit) } ⌝ }
+{
+    if answer.len() < 4 {
+        return 0;
+    }
+    let judged = judging::judge(height, width, cells, bytes);
+    let numbers = [
+        judged.number as u64,
+        judged.index as u64,
+        judged.verdict as u64,
+        judged.lines as u64,
+    ];
+    lend::put_numbers(answer, 0, &numbers);
+    4
 }
 
 // A state as an edge: a byte as it is, and any larger number, which is no state, as undecided.
