@@ -1,12 +1,14 @@
 // The library and the reference side by side: processor time of one search
 // with the limit and room of `routes`, best of five, the two taken in turn, a
-// short search repeated until it takes 0.2 seconds; as a table in Markdown.
+// short search repeated until it takes 0.2 seconds; as a table in Markdown. And
+// how long the library takes to judge a drawing.
 
-use crate::answers::{limited, Pads};
+use crate::answers::{limited, Pads, LINE};
+use crate::drawn::listed;
 use crate::grids::{LIMIT, ROOM};
 use crate::library;
 use crate::routes::read;
-use crate::time::seconds_each;
+use crate::time::{best_of_five, seconds_each};
 use std::hint::black_box;
 
 struct Row {
@@ -92,4 +94,38 @@ pub fn print_table(files: &[(&str, Vec<u8>)]) {
         total.library += row.library;
     }
     print_row(&total);
+}
+
+/// Microseconds to judge one of the records, on the average, best of five; each
+/// must have the verdict.
+fn judge_time(pads: &Pads, records: &[Vec<u8>], verdict: u64) -> f64 {
+    let (size, mut answer) = ((pads.height, pads.width), [0; 4]);
+    let seconds = best_of_five(|| {
+        for record in records {
+            library::judge(size, &pads.cells, black_box(record), &mut answer);
+            assert_eq!(answer[2], verdict);
+        }
+    });
+    seconds * 1e6 / records.len() as f64
+}
+
+/// The layouts of each file, and the same with a wrong byte at the last place.
+pub fn print_judge_times(files: &[(&str, Vec<u8>)]) {
+    for (file, bytes) in files {
+        let Ok(pads) = read(bytes) else {
+            panic!("{file} is refused");
+        };
+        let (layouts, _) = listed(&pads, LIMIT, ROOM);
+        assert!(!layouts.is_empty(), "{file} has no layouts");
+        let mut spoilt = layouts.clone();
+        for record in spoilt.iter_mut() {
+            *record.last_mut().expect("a place") = LINE;
+        }
+        println!(
+            "{file}: {} layouts, {:.2} us for each; {:.2} us with the last byte wrong",
+            layouts.len(),
+            judge_time(&pads, &layouts, 2),
+            judge_time(&pads, &spoilt, 0)
+        );
+    }
 }

@@ -6,11 +6,10 @@
 //   record H,W LENT COUNT K ROOM
 //   file LENT CELLS-LENT HEXADECIMAL
 //   write H,W CELLS LENT ROOM
+//   judge H,W CELLS LENT HEXADECIMAL
 // CELLS are numbers parted by commas, -1 for blank and -2 for a hole. LENT is
 // the length of the slice that is lent for the answer; `-` stands for an empty
 // list.
-
-use std::fmt::Write;
 
 #[derive(Clone, Copy, Debug, PartialEq, Eq)]
 pub enum Asked {
@@ -58,6 +57,11 @@ pub enum Case {
         lent: usize,
         room: usize,
     },
+    Judge {
+        grid: Given,
+        lent: usize,
+        bytes: Vec<u8>,
+    },
 }
 
 fn listed<T: ToString>(items: &[T], between: &str) -> String {
@@ -66,6 +70,10 @@ fn listed<T: ToString>(items: &[T], between: &str) -> String {
     }
     let texts: Vec<String> = items.iter().map(|item| item.to_string()).collect();
     texts.join(between)
+}
+
+fn hexadecimal(bytes: &[u8]) -> String {
+    bytes.iter().map(|byte| format!("{byte:02x}")).collect()
 }
 
 impl std::fmt::Display for Asked {
@@ -110,14 +118,11 @@ impl std::fmt::Display for Case {
                 lent,
                 cells_lent,
                 bytes,
-            } => {
-                let mut text = String::new();
-                for byte in bytes {
-                    write!(text, "{byte:02x}")?;
-                }
-                write!(out, "file {lent} {cells_lent} {text}")
-            }
+            } => write!(out, "file {lent} {cells_lent} {}", hexadecimal(bytes)),
             Case::Write { grid, lent, room } => write!(out, "write {grid} {lent} {room}"),
+            Case::Judge { grid, lent, bytes } => {
+                write!(out, "judge {grid} {lent} {}", hexadecimal(bytes))
+            }
         }
     }
 }
@@ -170,6 +175,11 @@ pub fn read_case(text: &str) -> Case {
         size: read_size(words[1]),
         cells: numbers(words[2]),
     };
+    let bytes = |at: usize| {
+        words
+            .get(at)
+            .map_or(Vec::new(), |text| read_hexadecimal(text))
+    };
     match words[0] {
         "board" => Case::Board {
             grid: grid(),
@@ -192,14 +202,17 @@ pub fn read_case(text: &str) -> Case {
         "file" => Case::File {
             lent: number(words[1]),
             cells_lent: number(words[2]),
-            bytes: words
-                .get(3)
-                .map_or(Vec::new(), |text| read_hexadecimal(text)),
+            bytes: bytes(3),
         },
         "write" => Case::Write {
             grid: grid(),
             lent: number(words[3]),
             room: number(words[4]),
+        },
+        "judge" => Case::Judge {
+            grid: grid(),
+            lent: number(words[3]),
+            bytes: bytes(4),
         },
         word => panic!("no such case: {word}"),
     }

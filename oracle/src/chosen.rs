@@ -11,7 +11,7 @@ use crate::expected::{board_room, grid_text, written_text};
 use crate::random::{any_pads, any_plan, wired_pads, Chooser, Random, LARGEST_CODE};
 use crate::sequences::checkpoint_calls;
 
-fn given(pads: &Pads) -> Given {
+pub fn given(pads: &Pads) -> Given {
     Given {
         size: (pads.height, pads.width),
         cells: pads.cells.clone(),
@@ -24,7 +24,7 @@ pub fn size_of(number: usize) -> (usize, usize) {
 }
 
 /// A length that mostly suffices, sometimes with more, sometimes too short.
-fn any_lent(random: &mut Random, needed: usize) -> usize {
+pub fn any_lent(random: &mut Random, needed: usize) -> usize {
     match random.below(50) {
         0 => needed.saturating_sub(1),
         1 => random.below(needed + 1),
@@ -51,7 +51,7 @@ pub fn drill(random: &mut Random, cells: &mut [i32], percent: usize, only_blank:
 }
 
 /// A grid that is mostly declined; one with holes always is.
-fn odd_grid(random: &mut Random) -> Given {
+pub fn odd_grid(random: &mut Random) -> Given {
     let (height, width) = (2 + random.below(15), 2 + random.below(15));
     let mut grid = given(&any_pads(random, height, width));
     let pads = height * width;

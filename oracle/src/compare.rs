@@ -1,20 +1,25 @@
 // Compares the proved library with the reference: board calls, searches,
 // records, files and writes, chosen by a seed, until the time or the counts
-// are reached; and searches of grids with holes with the rules alone. The first
-// case that differs is made smaller and printed.
+// are reached; and searches of grids with holes, and drawings that are judged,
+// with the rules alone. The first case that differs is made smaller and printed.
 
-use crate::answers::{limited, whole, Call, Pads, Run, HOLE};
-use crate::cases::{read_case, Asked, Case, Given};
+use crate::answers::{limited, whole, Call, Pads, Run};
+use crate::cases::{read_case, Case};
 use crate::chosen::{
-    board_case, declined_search, file_case, known_sequences, record_case, search_case, search_pads,
-    varied_case, write_case,
+    any_lent, board_case, declined_search, file_case, given, known_sequences, record_case,
+    search_case, search_pads, size_of, varied_case, write_case,
 };
-use crate::expected::{by_library, expected, is_known, search_answer, written_text, Answer};
+use crate::drawn::{
+    declined_judge, drawn, flip_edge, judge_case, listed, spoil, tiny_pads, tried_pads, turn_one,
+    turn_squares,
+};
+use crate::expected::{by_library, expected, is_known, judge_answer, search_answer, Answer};
 use crate::grids::{check_beginning, runs_of};
-use crate::holes::{beginning, small_pads, whole_list};
+use crate::holes::{beginning, every_drawing, small_pads, whole_list};
+use crate::judged::{found, Found};
 use crate::random::Random;
+use crate::shown::{ShownCalls, ShownHoles, ShownJudged, ShownNumbers, ShownRooms};
 use crate::smallest::smallest;
-use std::collections::BTreeMap;
 use std::time::{Duration, Instant};
 
 /// How far the comparison goes, and how far it has come.
@@ -25,116 +30,6 @@ pub struct Counts {
     pub files: usize,
 }
 
-/// What the board calls that were compared have shown.
-#[derive(Default)]
-struct ShownCalls {
-    on_flagged: usize,
-    going_on: usize,
-    declined: [usize; 13],
-}
-
-impl ShownCalls {
-    /// Each call has a block: number, answer, flag, and the rest.
-    fn count(&mut self, calls: &[Asked], answer: &Answer) {
-        let (mut flagged, mut on_flagged) = (false, 0);
-        let size = answer.returned / calls.len();
-        for (index, call) in calls.iter().enumerate().take_while(|_| size > 0) {
-            let block = &answer.signed[index * size..];
-            let accepted = block[0] == 0;
-            self.declined[block[0] as usize] += !accepted as usize;
-            on_flagged += (flagged && accepted && matches!(call, Asked::Decide(..))) as usize;
-            flagged = block[2] == 1;
-        }
-        self.on_flagged += on_flagged;
-        self.going_on += (on_flagged >= 3) as usize;
-    }
-
-    fn figures(&self) -> String {
-        format!(
-            "{} decisions on flagged boards, {} sequences with three or more of them; declined calls and boards by number: {:?}",
-            self.on_flagged,
-            self.going_on,
-            (7..13).map(|number| (number, self.declined[number])).collect::<Vec<_>>()
-        )
-    }
-}
-
-/// How many files or writes were accepted (number 0), how many refused, by
-/// number, how many had holes, and how many were written or read back.
-#[derive(Default)]
-struct ShownNumbers {
-    numbers: BTreeMap<u64, usize>,
-    with_holes: usize,
-    back: usize,
-}
-
-impl ShownNumbers {
-    /// Where a slice was too short for the answer, there is no number.
-    fn count(&mut self, answer: &Answer) {
-        if answer.returned > 0 {
-            *self.numbers.entry(answer.numbers[0]).or_default() += 1;
-        }
-        let mut grids = answer.back.iter().chain([answer]);
-        self.with_holes += grids.any(|grid| grid.cells.contains(&HOLE)) as usize;
-        self.back += !answer.back.is_empty() as usize;
-    }
-
-    fn figures(&self) -> String {
-        let (numbers, with_holes, back) = (&self.numbers, self.with_holes, self.back);
-        format!("by number: {numbers:?}; {with_holes} of the accepted with holes; {back} of them")
-    }
-}
-
-/// How many rooms were one short of the text, equal to it and beyond it.
-#[derive(Default)]
-struct ShownRooms {
-    one_short: usize,
-    equal: usize,
-    beyond: usize,
-}
-
-impl ShownRooms {
-    /// Where the grid is declined or no answer is given, there is no text.
-    fn count(&mut self, grid: &Given, room: usize, answer: &Answer) {
-        let length = written_text(grid).len();
-        if length > 0 && answer.returned > 0 {
-            self.one_short += (room + 1 == length) as usize;
-            self.equal += (room == length) as usize;
-            self.beyond += (room > length) as usize;
-        }
-    }
-
-    fn figures(&self) -> String {
-        format!(
-            "rooms: {} one short of the text, {} equal to it, {} beyond it",
-            self.one_short, self.equal, self.beyond
-        )
-    }
-}
-
-/// Searches of small grids, how many grids had holes, and how many of these
-/// had layouts.
-#[derive(Default)]
-struct ShownHoles {
-    searches: usize,
-    grids: usize,
-    with_layouts: usize,
-}
-
-impl ShownHoles {
-    fn count(&mut self, pads: &Pads, all: &Run) {
-        self.grids += pads.has_hole() as usize;
-        self.with_layouts += (pads.has_hole() && all.layouts > 0) as usize;
-    }
-
-    fn figures(&self) -> String {
-        format!(
-            "{} searches by the rules alone; {} grids with holes, {} of them with layouts",
-            self.searches, self.grids, self.with_layouts
-        )
-    }
-}
-
 /// Each kind of case has numbers of its own, so that a seed gives the same
 /// cases however long the others take.
 struct Comparison {
@@ -143,12 +38,14 @@ struct Comparison {
     shown_writes: ShownNumbers,
     shown_rooms: ShownRooms,
     shown_holes: ShownHoles,
+    shown_judged: ShownJudged,
     boards: Random,
     grid_numbers: Random,
     declined: Random,
     file_numbers: Random,
     write_numbers: Random,
     hole_numbers: Random,
+    judge_numbers: Random,
     known: Vec<(Pads, Vec<Call>)>,
     done: Counts,
     whole_searches: usize,
@@ -170,12 +67,14 @@ impl Comparison {
             shown_writes: ShownNumbers::default(),
             shown_rooms: ShownRooms::default(),
             shown_holes: ShownHoles::default(),
+            shown_judged: ShownJudged::default(),
             boards: Random::new(seed),
             grid_numbers: Random::new(seed.wrapping_add(1 << 32)),
             declined: Random::new(seed.wrapping_add(2 << 32)),
             file_numbers: Random::new(seed.wrapping_add(3 << 32)),
             write_numbers: Random::new(seed.wrapping_add(4 << 32)),
             hole_numbers: Random::new(seed.wrapping_add(5 << 32)),
+            judge_numbers: Random::new(seed.wrapping_add(6 << 32)),
             known: known_sequences(),
             done: Counts::default(),
             whole_searches: 0,
@@ -192,7 +91,7 @@ impl Comparison {
 
     fn figures(&self) -> String {
         format!(
-            "{:.0} s: {} board calls in {} sequences; {} searches ({} of them whole, against solve), {} visited boards; {} declined searches; {} records; {} files; {} writes",
+            "{:.0} s: {} board calls in {} sequences; {} searches ({} of them whole, against solve), {} visited boards; {} declined searches; {} records; {} files; {} writes; {} records judged",
             self.started.elapsed().as_secs_f64(),
             self.done.calls,
             self.sequences,
@@ -202,7 +101,8 @@ impl Comparison {
             self.declined_searches,
             self.records,
             self.done.files,
-            self.writes
+            self.writes,
+            self.shown_judged.records()
         )
     }
 
@@ -213,6 +113,7 @@ impl Comparison {
         println!("writes {} read back", self.shown_writes.figures());
         println!("{}", self.shown_rooms.figures());
         println!("{}", self.shown_holes.figures());
+        self.shown_judged.print();
     }
 
     fn show_progress(&mut self) {
@@ -339,6 +240,117 @@ impl Comparison {
         }
     }
 
+    /// One record on an accepted grid; what it is by the rules.
+    fn compare_drawing(&self, pads: &Pads, lent: usize, bytes: &[u8]) -> Found {
+        let found = found(pads, bytes);
+        let case = judge_case(pads, lent, bytes.to_vec());
+        self.hold(&case, &judge_answer((0, 0), found.verdict(), bytes, lent));
+        found
+    }
+
+    /// Every drawing of a small grid, by two tests of the rules; those that are
+    /// listed are the list of a search.
+    fn compare_every_drawing(&mut self, pads: &Pads) {
+        let mut list = Vec::new();
+        for (bytes, verdict) in every_drawing(pads) {
+            let found = self.compare_drawing(pads, 4, &bytes);
+            let agree = found.verdict() == verdict;
+            assert!(agree, "the rules differ: {pads:?} {bytes:?}");
+            *self.shown_judged.tried.found.entry(found).or_default() += 1;
+            if verdict == 2 {
+                list.extend(bytes);
+            }
+        }
+        self.shown_judged.tried.count_grid(pads);
+        let case = Case::Search {
+            grid: given(pads),
+            lent: 6,
+            limit: u64::MAX,
+            room: list.len(),
+        };
+        let answer = expected(&case);
+        let agree = answer.numbers[2] == 0 && answer.bytes == list;
+        assert!(agree, "the rules differ: {pads:?}");
+        self.hold(&case, &answer);
+    }
+
+    /// One record on a grid of any size.
+    fn compare_large(&mut self, pads: &Pads, lent: usize, bytes: &[u8]) -> Found {
+        let found = self.compare_drawing(pads, lent, bytes);
+        *self.shown_judged.drawn.found.entry(found).or_default() += 1;
+        found
+    }
+
+    /// A layout that the library lists, which must be a listed one; and with an
+    /// edge or a square turned over.
+    fn compare_layout(&mut self, pads: &Pads, layout: &[u8]) {
+        let found = self.compare_large(pads, 4, layout);
+        self.hold_listed(pads, layout, found == Found::Listed);
+        self.shown_judged.layouts += 1;
+        for change in [flip_edge, turn_one] {
+            let mut bytes = layout.to_vec();
+            change(&mut self.judge_numbers, pads, &mut bytes);
+            self.compare_large(pads, 4, &bytes);
+        }
+    }
+
+    /// Ends the program where the library lists what it should not, or does not
+    /// list what it should.
+    fn hold_listed(&self, pads: &Pads, bytes: &[u8], right: bool) {
+        if !right {
+            println!("{}", self.figures());
+            println!("DIFFERENT: the list of {pads:?} and the layout {bytes:?}");
+            std::process::exit(1);
+        }
+    }
+
+    /// Chains drawn at random on a grid of any size, turned over again and
+    /// again, and with faults; a listed one must be in the list, if that is
+    /// complete.
+    fn compare_drawn(&mut self, number: usize) {
+        let (pads, mut bytes) = drawn(&mut self.judge_numbers, size_of(number));
+        let (layouts, complete) = listed(&pads, 1000, 12 * pads.record_length());
+        self.shown_judged.drawn.count_grid(&pads);
+        for turns in [0, 1, 1, 2, 4, 8, 16, 32, 100, 300] {
+            turn_squares(&mut self.judge_numbers, &pads, &mut bytes, turns);
+            let found = self.compare_large(&pads, 4, &bytes);
+            let in_list = layouts.contains(&bytes);
+            let right = in_list || found != Found::Listed || !complete;
+            self.hold_listed(&pads, &bytes, right);
+            for _ in 0..2 {
+                let (mut pads, mut bytes) = (pads.clone(), bytes.clone());
+                spoil(&mut self.judge_numbers, &mut pads, &mut bytes);
+                let lent = any_lent(&mut self.judge_numbers, 4);
+                self.compare_large(&pads, lent, &bytes);
+            }
+        }
+        for layout in layouts {
+            self.compare_layout(&pads, &layout);
+        }
+    }
+
+    /// A tiny grid, as long as there are any, now and then another small one,
+    /// one of any size, and one that is mostly declined.
+    fn compare_judged(&mut self) {
+        let number = self.shown_judged.turns;
+        self.shown_judged.turns += 1;
+        if let Some(pads) = tiny_pads(number) {
+            self.compare_every_drawing(&pads);
+        }
+        if number % 20 == 0 {
+            let pads = tried_pads(&mut self.judge_numbers);
+            self.compare_every_drawing(&pads);
+        }
+        self.compare_drawn(number);
+        let case = declined_judge(&mut self.judge_numbers);
+        let answer = expected(&case);
+        self.hold(&case, &answer);
+        if answer.returned > 0 {
+            let number = answer.numbers[0];
+            *self.shown_judged.declined.entry(number).or_default() += 1;
+        }
+    }
+
     /// Cases of one kind for a twentieth of a second.
     fn turn(&mut self, compare: fn(&mut Comparison)) {
         let start = Instant::now();
@@ -400,7 +412,7 @@ pub fn replay_case(text: &str) -> Option<bool> {
     is_known(&case).then(|| show(&case))
 }
 
-/// Compares for so many seconds, a fifth of the time on each kind.
+/// Compares for so many seconds, a sixth of the time on each kind.
 pub fn compare_for(seconds: u64, seed: u64) {
     println!("seed {seed}");
     let mut comparison = Comparison::new(seed);
@@ -411,6 +423,7 @@ pub fn compare_for(seconds: u64, seed: u64) {
         comparison.turn(|comparison| comparison.compare_write());
         comparison.turn(|comparison| comparison.compare_file());
         comparison.turn(|comparison| comparison.compare_holes());
+        comparison.turn(|comparison| comparison.compare_judged());
         comparison.compare_declined();
         comparison.show_progress();
     }
@@ -418,7 +431,8 @@ pub fn compare_for(seconds: u64, seed: u64) {
 }
 
 /// Compares until so many board calls, searches and files are done, as many
-/// searches by the rules as searches, and as many writes as files.
+/// searches by the rules as searches, as many writes as files, and as many
+/// judged records as board calls.
 pub fn compare_counts(wanted: Counts, seed: u64) {
     println!("seed {seed}");
     let mut comparison = Comparison::new(seed);
@@ -428,7 +442,8 @@ pub fn compare_counts(wanted: Counts, seed: u64) {
         let more_searches = left(comparison.done.searches, wanted.searches);
         let more_files = left(comparison.done.files, wanted.files);
         let more_holes = left(comparison.shown_holes.searches, wanted.searches);
-        if !(more_calls || more_searches || more_files || more_holes) {
+        let more_judged = left(comparison.shown_judged.records(), wanted.calls);
+        if !(more_calls || more_searches || more_files || more_holes || more_judged) {
             break;
         }
         for _ in 0..10 {
@@ -444,6 +459,9 @@ pub fn compare_counts(wanted: Counts, seed: u64) {
             }
             if more_holes {
                 comparison.compare_holes();
+            }
+            if more_judged {
+                comparison.compare_judged();
             }
         }
         comparison.compare_declined();

@@ -1,12 +1,13 @@
 // What a case must give: by the reference where the call is accepted, by the
 // numbers of the documents where it is declined, for a search of a grid with
 // holes by the rules alone (holes.rs), for a file by the reader of routes.rs,
-// and for a grid that is written by Rust's own digits. And what the library
-// gives for the same case. A text that was written is read back, and a grid
-// that was read is written back.
+// for a grid that is written by Rust's own digits, and for a drawing by the
+// rules (judged.rs). And what the library gives for the same case. A text that
+// was written is read back, and a grid that was read is written back.
 
 use crate::answers::{limited, make_call, read_state, whole, Call, Pads, Run, State, BLANK, HOLE};
 use crate::cases::{Asked, Case, Given};
+use crate::judged::{found, lines_told};
 use crate::{holes, library, routes};
 use reference::board::Board;
 
@@ -320,6 +321,27 @@ fn expected_write(grid: &Given, lent: usize, room: usize) -> Answer {
     answer
 }
 
+/// The answer to a record whose verdict is known.
+pub fn judge_answer(refusal: (u64, u64), verdict: u64, bytes: &[u8], lent: usize) -> Answer {
+    let mut answer = Answer::default();
+    if lent >= 4 {
+        answer.returned = 4;
+        answer.numbers = vec![refusal.0, refusal.1, verdict, lines_told(bytes, verdict)];
+    }
+    answer.numbers.resize(lent, FILL as u64);
+    answer
+}
+
+/// The grid's refusals come first, beside a 0.
+fn expected_judge(grid: &Given, lent: usize, bytes: &[u8]) -> Answer {
+    let refusal = grid_refusal(grid);
+    let verdict = match refusal {
+        (0, 0) => found(&board_pads(grid), bytes).verdict(),
+        _ => 0,
+    };
+    judge_answer(refusal, verdict, bytes, lent)
+}
+
 /// Whether it is known what the case must give. The reference knows no holes:
 /// of a board with holes it is not, of a search only where the grid is small.
 pub fn is_known(case: &Case) -> bool {
@@ -355,6 +377,7 @@ pub fn expected(case: &Case) -> Answer {
             bytes,
         } => expected_file(*lent, *cells_lent, bytes),
         Case::Write { grid, lent, room } => expected_write(grid, *lent, *room),
+        Case::Judge { grid, lent, bytes } => expected_judge(grid, *lent, bytes),
     }
 }
 
@@ -414,6 +437,15 @@ fn written_and_read_back(grid: &Given, lent: usize, room: usize) -> Answer {
     answer
 }
 
+fn judged_by_library(grid: &Given, lent: usize, bytes: &[u8]) -> Answer {
+    let mut answer = Answer {
+        numbers: vec![FILL as u64; lent],
+        ..Answer::default()
+    };
+    answer.returned = library::judge(grid.size, &grid.cells, bytes, &mut answer.numbers);
+    answer
+}
+
 pub fn by_library(case: &Case) -> Answer {
     let mut answer = Answer::default();
     match case {
@@ -450,6 +482,7 @@ pub fn by_library(case: &Case) -> Answer {
             bytes,
         } => answer = read_and_written_back(bytes, *lent, *cells_lent),
         Case::Write { grid, lent, room } => answer = written_and_read_back(grid, *lent, *room),
+        Case::Judge { grid, lent, bytes } => answer = judged_by_library(grid, *lent, bytes),
     }
     answer
 }

@@ -1,7 +1,8 @@
 // Searches of small grids with holes, which the reference does not know. The
 // layouts are found by the rules alone: every drawing is tried. How many
 // boards a search visits the rules do not say; that number is the library's
-// own, and limits and rooms are held beside it.
+// own, and limits and rooms are held beside it. And the verdict on every
+// drawing of a small grid.
 
 use crate::answers::{Pads, Run, BLANK, HOLE, LINE, NONE, UNDECIDED};
 use crate::chosen::drill;
@@ -130,6 +131,12 @@ impl<'a> Drawings<'a> {
         self.degrees_fit(drawing) && (0..self.around.len()).all(fits) && self.chains_fit(drawing)
     }
 
+    /// 0 for no layout, 1 for an ordinary one that is not listed, 2 for a listed.
+    fn verdict(&self, drawing: u32) -> u64 {
+        let is_ordinary = self.degrees_fit(drawing) && self.chains_fit(drawing);
+        is_ordinary as u64 + self.is_listed(drawing) as u64
+    }
+
     fn put_record(&self, drawing: u32, bytes: &mut Vec<u8>) {
         let byte = |bit: u32| if drawing & bit == 0 { NONE } else { LINE };
         for row in 0..2 * self.pads.height - 1 {
@@ -155,6 +162,16 @@ fn by_rules(pads: &Pads) -> Run {
         run.count_layout(pads.record_length());
     }
     run
+}
+
+/// Every drawing of a small grid as a record, ascending, with its verdict.
+pub fn every_drawing(pads: &Pads) -> impl Iterator<Item = (Vec<u8>, u64)> + '_ {
+    let drawings = Drawings::new(pads);
+    (0..1 << edges(pads)).map(move |drawing| {
+        let mut bytes = Vec::with_capacity(pads.record_length());
+        drawings.put_record(drawing, &mut bytes);
+        (bytes, drawings.verdict(drawing))
+    })
 }
 
 /// How many boards the library visits, with no limit, until a layout is due

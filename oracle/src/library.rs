@@ -51,6 +51,16 @@ extern "C" {
         answer: *mut u64,
         answer_length: usize,
     ) -> usize;
+    fn hunekowha_judge(
+        height: usize,
+        width: usize,
+        cells: *const i32,
+        cells_length: usize,
+        record: *const u8,
+        record_length: usize,
+        answer: *mut u64,
+        answer_length: usize,
+    ) -> usize;
 }
 
 pub fn read(file: &[u8], answer: &mut [u64], cells: &mut [i32]) -> usize {
@@ -142,6 +152,26 @@ pub fn write(
             cells.len(),
             text.as_mut_ptr(),
             text.len(),
+            answer.as_mut_ptr(),
+            answer.len(),
+        )
+    }
+}
+
+pub fn judge(
+    (height, width): (usize, usize),
+    cells: &[i32],
+    record: &[u8],
+    answer: &mut [u64],
+) -> usize {
+    unsafe {
+        hunekowha_judge(
+            height,
+            width,
+            cells.as_ptr(),
+            cells.len(),
+            record.as_ptr(),
+            record.len(),
             answer.as_mut_ptr(),
             answer.len(),
         )

@@ -21,11 +21,17 @@ mod chosen;
 #[cfg(library)]
 mod compare;
 #[cfg(library)]
+mod drawn;
+#[cfg(library)]
 mod expected;
 #[cfg(library)]
 mod holes;
 #[cfg(library)]
+mod judged;
+#[cfg(library)]
 mod library;
+#[cfg(library)]
+mod shown;
 #[cfg(library)]
 mod smallest;
 
@@ -40,7 +46,8 @@ and, where it is built with the library:
   oracle compare seconds S [SEED]       compare the library with the reference for so long
   oracle compare counts CALLS SEARCHES FILES [SEED]
   oracle case 'TEXT'                    one case, as the comparison printed it
-  oracle bench GRID-FILE..              the table of times of the library and the reference";
+  oracle bench GRID-FILE..              the table of times of the library and the reference
+  oracle judge-time GRID-FILE..         how long the library takes to judge a drawing";
 
 /// The exit status where the grid has holes, which the reference does not know.
 const NOT_KNOWN: i32 = 3;
@@ -73,6 +80,7 @@ fn with_library(words: &[&str]) -> bool {
             None => end_not_known(),
         },
         ["bench", files @ ..] => bench::print_table(&named(files)),
+        ["judge-time", files @ ..] => bench::print_judge_times(&named(files)),
         _ => return false,
     }
     true

@@ -85,9 +85,11 @@ fn paired_pads(random: &mut Random, height: usize, width: usize) -> Pads {
 }
 
 /// Chains drawn at random over free pads, and a code on the two pads at the
-/// ends of each: such a grid has a layout. Some chains share a code.
-pub fn wired_pads(random: &mut Random, height: usize, width: usize) -> Pads {
+/// ends of each: such a grid has a layout. Some chains share a code. Beside the
+/// grid the lines of the chains, each as the two pads that it joins.
+pub fn wired(random: &mut Random, height: usize, width: usize) -> (Pads, Vec<(usize, usize)>) {
     let mut pads = blank_pads(height, width);
+    let mut lines = Vec::new();
     let mut free = vec![true; height * width];
     let chains = 1 + random.below(height * width / 3);
     let longest = random.choose(&[3, 5, 8, 16]);
@@ -104,7 +106,9 @@ pub fn wired_pads(random: &mut Random, height: usize, width: usize) -> Pads {
             if near.is_empty() {
                 break;
             }
-            last = random.choose(&near);
+            let next = random.choose(&near);
+            lines.push((last, next));
+            last = next;
             free[last] = false;
         }
         if last != first {
@@ -112,7 +116,11 @@ pub fn wired_pads(random: &mut Random, height: usize, width: usize) -> Pads {
             pads.cells[last] = code;
         }
     }
-    pads
+    (pads, lines)
+}
+
+pub fn wired_pads(random: &mut Random, height: usize, width: usize) -> Pads {
+    wired(random, height, width).0
 }
 
 fn free_neighbours(free: &[bool], height: usize, width: usize, pad: usize) -> Vec<usize> {

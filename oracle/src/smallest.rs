@@ -1,10 +1,11 @@
 // Makes a failing case smaller as long as it still fails: calls left out,
 // rows and columns cut off, holes filled, codes blanked or shortened, bytes of
-// a file left out, less room.
+// a file left out, chains rubbed out, less room.
 
-use crate::answers::{BLANK, HOLE};
+use crate::answers::{Pads, BLANK, HOLE, LINE, NONE, UNDECIDED};
 use crate::cases::{Asked, Case, Given};
-use crate::expected::{board_room, by_library, expected, is_known, written_text};
+use crate::expected::{board_room, by_library, expected, grid_refusal, is_known, written_text};
+use crate::judged::Drawn;
 use std::time::{Duration, Instant};
 
 pub fn differs(case: &Case) -> bool {
@@ -57,6 +58,7 @@ fn smaller_cases(case: &Case) -> Vec<Case> {
             })
             .collect(),
         Case::Write { grid, lent, room } => smaller_writes(grid, *lent, *room),
+        Case::Judge { grid, lent, bytes } => smaller_judges(grid, *lent, bytes),
         Case::Record { .. } => Vec::new(),
     }
 }
@@ -129,6 +131,85 @@ fn smaller_writes(grid: &Given, lent: usize, room: usize) -> Vec<Case> {
     let less = rooms.into_iter().filter(|less| *less < room);
     found.extend(less.map(|less| case(grid.clone(), less)));
     found
+}
+
+/// The places of a field, as row and column.
+fn places((height, width): (usize, usize)) -> impl Iterator<Item = (usize, usize)> {
+    let columns = 2 * width - 1;
+    (0..(2 * height - 1) * columns).map(move |place| (place / columns, place % columns))
+}
+
+fn smaller_judges(grid: &Given, lent: usize, bytes: &[u8]) -> Vec<Case> {
+    let smaller = smaller_drawings(grid, bytes).into_iter();
+    let case = |(grid, bytes): (Given, Vec<u8>)| Case::Judge { grid, lent, bytes };
+    smaller.map(case).collect()
+}
+
+/// Where the record has the grid's length: the grid cut with it, chains rubbed
+/// out, and bytes put to none or, between the edges, to undecided. Where it has
+/// another, bytes left out.
+fn smaller_drawings(grid: &Given, bytes: &[u8]) -> Vec<(Given, Vec<u8>)> {
+    let blanked = blanked_grids(grid).into_iter();
+    let mut found: Vec<(Given, Vec<u8>)> = blanked.map(|grid| (grid, bytes.to_vec())).collect();
+    let whole = grid_refusal(grid) == (0, 0) && places(grid.size).count() == bytes.len();
+    if !whole {
+        let cut = cuts(grid)
+            .into_iter()
+            .map(|(cut, ..)| (cut, bytes.to_vec()));
+        found.extend(cut);
+        found.extend(parts(bytes).into_iter().map(|bytes| (grid.clone(), bytes)));
+        return found;
+    }
+    for (cut, rows, columns) in cuts(grid) {
+        let kept = cut_record(grid, bytes, cut.size, (rows as usize, columns as usize));
+        found.insert(0, (cut, kept));
+    }
+    found.extend(without_chains(grid, bytes));
+    for (at, (row, column)) in places(grid.size).enumerate() {
+        let usual = [UNDECIDED, NONE][(row + column) % 2];
+        if bytes[at] != usual {
+            let mut fewer = bytes.to_vec();
+            fewer[at] = usual;
+            found.push((grid.clone(), fewer));
+        }
+    }
+    found
+}
+
+fn cut_record(
+    grid: &Given,
+    bytes: &[u8],
+    size: (usize, usize),
+    (rows, columns): (usize, usize),
+) -> Vec<u8> {
+    let across = 2 * grid.size.1 - 1;
+    places(size)
+        .map(|(row, column)| bytes[(row + rows) * across + column + columns])
+        .collect()
+}
+
+/// A chain at a time rubbed out, and its codes with it.
+fn without_chains(grid: &Given, bytes: &[u8]) -> Vec<(Given, Vec<u8>)> {
+    let pads = Pads {
+        height: grid.size.0,
+        width: grid.size.1,
+        cells: grid.cells.clone(),
+    };
+    let chains = Drawn { pads: &pads, bytes }.chains();
+    let without = |chain: &Vec<usize>| {
+        let (mut rest, mut fewer) = (grid.clone(), bytes.to_vec());
+        for (at, (row, column)) in places(grid.size).enumerate() {
+            let pad = row / 2 * pads.width + column / 2;
+            if chain.contains(&pad) {
+                rest.cells[pad] = BLANK;
+                if (row + column) % 2 == 1 && fewer[at] == LINE {
+                    fewer[at] = NONE;
+                }
+            }
+        }
+        (rest, fewer)
+    };
+    chains.iter().map(without).collect()
 }
 
 fn smaller_grids(grid: &Given) -> Vec<Given> {

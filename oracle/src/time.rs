@@ -38,7 +38,7 @@ pub fn seconds_each(mut work: impl FnMut()) -> f64 {
     (processor_time() - start) / turns as f64
 }
 
-fn best_of_five(mut work: impl FnMut()) -> f64 {
+pub fn best_of_five(mut work: impl FnMut()) -> f64 {
     (0..5)
         .map(|_| seconds_each(&mut work))
         .fold(f64::INFINITY, f64::min)

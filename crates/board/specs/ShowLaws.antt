@@ -16,7 +16,7 @@ use Rattle.model.specs.JoinedEnds.{end-number}
 use Rattle.model.specs.Calls as model
 use Rattle.boardview.specs.View.{view, grid-in, flag-in}
 use Rattle.boardview.specs.Ends.{number-of-end}
-use Rattle.boardview.specs.Bytes.{default-free}
+use Rattle.model.specs.Lists.{default-free}
 use Rattle.boardview.specs.ShownRecord.{record-shown, bytes-shown, edges-only, put-bytes}
 use Rattle.boardview.specs.ShownRecordLaws.{one-more}
 use Rattle.board.specs.Held.{arrays-of, Held, Shows}

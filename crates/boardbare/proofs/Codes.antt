@@ -16,7 +16,7 @@ use borrow.Author.Tests.{lt-ltb, ltb-true}
 use Rattle.rules.specs.Grid.{CellInRange, blank-cell, cell-of, largest-code}
 use Rattle.rules.specs.Tests.{conflict}
 use Rattle.model.specs.Board.{isBlank, isClue}
-use Rattle.boardview.specs.Bytes.{default-free}
+use Rattle.model.specs.Lists.{default-free}
 use Rattle.boardview.specs.Signed.{from-bits}
 use Rattle.boardbare.specs.BareArrays.{bare-end-number, end-number-at, is-clue, is-taken}
 

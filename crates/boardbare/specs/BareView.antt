@@ -14,7 +14,8 @@ use Rattle.rules.specs.Drawing.{Side}
 use Rattle.model.specs.JoinedEnds.{at-pad, bare-end}
 use Rattle.model.specs.Board.{undecided, none, isBlank, isClue, on-board, barred, bare}
 use Rattle.boardview.specs.View.{pick, Arrays, slot, slot-on, state-of, end-of, end-at, view, has-bit, clue-bit, taken-bit, corner-bit, bar-bit, cell-in, grid-in, Kinds, Ready}
-use Rattle.boardview.specs.Bytes.{default-free, edge-on}
+use Rattle.model.specs.Lists.{default-free}
+use Rattle.boardview.specs.Bytes.{edge-on}
 use Rattle.boardview.specs.SameKinds.{plain-cell, plain, same-barred, Shows, shown-plain}
 use Rattle.boardbare.specs.BareArrays.{EdgesFrom, CellsInRange, EndsFrom, bare-end-number, end-number-at, AllKinds}
 use Rattle.boardbare.specs.EdgeBytes.{few-pads, edge-byte-is, past-the-edges}

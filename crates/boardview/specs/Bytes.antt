@@ -16,12 +16,6 @@ use Rattle.rules.specs.Tests.{both}
 use Rattle.model.specs.Board.{undecided, line, none, isLine, isUndecided, sameEdge, set-edge, on-board}
 use Rattle.boardview.specs.View.{Arrays, slot, edge-of, slot-on, state-of, view, pick, undecided-in, flag-in, end-at}
 
--- another default, within the list
-pub default-free : {A : Type 0} (l : List A) (i : ℕ) (a b : A) → i < length l → getD l i a ≡ getD l i b
-default-free [] i a b h = absurd (not-suc-le-zero h)
-default-free (x ∷ xs) zero a b h = refl
-default-free (x ∷ xs) (suc i) a b h = default-free xs i a b (le-of-suc-le-suc h)
-
 -- BYTES
 pub undecided-byte-test : (b : ℕ) → isUndecided (state-of b) ≡ eqb b 0
 unfolding state-of

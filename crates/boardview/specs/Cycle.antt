@@ -17,7 +17,8 @@ use Rattle.rules.specs.Tests.{both, neither, conflict, not-so, is-so}
 use Rattle.model.specs.JoinedEnds.{End, through, at-pad, at-clue, unjoinable}
 use Rattle.model.specs.Board.{line, Item, has-right, has-left, has-down, has-up, has-side, on-board, barred, shape-items, keep-aparts, around}
 use Rattle.boardview.specs.View.{Arrays, logged, stopped, ended, going, pick, slot, edge-of, slot-on, state-of, end-at, second-pad, has-bit, grid-in, corner-bit, joined, undecided-in, Kinds, Ready, Decided, Done, NoneAt, Settled, pad-number, detour-at, corner-at, bar-at, check-at, code-number, keeps-apart, some-apart, clue-apart, keep-at, slot-around, past-around, action-around}
-use Rattle.boardview.specs.Bytes.{slot-of-edge, on-slot, default-free}
+use Rattle.model.specs.Lists.{default-free}
+use Rattle.boardview.specs.Bytes.{slot-of-edge, on-slot}
 use Rattle.boardview.specs.Unwind.{log-stored, log-joined, LineBegun}
 use Rattle.boardview.specs.Geometry.{column-before, right-on, down-on, beyond-right, upper-left, upper-right, upper, lower-left, lower-right, lower, right-items, left-side, lower-left-side, far-left, right-side, lower-right-side, far-right, down-items, next-down-on}
 use Rattle.boardview.specs.Stores.{Stored, going-count, few-logged, first-inside, second-inside}

@@ -12,7 +12,7 @@ use lib.IntN.{ℤ, pos, negsuc}
 use Rattle.model.specs.JoinedEnds.{End, through, at-pad, at-clue, end-number, isThrough, put-end, put-end-at, joined-ends}
 use Rattle.model.specs.BoardLaws.{same-pad, is-pad-end, put-same, put-other, put-at-same, put-at-other}
 use Rattle.boardview.specs.View.{end-of, end-at, put-number, joined, unjoined}
-use Rattle.boardview.specs.Bytes.{default-free}
+use Rattle.model.specs.Lists.{default-free}
 
 -- AN END AND ITS NUMBER
 pub number-of-end : (z : ℤ) → end-number (end-of z) ≡ z

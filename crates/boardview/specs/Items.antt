@@ -16,7 +16,8 @@ use Rattle.rules.specs.Tests.{both-off, neither}
 use Rattle.model.specs.JoinedEnds.{End, through, at-pad, at-clue, isThrough, unjoinable}
 use Rattle.model.specs.Board.{EdgeState, line, none, isLine, isUndecided, isBlank, isClue, sameState, State, set-edge, set-flag, Item, corner, bar, check-pad, check-end, when, on-board, has-down, has-side, shape-items, do-items, cannot-join, join-ends, after-store, decide, check}
 use Rattle.boardview.specs.View.{Arrays, logged, flag-in, stopped, ended, going, slot, edge-of, slot-on, state-of, view, end-at, has-bit, clue-bit, taken-bit, cell-in, grid-in, joined, undecided-in, Kinds, Ready, Decided, Done, then, in-a-row, shown, corner-at, bar-at, check-at, beside, pad-number}
-use Rattle.boardview.specs.Bytes.{default-free, elim-true, elim-false, undecided-byte-test, view-stored}
+use Rattle.model.specs.Lists.{default-free}
+use Rattle.boardview.specs.Bytes.{elim-true, elim-false, undecided-byte-test, view-stored}
 use Rattle.boardview.specs.Unwind.{since-still, since-then, log-stored, log-joined}
 use Rattle.boardview.specs.Stores.{flag-of-ended, ended-of-ended, logged-of-ended, going-count, next-count, recounted, Stored, slot-inside, few-logged, first-inside, second-inside, edge-is-stored, line-is-joined, joined-view}
 use Rattle.boardview.specs.Steps.{row-is, with-count, done-nothing, done-still, done-stopped, done-decided, view-stopped, view-recounted, slot-is-on, corner-no, corner-two, corner-stops, bar-no, bar-acts, line-test, line-there}

@@ -3,8 +3,9 @@
 use Prim.Native.Nat.{ℕ, _+_}
 use mathlib.Core.List.{List, [], _++_}
 use lib.ListN.{length, take, drop}
-use Rattle.rules.specs.Grid.{Edge, Place, edge, no-edge, place-at, field-side, Grid}
-use Rattle.rules.specs.Record.{field, tabulate, byte-at-place}
+use Rattle.rules.specs.Grid.{Edge, Place, edge, no-edge, Grid}
+use Rattle.rules.specs.Record.{field}
+use Rattle.rules.specs.RecordLaws.{field-row}
 use Rattle.model.specs.Board.{State}
 use Rattle.model.specs.Calls.{state-byte}
 use Rattle.boardview.specs.View.{slot, view}
@@ -17,8 +18,8 @@ edges-only edges = view (record { edges = edges; ends = []; log = []; count = 0 
 abbrev pub bytes-shown : List ℕ → Edge → ℕ
 bytes-shown edges e = state-byte (edges-only edges .edge e)
 
-unfoldable pub row-shown : ℕ → List ℕ → ℕ → List ℕ
-row-shown width edges row = tabulate (λ column. byte-at-place (bytes-shown edges) (place-at width row column)) 0 (field-side width)
+abbrev pub row-shown : ℕ → List ℕ → ℕ → List ℕ
+row-shown width edges row = field-row width (bytes-shown edges) row
 
 unfoldable pub record-shown : Grid → List ℕ → List ℕ
 record-shown g edges = field (g .height) (g .width) (bytes-shown edges)

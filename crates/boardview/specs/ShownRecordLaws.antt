@@ -1,21 +1,21 @@
 -- Laws of laying out a record from the arrays: the byte of a state and of a place, bytes put into a buffer one after the other, and their
 -- lines counted. They rest on ShownRecord.antt.
-use Prim.Native.Nat.{ℕ, zero, suc, _+_, _*_, _%_, _/_, _≤_, _<_}
+use Prim.Native.Nat.{ℕ, zero, suc, _+_, _*_, _≤_, _<_}
 use mathlib.Core.Path.{_≡_, refl, sym, ap, _∙_}
 use mathlib.Core.List.{List, [], _∷_, _++_, append-assoc}
 use native.Mathlib.Omega.{arith}
-use native.Mathlib.Nat.{add-assoc, add-zero, zero-add, zero-mul, suc-mul, mul-le-mul-right}
+use native.Mathlib.Nat.{add-assoc, add-zero, zero-add, suc-mul, mul-le-mul-right}
 use lib.Dec.{eqb}
 use lib.ListN.{getD, set, length, take, drop, length-set, length-append, length-drop, take-append-drop}
 use lib.Seq.{length-take-le, take-at, drop-at, drop-drop, set-split}
 use Rattle.rules.specs.Grid.{Edge, right, down, first, field-side, places, Place, edge, no-edge, place-at, Grid}
 use Rattle.rules.specs.Drawing.{num}
 use Rattle.rules.specs.Record.{byte-at-place, field, tabulate, record-lines, line-byte}
-use Rattle.rules.specs.RecordLaws.{plus-suc, length-tabulate, tabulate-same, tabulate-parts, tabulate-from, row-of-number, column-of-number}
+use Rattle.rules.specs.RecordLaws.{plus-suc, length-tabulate, field-row, field-rows, no-rows, length-rows, next-rows}
 use Rattle.rules.specs.Tests.{num-small}
 use Rattle.model.specs.Calls.{state-byte}
 use Rattle.boardview.specs.View.{slot, state-of, view}
-use Rattle.boardview.specs.Bytes.{default-free}
+use Rattle.model.specs.Lists.{default-free}
 use Rattle.boardview.specs.ShownRecord.{edges-only, bytes-shown, row-shown, record-shown, slot-of-place, put-bytes}
 
 -- a byte is that of its state
@@ -167,7 +167,7 @@ module _ (byte : ℕ → ℕ) (at : ℕ) (buffer : List ℕ) where
 pub row-written : (width : ℕ) (edges : List ℕ) (row at : ℕ) (buffer : List ℕ) (i lines : ℕ) (buffer′ : List ℕ)
     → Writing (λ column. byte-at-place (bytes-shown edges) (place-at width row column)) at buffer i lines buffer′ → i ≡ field-side width
     → (buffer′ ≡ put-bytes at (row-shown width edges row) buffer) × (lines ≡ record-lines (row-shown width edges row))
-unfolding row-shown
+unfolding field-row
 row-written width edges row at buffer i lines buffer′ w done =
     (w .written ∙ ap (λ (k : ℕ). put-bytes at (tabulate byte 0 k) buffer) done, w .counted ∙ ap (λ (k : ℕ). record-lines (tabulate byte 0 k)) done)
   where
@@ -175,12 +175,12 @@ row-written width edges row at buffer i lines buffer′ w done =
     byte column = byte-at-place (bytes-shown edges) (place-at width row column)
 
 pub few-in-row : (width : ℕ) (edges : List ℕ) (row : ℕ) → record-lines (row-shown width edges row) ≤ field-side width
-unfolding row-shown
+unfolding field-row
 few-in-row width edges row = omega (arith, lines-at-most (row-shown width edges row), length-tabulate (λ column. byte-at-place (bytes-shown edges) (place-at width row column)) 0 (field-side width))
 
 -- ROW BY ROW: the first rows of the record have been put at an index, and their lines counted
-unfoldable pub rows-shown : Grid → List ℕ → ℕ → List ℕ
-rows-shown g edges rows = tabulate (λ i. byte-at-place (bytes-shown edges) (place-at (g .width) (i / field-side (g .width)) (i % field-side (g .width)))) 0 (rows * field-side (g .width))
+abbrev pub rows-shown : Grid → List ℕ → ℕ → List ℕ
+rows-shown g edges rows = field-rows (g .width) (bytes-shown edges) rows
 
 pub record RowsWritten (g : Grid) (edges : List ℕ) (at : ℕ) (buffer : List ℕ) (rows lines : ℕ) (buffer′ : List ℕ) : Type 0 where
   pub written : buffer′ ≡ put-bytes at (rows-shown g edges rows) buffer
@@ -188,55 +188,34 @@ pub record RowsWritten (g : Grid) (edges : List ℕ) (at : ℕ) (buffer : List �
   pub same-length : length buffer′ ≡ length buffer
 
 module _ (g : Grid) (edges : List ℕ) (at : ℕ) (buffer : List ℕ) where
-  rows-long : (rows : ℕ) → length (rows-shown g edges rows) ≡ rows * field-side (g .width)
-  unfolding rows-shown
-  rows-long rows = length-tabulate _ 0 (rows * field-side (g .width))
-
-  pub no-rows : RowsWritten g edges at buffer 0 0 buffer
+  pub no-row-written : RowsWritten g edges at buffer 0 0 buffer
   unfolding record-lines
-  no-rows = record { written = sym (ap (λ l. put-bytes at l buffer) empty ∙ put-none at buffer); counted = sym (ap record-lines empty); same-length = refl }
+  no-row-written = record { written = sym (ap (λ l. put-bytes at l buffer) empty ∙ put-none at buffer); counted = sym (ap record-lines empty); same-length = refl }
     where
       empty : rows-shown g edges 0 ≡ []
-      empty = unfold rows-shown tabulate in ap (tabulate _ 0) (zero-mul (field-side (g .width)))
+      empty = no-rows (g .width) (bytes-shown edges)
 
   pub few-lines : (rows lines : ℕ) (buffer′ : List ℕ) → RowsWritten g edges at buffer rows lines buffer′ → lines ≤ rows * field-side (g .width)
-  few-lines rows lines buffer′ w = omega (arith, w .counted, lines-at-most (rows-shown g edges rows), rows-long rows)
+  few-lines rows lines buffer′ w = omega (arith, w .counted, lines-at-most (rows-shown g edges rows), length-rows (g .width) (bytes-shown edges) rows)
 
   -- one row more
-  next-rows : 0 < field-side (g .width) → (rows : ℕ) → rows-shown g edges (rows + 1) ≡ rows-shown g edges rows ++ row-shown (g .width) edges rows
-  unfolding rows-shown row-shown
-  next-rows some rows =
-      ap (tabulate byte 0) (ap (λ (n : ℕ). n * side) (native.Mathlib.Numerals.add-one rows) ∙ suc-mul rows side)
-      ∙ tabulate-parts byte 0 (rows * side) side
-      ∙ ap (λ l. tabulate byte 0 (rows * side) ++ l) (
-      ap (λ (n : ℕ). tabulate byte n side) (zero-add (rows * side) ∙ sym (add-zero (rows * side)))
-      ∙ tabulate-from byte (rows * side) 0 side
-      ∙ tabulate-same _ _ 0 side (λ column low high.
-      rw (row-of-number (g .width) rows column (omega arith), column-of-number (g .width) rows column (omega arith)) refl))
-    where
-      side : ℕ
-      side = field-side (g .width)
-
-      byte : ℕ → ℕ
-      byte i = byte-at-place (bytes-shown edges) (place-at (g .width) (i / field-side (g .width)) (i % field-side (g .width)))
-
   one-row : (rows lines : ℕ) (buffer′ : List ℕ) → RowsWritten g edges at buffer rows lines buffer′ → 0 < field-side (g .width) → at + (rows * field-side (g .width) + field-side (g .width)) ≤ length buffer
       → (start more : ℕ) (after : List ℕ) → start ≡ at + rows * field-side (g .width) → after ≡ put-bytes start (row-shown (g .width) edges rows) buffer′
       → more ≡ record-lines (row-shown (g .width) edges rows) → RowsWritten g edges at buffer (rows + 1) (lines + more) after
   one-row rows lines buffer′ w some room start more after start-is put counted = record {
     written = all-put;
-    counted = omega (arith, w .counted, counted, ap record-lines (next-rows some rows), lines-append (rows-shown g edges rows) (row-shown (g .width) edges rows));
-    same-length = ap length all-put ∙ put-length at (rows-shown g edges (rows + 1)) buffer (omega (arith, rows-long (rows + 1), next));
+    counted = omega (arith, w .counted, counted, ap record-lines (next-rows (g .width) (bytes-shown edges) rows), lines-append (rows-shown g edges rows) (row-shown (g .width) edges rows));
+    same-length = ap length all-put ∙ put-length at (rows-shown g edges (rows + 1)) buffer (omega (arith, length-rows (g .width) (bytes-shown edges) (rows + 1), next));
   }
     where
       next : (rows + 1) * field-side (g .width) ≡ rows * field-side (g .width) + field-side (g .width)
       next = ap (λ (n : ℕ). n * field-side (g .width)) (native.Mathlib.Numerals.add-one rows) ∙ suc-mul rows (field-side (g .width))
 
       all-put : after ≡ put-bytes at (rows-shown g edges (rows + 1)) buffer
-      all-put = put ∙ ap (λ (n : ℕ). put-bytes n (row-shown (g .width) edges rows) buffer′) (start-is ∙ ap (λ (n : ℕ). at + n) (sym (rows-long rows)))
+      all-put = put ∙ ap (λ (n : ℕ). put-bytes n (row-shown (g .width) edges rows) buffer′) (start-is ∙ ap (λ (n : ℕ). at + n) (sym (length-rows (g .width) (bytes-shown edges) rows)))
           ∙ ap (put-bytes (at + length (rows-shown g edges rows)) (row-shown (g .width) edges rows)) (w .written)
-          ∙ put-put at (rows-shown g edges rows) (row-shown (g .width) edges rows) buffer (omega (arith, rows-long rows))
-          ∙ ap (λ l. put-bytes at l buffer) (sym (next-rows some rows))
+          ∙ put-put at (rows-shown g edges rows) (row-shown (g .width) edges rows) buffer (omega (arith, length-rows (g .width) (bytes-shown edges) rows))
+          ∙ ap (λ l. put-bytes at l buffer) (sym (next-rows (g .width) (bytes-shown edges) rows))
 
   -- where the code has the width in a number of its own
   pub row-put : (rows lines : ℕ) (buffer′ : List ℕ) → RowsWritten g edges at buffer rows lines buffer′ → 0 < field-side (g .width) → at + (rows * field-side (g .width) + field-side (g .width)) ≤ length buffer
@@ -248,7 +227,7 @@ module _ (g : Grid) (edges : List ℕ) (at : ℕ) (buffer : List ℕ) where
 
   pub all-rows : (rows lines : ℕ) (buffer′ : List ℕ) → RowsWritten g edges at buffer rows lines buffer′ → rows ≡ field-side (g .height)
       → (buffer′ ≡ put-bytes at (record-shown g edges) buffer) × (lines ≡ record-lines (record-shown g edges))
-  unfolding rows-shown record-shown field
+  unfolding field-rows record-shown field
   all-rows rows lines buffer′ w done =
       (w .written ∙ ap (λ (k : ℕ). put-bytes at (rows-shown g edges k) buffer) done, w .counted ∙ ap (λ (k : ℕ). record-lines (rows-shown g edges k)) done)
 

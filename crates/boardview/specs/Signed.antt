@@ -16,7 +16,7 @@ use mir.ValLaws.{toZ-ofZ, toZ-pos}
 use borrow.Author.Tests.{ltb-true, le-ltb, ne-eqb, eq-eqb, eqb-true, eqb-false}
 use Rattle.model.specs.JoinedEnds.{End, through, at-pad, at-clue, isThrough, unequal-negative, isPad, unjoinable}
 use Rattle.boardview.specs.View.{end-of, end-at, pad-number, code-number, rival, put-number, joined, unjoined}
-use Rattle.boardview.specs.Bytes.{default-free}
+use Rattle.model.specs.Lists.{default-free}
 
 pub back : (z : ℤ) → SFits w32 z → toZ w32 (ofZ w32 z) ≡ z
 back z f = toZ-ofZ w32 z f

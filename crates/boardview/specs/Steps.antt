@@ -12,7 +12,8 @@ use Rattle.rules.specs.Grid.{Edge, Grid}
 use Rattle.rules.specs.Tests.{is-so}
 use Rattle.model.specs.Board.{EdgeState, line, none, isLine, isUndecided, isBlank, State, set-flag, Item, detour, corner, bar, when, Decide, Check, do-item, do-items, decide, check}
 use Rattle.boardview.specs.View.{Arrays, flag-in, ended-in, stopped, edge-of, slot-on, state-of, view, undecided-in, Ready, Decided, Done, then, in-a-row, shown, detour-at}
-use Rattle.boardview.specs.Bytes.{default-free, elim-true, elim-false, line-byte-test, undecided-byte-test, slot-of-edge, on-slot}
+use Rattle.model.specs.Lists.{default-free}
+use Rattle.boardview.specs.Bytes.{elim-true, elim-false, line-byte-test, undecided-byte-test, slot-of-edge, on-slot}
 use Rattle.boardview.specs.Unwind.{since-still, since-then}
 use Rattle.boardview.specs.Stores.{recounted}
 

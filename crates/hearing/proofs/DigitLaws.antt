@@ -1,13 +1,13 @@
 -- Laws of the digits: a digit that is read, whether it fits by the tests that the code makes, whether all fit, and the byte of an edge.
 -- Assumes nothing.
-use Prim.Native.Nat.{ℕ, zero, suc, _+_, _*_, _%_, _≤_, _<_}
+use Prim.Native.Nat.{ℕ, _+_, _*_, _%_, _≤_, _<_}
 use mathlib.Core.Path.{_≡_, refl, sym, ap, _∙_}
 use mathlib.Core.Bool.{Bool, true, false, _&&_, _||_, not}
-use mathlib.Core.List.{List, [], _∷_}
+use mathlib.Core.List.{List}
 use native.Mathlib.Numerals.{add-one}
 use native.Mathlib.Omega.{arith}
 use lib.Dec.{ltb}
-use lib.ListN.{getD, length}
+use lib.ListN.{length}
 use borrow.Author.Tests.{le-leb, lt-leb, eq-eqb, ne-eqb}
 use Rattle.rules.specs.Grid.{right, down, Place}
 use Rattle.rules.specs.Record.{byte-of, byte-at-place}
@@ -17,12 +17,6 @@ use Rattle.grid.specs.declared.Pads.{Pads}
 use Rattle.grid.specs.declared.Pads.the-variants.{Beside, Above, NoEdge}
 use Rattle.model.specs.JudgeText.{digit-at, coded, digit-fits}
 use Rattle.hearing.specs.CodedRecord.{codes-fit, coded-bytes}
-
--- what stands in a list is the same, whatever would stand past its end
-pub default-free : (l : List ℕ) (i a b : ℕ) → i < length l → getD l i a ≡ getD l i b
-default-free [] i a b h = absurd (omega arith)
-default-free (x ∷ l) zero a b h = refl
-default-free (x ∷ l) (suc i) a b h = default-free l i a b (omega arith)
 
 -- ## A line, if the code has it
 

@@ -1,15 +1,15 @@
--- Laws of laying out the record: a row byte by byte, and the field row by row. They rest on the rules' RecordLaws.antt.
-use Prim.Native.Nat.{ℕ, suc, _+_, _*_, _%_, _/_, _≤_, _<_}
+-- Laws of laying out the record: a row byte by byte, the field row by row, and what stands in the array of the record in the end. They rest
+-- on the rules' RecordLaws.antt.
+use Prim.Native.Nat.{ℕ, suc, _+_, _*_, _≤_, _<_}
 use mathlib.Core.Path.{_≡_, refl, sym, ap, _∙_}
-use mathlib.Core.Bool.{true, false}
-use mathlib.Core.List.{List, [], _++_}
-use native.Mathlib.Nat.{add-assoc, add-zero, zero-add, zero-mul, suc-mul, mul-le-mul-right}
-use native.Mathlib.Numerals.{add-one}
+use mathlib.Core.Bool.{Bool, true, false}
+use mathlib.Core.List.{List}
+use native.Mathlib.Nat.{add-assoc, zero-add, suc-mul, mul-le-mul-right}
 use native.Mathlib.Omega.{arith}
-use lib.ListN.{length, set}
+use lib.ListN.{set}
 use Rattle.rules.specs.Grid.{place-at, field-side, places}
 use Rattle.rules.specs.Record.{byte-at-place, tabulate, field}
-use Rattle.rules.specs.RecordLaws.{length-tabulate, tabulate-parts, tabulate-from, tabulate-same, row-of-number, column-of-number, length-field}
+use Rattle.rules.specs.RecordLaws.{tabulate-parts, field-row, field-rows, length-rows, next-rows, all-rows, length-field}
 use Rattle.rules.specs.Places.{few-places}
 use Rattle.model.specs.Bounds.{is-size}
 use Rattle.model.specs.RefusalLaws.{size-of-test}
@@ -18,7 +18,7 @@ use Rattle.text.specs.Put.{Put}
 use Rattle.text.specs.PutLaws.{put-both, put-one, put-none, put-same, put-next}
 use Rattle.printed.specs.Written.{zeros, Written}
 use Rattle.printed.specs.Filled.{put-written}
-use Rattle.hearing.specs.CodedRecord.{codes-fit, coded-bytes, coded-row, coded-rows}
+use Rattle.hearing.specs.CodedRecord.{codes-fit, coded-bytes}
 
 -- ## A row, byte by byte
 
@@ -32,8 +32,8 @@ module _ (width : ℕ) (digits : List ℕ) (row : ℕ) where
   byte-in-row column = byte-at-place (coded-bytes digits) (place-at width row column)
 
   pub row-put : {first out : List ℕ} {at column : ℕ} → column ≤ field-side width → field-side width ≤ column → Put first out at (tabulate byte-in-row 0 column) (at + column)
-      → Put first out at (coded-row width digits row) (at + column)
-  unfolding coded-row
+      → Put first out at (field-row width (coded-bytes digits) row) (at + column)
+  unfolding field-row
   row-put {column = column} low high p = put-same (ap (tabulate byte-in-row 0) there) p
     where
       there : column ≡ field-side width
@@ -45,35 +45,10 @@ module _ (width : ℕ) (digits : List ℕ) where
   abbrev side : ℕ
   side = field-side width
 
-  abbrev byte-in-field : ℕ → ℕ
-  byte-in-field i = byte-at-place (coded-bytes digits) (place-at width (i / side) (i % side))
-
-  pub no-rows : coded-rows width digits 0 ≡ []
-  unfolding coded-rows tabulate
-  no-rows = ap (tabulate byte-in-field 0) (zero-mul side)
-
-  pub rows-long : (rows : ℕ) → length (coded-rows width digits rows) ≡ rows * side
-  unfolding coded-rows
-  rows-long rows = length-tabulate byte-in-field 0 (rows * side)
-
-  pub next-row : (row : ℕ) → coded-rows width digits (row + 1) ≡ coded-rows width digits row ++ coded-row width digits row
-  unfolding coded-rows coded-row
-  next-row row =
-      ap (tabulate byte-in-field 0) (ap (λ (n : ℕ). n * side) (add-one row) ∙ suc-mul row side)
-      ∙ tabulate-parts byte-in-field 0 (row * side) side
-      ∙ ap (λ (l : List ℕ). tabulate byte-in-field 0 (row * side) ++ l)
-      (ap (λ (n : ℕ). tabulate byte-in-field n side) (zero-add (row * side) ∙ sym (add-zero (row * side)))
-      ∙ tabulate-from byte-in-field (row * side) 0 side
-      ∙ tabulate-same _ _ 0 side (λ column low high. rw (row-of-number width row column (omega arith), column-of-number width row column (omega arith)) refl))
-
-  pub all-rows : (height : ℕ) → coded-rows width digits (field-side height) ≡ field height width (coded-bytes digits)
-  unfolding coded-rows field
-  all-rows height = refl
-
   -- after some rows
-  module _ {first out : List ℕ} (row : ℕ) {at : ℕ} (so-far : Put first out 0 (coded-rows width digits row) at) where
+  module _ {first out : List ℕ} (row : ℕ) {at : ℕ} (so-far : Put first out 0 (field-rows width (coded-bytes digits) row) at) where
     pub place-after : at ≡ row * side
-    place-after = put-next so-far ∙ rows-long row
+    place-after = put-next so-far ∙ length-rows width (coded-bytes digits) row
 
     -- the next row has room
     pub row-has-room : (height : ℕ) → row < field-side height → at + side ≤ places height width
@@ -81,20 +56,20 @@ module _ (width : ℕ) (digits : List ℕ) where
         let rows : suc row * side ≤ places height width = mul-le-mul-right side below in
         omega (arith, place-after, suc-mul row side)
 
-    pub one-row-put : {after : List ℕ} {next : ℕ} → Put out after at (coded-row width digits row) next → Put first after 0 (coded-rows width digits (row + 1)) next
-    one-row-put p = put-same (sym (next-row row)) (put-both so-far p)
+    pub one-row-put : {after : List ℕ} {next : ℕ} → Put out after at (field-row width (coded-bytes digits) row) next → Put first after 0 (field-rows width (coded-bytes digits) (row + 1)) next
+    one-row-put p = put-same (sym (next-rows width (coded-bytes digits) row)) (put-both so-far p)
 
     pub all-put : (height : ℕ) → row ≡ field-side height → Put first out 0 (field height width (coded-bytes digits)) at
-    all-put height end = put-same (ap (coded-rows width digits) end ∙ all-rows height) so-far
+    all-put height end = put-same (ap (field-rows width (coded-bytes digits)) end ∙ all-rows width (coded-bytes digits) height) so-far
 
 -- ## The record of codes
 
 module _ (height width : ℕ) (digits : List ℕ) where
-  pub no-record : {answer : _} → answer ≡ codes-fit height width digits → answer ≡ false → Written 961 (record-of-codes height width digits) (zeros 961) 0
+  pub no-record : {answer : Bool} → answer ≡ codes-fit height width digits → answer ≡ false → Written 961 (record-of-codes height width digits) (zeros 961) 0
   unfolding record-of-codes codes-fit
   no-record says off = rw (sym says ∙ off) (put-written 961 (put-none (zeros 961) 0 0 refl) (omega arith))
 
-  pub the-record : {answer : _} → answer ≡ codes-fit height width digits → answer ≡ true → is-size height ≡ true → is-size width ≡ true → {bytes : List ℕ} {long : ℕ}
+  pub the-record : {answer : Bool} → answer ≡ codes-fit height width digits → answer ≡ true → is-size height ≡ true → is-size width ≡ true → {bytes : List ℕ} {long : ℕ}
       → Put (zeros 961) bytes 0 (field height width (coded-bytes digits)) long → Written 961 (record-of-codes height width digits) bytes long
   unfolding record-of-codes codes-fit
   the-record says on tall wide p =

@@ -1,10 +1,10 @@
--- Laws of the text: what the reader says of sizes and cells, the text of a refused file and that of an accepted one, and that the two numbers
--- of a verdict make its line. They rest on the laws of the reader.
-use Prim.Native.Nat.{ℕ, zero, suc, _*_, _≤_}
+-- Laws of the text: that of a refused file and that of an accepted one, and that the two numbers of a verdict make its line. They rest on the
+-- laws of the reader.
+use Prim.Native.Nat.{ℕ, zero, suc, _*_}
 use mathlib.Core.Path.{_≡_, refl}
 use mathlib.Core.Bool.{true}
 use mathlib.Core.List.{List, [], _∷_, _++_, append-assoc}
-use lib.ListN.{length, take}
+use lib.ListN.{take}
 use Rattle.rules.specs.Grid.{Accepted}
 use Rattle.model.specs.Bounds.{is-size}
 use Rattle.model.specs.RefusalLaws.{test-of-size}
@@ -26,12 +26,6 @@ judged-parts said = simp append-assoc
 -- ## What was read
 
 module _ (file : List ℕ) (reading : Reading) (same : reading ≡ read file) where
-  pub pads-fit : reading .height * reading .width ≤ 256
-  pads-fit = rw same (read-sound file .pads-in-cells)
-
-  pub cells-fit : length (reading .cells) ≡ 256
-  cells-fit = rw same (read-sound file .cell-count)
-
   pub refused-text : (digits : List ℕ) → (reading .number ≡ 0 → ⊥) → {bytes : List ℕ} {long : ℕ}
       → Written 54 (refusal-line (reading .number) (reading .line) (reading .field)) bytes long → Written 54 (judged-text digits (read file)) bytes long
   unfolding judged-text

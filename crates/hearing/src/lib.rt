@@ -8,6 +8,7 @@ ghost use lib.Dec.{ltb};
 ghost use lib.ListN.{length};
 ghost use Rattle.rules.specs.Grid.{right, down, field-side, places, place-at};
 ghost use Rattle.rules.specs.Record.{byte-of, byte-at-place, field};
+ghost use Rattle.rules.specs.RecordLaws.{field-row};
 ghost use Rattle.model.specs.Bounds.{is-size};
 ghost use Rattle.model.specs.GridFile.{read};
 ghost use Rattle.model.specs.Printed.{refusal-line};
@@ -15,7 +16,7 @@ ghost use Rattle.model.specs.JudgeText.{digit-at, code-at, coded, digit-fits, r
 ghost use Rattle.text.specs.Put.{Put};
 ghost use Rattle.printed.specs.Written.{Written};
 ghost use Rattle.judging.specs.Judging.{judged-says};
-ghost use Rattle.hearing.specs.CodedRecord.{codes-fit, coded-bytes, coded-row};
+ghost use Rattle.hearing.specs.CodedRecord.{codes-fit, coded-bytes};
 ghost use Rattle.hearing.specs.Usage.{usage-line};
 use grid::Edge;
 use grid::Pads;
@@ -147,7 +148,7 @@ fn byte_at(digits: &[u8], width: usize, row: usize, column: usize) -> u8
 // Puts one row of the record from a place on; the place after it.
 fn put_row(out: &mut [u8], at: usize, digits: &[u8], width: usize, row: usize) -> usize
     requires { ⌜ (2 ≤ width) × (width ≤ 16) × (row < 31) × (at + field-side width ≤ length (now out)) ⌝ }
-    ensures { λ r. ⌜ Put (now (out .entry)) (now (out .exit)) at (coded-row width (now (digits .entry)) row) r ⌝ }
+    ensures { λ r. ⌜ Put (now (out .entry)) (now (out .exit)) at (field-row width (coded-bytes (now (digits .entry))) row) r ⌝ }
 {
     let side = 2 * width - 1;
     let mut column = 0;

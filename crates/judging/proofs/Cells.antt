@@ -17,7 +17,7 @@ use Rattle.rules.specs.CheckedListed.{not-blank}
 use Rattle.rules.specs.Tests.{conflict}
 use Rattle.model.specs.Judge.{finished}
 use Rattle.boardview.specs.View.{end-of}
-use Rattle.boardview.specs.Bytes.{default-free}
+use Rattle.model.specs.Lists.{default-free}
 use Rattle.boardview.specs.Signed.{back, from-bits}
 use Rattle.judging.specs.Following.{finished-at}
 use Rattle.judging.specs.Shape.{taken-at}

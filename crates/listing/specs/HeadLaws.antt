@@ -1,6 +1,6 @@
 -- The head of the text, from what the reader and the search answer: `refused-head` for a refused file, `accepted-head` for an accepted one.
 -- They rest on the laws of the reader and on the contract of `solve`.
-use Prim.Native.Nat.{ℕ, zero, suc, _*_, _≤_}
+use Prim.Native.Nat.{ℕ, zero, suc, _*_}
 use mathlib.Core.Path.{_≡_, refl, sym, ap, _∙_}
 use mathlib.Core.Bool.{Bool, true, false}
 use mathlib.Core.List.{List, [], _∷_}
@@ -37,13 +37,6 @@ declined-sizes s (byte ∷ bytes) n = go (refusal s byte) refl (declined-sizes (
     go (suc m) h rest = rw (h, read-from) (refl, refl)
 
 module _ (file : List ℕ) (reading : Reading) (same : reading ≡ read file) where
-  -- what the reader says of sizes and cells
-  pub pads-fit : reading .height * reading .width ≤ 256
-  pads-fit = rw same (read-sound file .pads-in-cells)
-
-  pub cells-fit : length (reading .cells) ≡ 256
-  cells-fit = rw same (read-sound file .cell-count)
-
   refused-sizes : (reading .number ≡ 0 → ⊥) → (reading .height ≡ 0) × (reading .width ≡ 0)
   unfolding read
   refused-sizes n = rw same (declined-sizes start file (rw same at n))

@@ -35,7 +35,8 @@ pub record JudgedGrids : Type 0 where
   pub around-a-hole-2-3 : Judged 2 3 (pos 5 ∷ h ∷ pos 5 ∷ o ∷ o ∷ o ∷ [])
   pub pair-3-2 : Judged 3 2 (pos 7 ∷ o ∷ o ∷ o ∷ o ∷ pos 7 ∷ [])
   pub corner-and-pair-3-2 : Judged 3 2 (pos 1 ∷ o ∷ h ∷ pos 1 ∷ pos 0 ∷ pos 0 ∷ [])
-  pub loop-beside-a-pair-3-3 : Judged 3 3 (pos 1 ∷ o ∷ o ∷ pos 1 ∷ o ∷ o ∷ h ∷ h ∷ o ∷ [])
+  pub loop-beside-a-pair-2-3 : Judged 2 3 (o ∷ o ∷ pos 7 ∷ o ∷ o ∷ pos 7 ∷ [])
+  pub holes-3-2 : Judged 3 2 (o ∷ pos 1 ∷ pos 1 ∷ h ∷ h ∷ o ∷ [])
 
 pub judged-grids : JudgedGrids
 unfolding counted-verdict all-below drawing-of-codes codes-at before-each all-drawings relabel labels codes-agree none-closed is-ordinary is-listed drawing-of field record-of tabulate place-at parity grid-of cell-of has-corner diagonal not-blank squares-checked corners-checked unjoinable joined-ends put-end put-end-at after-line after-place followed is-ordinary-record has-listed-shape verdict
@@ -50,5 +51,6 @@ judged-grids = record {
   around-a-hole-2-3 = refl;
   pair-3-2 = refl;
   corner-and-pair-3-2 = refl;
-  loop-beside-a-pair-3-3 = refl;
+  loop-beside-a-pair-2-3 = refl;
+  holes-3-2 = refl;
 }

@@ -341,3 +341,11 @@ read-from-sound s (byte ∷ bytes) sound = go (refusal s byte) refl (λ t. read-
 pub read-sound : (bytes : List ℕ) → SoundReading (read bytes)
 unfolding read
 read-sound bytes = read-from-sound start bytes start-sound
+
+-- the same of a reading that is known to be the file's
+module _ (file : List ℕ) (reading : Reading) (same : reading ≡ read file) where
+  pub pads-fit : reading .height * reading .width ≤ 256
+  pads-fit = rw same (read-sound file .pads-in-cells)
+
+  pub cells-fit : length (reading .cells) ≡ 256
+  cells-fit = rw same (read-sound file .cell-count)

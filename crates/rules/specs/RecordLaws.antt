@@ -4,10 +4,11 @@
 use Prim.Native.Nat.{ℕ, zero, suc, _+_, _*_, _%_, _/_, _≤_, _<_}
 use mathlib.Core.Path.{_≡_, refl, sym, _∙_, ap}
 use mathlib.Core.Bool.{Bool, true, false}
-use mathlib.Core.List.{_∷_, _++_}
+use mathlib.Core.List.{List, [], _∷_, _++_}
 use native.Mathlib.Omega.{arith}
 use native.Mathlib.Decide.{decLt}
-use native.Mathlib.Nat.{div-add-mod', mod-lt, mod-eq-of-lt, div-eq-of-lt, div-lt-iff-lt-mul, le-div-iff-mul-le, add-div-right, mul-add-div-right, mul-add-mod-self-right, mul-le-mul-right, suc-mul, suc-add, add-zero, zero-add, add-assoc}
+use native.Mathlib.Nat.{div-add-mod', mod-lt, mod-eq-of-lt, div-eq-of-lt, div-lt-iff-lt-mul, le-div-iff-mul-le, add-div-right, mul-add-div-right, mul-add-mod-self-right, mul-le-mul-right, suc-mul, zero-mul, suc-add, add-zero, zero-add, add-assoc}
+use native.Mathlib.Numerals.{add-one}
 use borrow.Author.Tests.{lt-ltb, le-ltb}
 use lib.Dec.{eqb}
 use lib.ListN.{getD, length, List·getD-eq-default}
@@ -76,6 +77,42 @@ field-at height width bytes row column row-in column-in =
     getD-from-zero (λ i. byte-at-place bytes (place-at width (i / field-side width) (i % field-side width))) (places height width)
     (row * field-side width + column) undecided-byte (number-in-field width row column column-in height row-in)
     ∙ (rw (row-of-number width row column column-in, column-of-number width row column column-in) refl)
+
+-- one row of it, and so many rows from the first on
+unfoldable pub field-row : ℕ → (Edge → ℕ) → ℕ → List ℕ
+field-row width bytes row = tabulate (λ column. byte-at-place bytes (place-at width row column)) 0 (field-side width)
+
+unfoldable pub field-rows : ℕ → (Edge → ℕ) → ℕ → List ℕ
+field-rows width bytes rows = tabulate (λ i. byte-at-place bytes (place-at width (i / field-side width) (i % field-side width))) 0 (rows * field-side width)
+
+module _ (width : ℕ) (bytes : Edge → ℕ) where
+  abbrev side : ℕ
+  side = field-side width
+
+  abbrev byte-in-field : ℕ → ℕ
+  byte-in-field i = byte-at-place bytes (place-at width (i / side) (i % side))
+
+  pub no-rows : field-rows width bytes 0 ≡ []
+  unfolding field-rows tabulate
+  no-rows = ap (tabulate byte-in-field 0) (zero-mul side)
+
+  pub length-rows : (rows : ℕ) → length (field-rows width bytes rows) ≡ rows * side
+  unfolding field-rows
+  length-rows rows = length-tabulate byte-in-field 0 (rows * side)
+
+  pub next-rows : (rows : ℕ) → field-rows width bytes (rows + 1) ≡ field-rows width bytes rows ++ field-row width bytes rows
+  unfolding field-rows field-row
+  next-rows rows =
+      ap (tabulate byte-in-field 0) (ap (λ (n : ℕ). n * side) (add-one rows) ∙ suc-mul rows side)
+      ∙ tabulate-parts byte-in-field 0 (rows * side) side
+      ∙ ap (λ (l : List ℕ). tabulate byte-in-field 0 (rows * side) ++ l)
+      (ap (λ (n : ℕ). tabulate byte-in-field n side) (zero-add (rows * side) ∙ sym (add-zero (rows * side)))
+      ∙ tabulate-from byte-in-field (rows * side) 0 side
+      ∙ tabulate-same _ _ 0 side (λ column low high. rw (row-of-number width rows column (omega arith), column-of-number width rows column (omega arith)) refl))
+
+  pub all-rows : (height : ℕ) → field-rows width bytes (field-side height) ≡ field height width bytes
+  unfolding field-rows field
+  all-rows height = refl
 
 pub length-field : (height width : ℕ) (bytes : Edge → ℕ) → length (field height width bytes) ≡ places height width
 unfolding field

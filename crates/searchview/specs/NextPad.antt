@@ -14,7 +14,8 @@ use Rattle.rules.specs.Tests.{both, both-off, is-so}
 use Rattle.model.specs.Board.{State, isUndecided, has-right, has-down}
 use Rattle.model.specs.Search.{next-pad}
 use Rattle.boardview.specs.View.{slot-on, view}
-use Rattle.boardview.specs.Bytes.{default-free, undecided-byte-test, edge-on}
+use Rattle.model.specs.Lists.{default-free}
+use Rattle.boardview.specs.Bytes.{undecided-byte-test, edge-on}
 use Rattle.boardview.specs.ShownRecord.{edges-only}
 use Rattle.searchview.specs.Shown.{EdgesReady, last-row, NextPad}
 

@@ -16,7 +16,8 @@ use Rattle.rules.specs.RecordLaws.{length-field}
 use Rattle.model.specs.Board.{isLine, has-left, has-up}
 use Rattle.model.specs.Search.{degree-so-far, least}
 use Rattle.boardview.specs.View.{slot, slot-on, view, grid-in, has-bit, clue-bit, Kinds}
-use Rattle.boardview.specs.Bytes.{default-free, line-byte-test}
+use Rattle.model.specs.Lists.{default-free}
+use Rattle.boardview.specs.Bytes.{line-byte-test}
 use Rattle.boardview.specs.Geometry.{last-before, low-off, slot-is}
 use Rattle.boardview.specs.Items.{clue-test}
 use Rattle.boardview.specs.ShownRecord.{edges-only, bytes-shown, record-shown, put-bytes}

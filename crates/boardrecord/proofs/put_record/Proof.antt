@@ -5,7 +5,7 @@ use mathlib.Core.Path.{refl}
 use native.Mathlib.Omega.{arith}
 use Rattle.rules.specs.Places.{few-places}
 use Rattle.boardview.specs.View.{grid-in}
-use Rattle.boardview.specs.ShownRecordLaws.{RowsWritten, no-rows, few-lines, few-in-row, row-put, all-rows, row-fits}
+use Rattle.boardview.specs.ShownRecordLaws.{RowsWritten, no-row-written, few-lines, few-in-row, row-put, all-rows, row-fits}
 use Rattle.boardrecord.proofs.put_record.Statement.{statement}
 use Rattle.boardrecord.proofs.put_record.Tie as tie
 
@@ -34,7 +34,7 @@ sub-side : tie.Need-sub-side Inv-loop μ-loop
 sub-side c = omega arith
 
 loop-holds : tie.Need-loop-holds Inv-loop μ-loop
-loop-holds c = (omega arith, no-rows _ _ _ _)
+loop-holds c = (omega arith, no-row-written _ _ _ _)
 
 mul-put-row : tie.Need-mul-put-row Inv-loop μ-loop
 mul-put-row c = omega (arith, row-fits _ _ _ _ _ (c .before .before .before .height .ensures) (c .before .before .before .before .width .ensures) (c .before .loop-test .taken), c .before .before .before .before .before .before .pre .3)

@@ -2,7 +2,7 @@
 use mathlib.Core.Path.{sym}
 use lib.ListN.{List·getD-eq-default}
 use borrow.Author.Needs.{needs}
-use Rattle.hearing.proofs.DigitLaws.{default-free}
+use Rattle.model.specs.Lists.{default-free}
 use Rattle.hearing.proofs.digit_at.Statement.{statement}
 use Rattle.hearing.proofs.digit_at.Tie as tie
 

@@ -4,7 +4,8 @@ use mathlib.Core.Path.{_≡_, sym}
 use native.Mathlib.Omega.{arith}
 use borrow.Author.Needs.{needs}
 use lib.Seq.{length-take-le}
-use Rattle.hearing.proofs.TextLaws.{pads-fit, cells-fit, refused-text, tall, wide, accepted-text}
+use Rattle.reading.specs.ReadingLaws.{pads-fit, cells-fit}
+use Rattle.hearing.proofs.TextLaws.{refused-text, tall, wide, accepted-text}
 use Rattle.hearing.proofs.judged.Statement.{statement}
 use Rattle.hearing.proofs.judged.Tie as tie
 

@@ -5,13 +5,14 @@ use native.Mathlib.Omega.{arith}
 use Rattle.model.specs.RefusalLaws.{size-of-test}
 use Rattle.text.specs.Put.{Put}
 use Rattle.text.specs.PutLaws.{put-length, put-none, put-same}
-use Rattle.hearing.specs.CodedRecord.{coded-rows}
-use Rattle.hearing.proofs.RowLaws.{no-rows, row-has-room, one-row-put, all-put}
+use Rattle.rules.specs.RecordLaws.{field-rows, no-rows}
+use Rattle.hearing.specs.CodedRecord.{coded-bytes}
+use Rattle.hearing.proofs.RowLaws.{row-has-room, one-row-put, all-put}
 use Rattle.hearing.proofs.put_record.Statement.{statement}
 use Rattle.hearing.proofs.put_record.Tie as tie
 
 abbrev Inv-loop : tie.InvT-loop
-Inv-loop out₀ digits height width rows at₀ row₀ out at row = (row ≤ rows) × Put out₀ out 0 (coded-rows width digits row) at
+Inv-loop out₀ digits height width rows at₀ row₀ out at row = (row ≤ rows) × Put out₀ out 0 (field-rows width (coded-bytes digits) row) at
 
 abbrev μ-loop : tie.MeasureT-loop
 μ-loop out₀ digits height width rows at₀ row₀ out at row = rows - row

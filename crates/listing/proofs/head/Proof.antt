@@ -4,7 +4,8 @@ use mathlib.Core.Path.{sym}
 use native.Mathlib.Omega.{arith}
 use borrow.Author.Needs.{needs}
 use lib.Seq.{length-take-le}
-use Rattle.listing.specs.HeadLaws.{refused-head, pads-fit, cells-fit, accepted-head}
+use Rattle.reading.specs.ReadingLaws.{pads-fit, cells-fit}
+use Rattle.listing.specs.HeadLaws.{refused-head, accepted-head}
 use Rattle.listing.proofs.head.Statement.{statement}
 use Rattle.listing.proofs.head.Tie as tie
 

@@ -1,0 +1,170 @@
+// What the cases that were compared have shown, counted and printed: how many
+// there were of each kind and of each answer.
+
+use crate::answers::{Pads, Run, HOLE};
+use crate::cases::{Asked, Given};
+use crate::expected::{written_text, Answer};
+use crate::judged::Found;
+use std::collections::BTreeMap;
+
+/// What the board calls that were compared have shown.
+#[derive(Default)]
+pub struct ShownCalls {
+    on_flagged: usize,
+    going_on: usize,
+    declined: [usize; 13],
+}
+
+impl ShownCalls {
+    /// Each call has a block: number, answer, flag, and the rest.
+    pub fn count(&mut self, calls: &[Asked], answer: &Answer) {
+        let (mut flagged, mut on_flagged) = (false, 0);
+        let size = answer.returned / calls.len();
+        for (index, call) in calls.iter().enumerate().take_while(|_| size > 0) {
+            let block = &answer.signed[index * size..];
+            let accepted = block[0] == 0;
+            self.declined[block[0] as usize] += !accepted as usize;
+            on_flagged += (flagged && accepted && matches!(call, Asked::Decide(..))) as usize;
+            flagged = block[2] == 1;
+        }
+        self.on_flagged += on_flagged;
+        self.going_on += (on_flagged >= 3) as usize;
+    }
+
+    pub fn figures(&self) -> String {
+        format!(
+            "{} decisions on flagged boards, {} sequences with three or more of them; declined calls and boards by number: {:?}",
+            self.on_flagged,
+            self.going_on,
+            (7..13).map(|number| (number, self.declined[number])).collect::<Vec<_>>()
+        )
+    }
+}
+
+/// How many files or writes were accepted (number 0), how many refused, by
+/// number, how many had holes, and how many were written or read back.
+#[derive(Default)]
+pub struct ShownNumbers {
+    numbers: BTreeMap<u64, usize>,
+    with_holes: usize,
+    back: usize,
+}
+
+impl ShownNumbers {
+    /// Where a slice was too short for the answer, there is no number.
+    pub fn count(&mut self, answer: &Answer) {
+        if answer.returned > 0 {
+            *self.numbers.entry(answer.numbers[0]).or_default() += 1;
+        }
+        let mut grids = answer.back.iter().chain([answer]);
+        self.with_holes += grids.any(|grid| grid.cells.contains(&HOLE)) as usize;
+        self.back += !answer.back.is_empty() as usize;
+    }
+
+    pub fn figures(&self) -> String {
+        let (numbers, with_holes, back) = (&self.numbers, self.with_holes, self.back);
+        format!("by number: {numbers:?}; {with_holes} of the accepted with holes; {back} of them")
+    }
+}
+
+/// How many rooms were one short of the text, equal to it and beyond it.
+#[derive(Default)]
+pub struct ShownRooms {
+    one_short: usize,
+    equal: usize,
+    beyond: usize,
+}
+
+impl ShownRooms {
+    /// Where the grid is declined or no answer is given, there is no text.
+    pub fn count(&mut self, grid: &Given, room: usize, answer: &Answer) {
+        let length = written_text(grid).len();
+        if length > 0 && answer.returned > 0 {
+            self.one_short += (room + 1 == length) as usize;
+            self.equal += (room == length) as usize;
+            self.beyond += (room > length) as usize;
+        }
+    }
+
+    pub fn figures(&self) -> String {
+        format!(
+            "rooms: {} one short of the text, {} equal to it, {} beyond it",
+            self.one_short, self.equal, self.beyond
+        )
+    }
+}
+
+/// Searches of small grids, how many grids had holes, and how many of these
+/// had layouts.
+#[derive(Default)]
+pub struct ShownHoles {
+    pub searches: usize,
+    pub grids: usize,
+    pub with_layouts: usize,
+}
+
+impl ShownHoles {
+    pub fn count(&mut self, pads: &Pads, all: &Run) {
+        self.grids += pads.has_hole() as usize;
+        self.with_layouts += (pads.has_hole() && all.layouts > 0) as usize;
+    }
+
+    pub fn figures(&self) -> String {
+        format!(
+            "{} searches by the rules alone; {} grids with holes, {} of them with layouts",
+            self.searches, self.grids, self.with_layouts
+        )
+    }
+}
+
+/// Grids whose drawings were judged, how many of them had holes, and the records
+/// by what they are.
+#[derive(Default)]
+pub struct ShownDrawings {
+    pub grids: usize,
+    pub with_holes: usize,
+    pub found: BTreeMap<Found, usize>,
+}
+
+impl ShownDrawings {
+    pub fn count_grid(&mut self, pads: &Pads) {
+        self.grids += 1;
+        self.with_holes += pads.has_hole() as usize;
+    }
+
+    pub fn records(&self) -> usize {
+        self.found.values().sum()
+    }
+
+    pub fn figures(&self) -> String {
+        let (grids, with_holes, found) = (self.grids, self.with_holes, &self.found);
+        let records = self.records();
+        format!("{grids} grids, {with_holes} of them with holes, {records} records: {found:?}")
+    }
+}
+
+/// Small grids of which every drawing was tried; grids of all sizes, with the
+/// layouts of their searches; and declined grids by number.
+#[derive(Default)]
+pub struct ShownJudged {
+    pub turns: usize,
+    pub tried: ShownDrawings,
+    pub drawn: ShownDrawings,
+    pub layouts: usize,
+    pub declined: BTreeMap<u64, usize>,
+}
+
+impl ShownJudged {
+    pub fn records(&self) -> usize {
+        self.tried.records() + self.drawn.records()
+    }
+
+    pub fn print(&self) {
+        println!("judged, every drawing: {}", self.tried.figures());
+        println!("judged, all sizes: {}", self.drawn.figures());
+        println!(
+            "{} layouts of searches judged; grids by number, mostly declined: {:?}",
+            self.layouts, self.declined
+        );
+    }
+}
