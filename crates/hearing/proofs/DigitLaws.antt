@@ -15,8 +15,7 @@ use Rattle.rules.specs.Tests.{all-below, all-below-at, both-on, not-so, conflic
 use Rattle.grid.specs.PadsAt.{pads-of, edge-beside, edge-above, edge-nowhere, told-place}
 use Rattle.grid.specs.declared.Pads.{Pads}
 use Rattle.grid.specs.declared.Pads.the-variants.{Beside, Above, NoEdge}
-use Rattle.model.specs.JudgeText.{digit-at, coded, digit-fits}
-use Rattle.hearing.specs.CodedRecord.{codes-fit, coded-bytes}
+use Rattle.model.specs.JudgeText.{digit-at, coded, digit-fits, codes-fit, coded-bytes}
 
 -- ## A line, if the code has it
 

@@ -13,12 +13,11 @@ use Rattle.rules.specs.RecordLaws.{tabulate-parts, field-row, field-rows, lengt
 use Rattle.rules.specs.Places.{few-places}
 use Rattle.model.specs.Bounds.{is-size}
 use Rattle.model.specs.RefusalLaws.{size-of-test}
-use Rattle.model.specs.JudgeText.{record-of-codes}
+use Rattle.model.specs.JudgeText.{record-of-codes, codes-fit, coded-bytes}
 use Rattle.text.specs.Put.{Put}
 use Rattle.text.specs.PutLaws.{put-both, put-one, put-none, put-same, put-next}
 use Rattle.printed.specs.Written.{zeros, Written}
 use Rattle.printed.specs.Filled.{put-written}
-use Rattle.hearing.specs.CodedRecord.{codes-fit, coded-bytes}
 
 -- ## A row, byte by byte
 

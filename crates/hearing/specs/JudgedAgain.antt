@@ -24,7 +24,7 @@ use Rattle.model.specs.Decimal.{digit-byte}
 use Rattle.model.specs.GridFile.{read}
 use Rattle.model.specs.Printed.{line-at, right-line, down-line, code-of-pad, code-digits-from, code-digits}
 use Rattle.model.specs.Judge.{judge}
-use Rattle.model.specs.JudgeText.{zero-digit, digit-at, code-at, coded, digit-fits, record-of-codes, judged-line, judged-text, judge-text}
+use Rattle.model.specs.JudgeText.{zero-digit, digit-at, code-at, coded, digit-fits, codes-fit, record-of-codes, judged-line, judged-text, judge-text}
 use Rattle.model.specs.Search.{scan, search}
 use Rattle.model.specs.Routes.{routes-limit, routes-room, routes-found}
 use Rattle.reading.specs.ReadingLaws.{read-sound}
@@ -132,7 +132,7 @@ module _ (g : Grid) (wide : 2 ≤ g .width) (D : Drawing) (placed : Placed g D) 
       unless false inside so = refl
 
   same-record : record-of-codes (g .height) (g .width) digits ≡ bytes
-  unfolding record-of-codes record-of
+  unfolding record-of-codes codes-fit record-of
   same-record =
       rw (eq-eqb _ _ (one-digit-a-pad (g .height) (g .width) bytes), all-below-so (digit-fits (g .height) (g .width) digits) (pads g) fits)
       (field-same g wide (λ e. byte-of (coded digits e)) (λ e. byte-of (drawn D e)) (λ e on. ap byte-of (told e on)))

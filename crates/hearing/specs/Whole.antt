@@ -14,7 +14,7 @@ use borrow.Author.Tests.{leb-false, ne-eqb}
 use Rattle.rules.specs.Grid.{Accepted}
 use Rattle.model.specs.GridFile.{Reading, read}
 use Rattle.model.specs.Judge.{judge}
-use Rattle.model.specs.JudgeText.{record-of-codes, judged-text, judge-text}
+use Rattle.model.specs.JudgeText.{codes-fit, record-of-codes, judged-text, judge-text}
 use Rattle.printed.specs.Written.{Written, text-of-bytes}
 use Rattle.reading.specs.ReadingLaws.{SoundReading, read-sound}
 use Rattle.reading.specs.LongFiles.{first-bytes-suffice}
@@ -27,7 +27,7 @@ whole-file file digits written = text-of-bytes written ∙ ap (judged-text digit
 -- ## Codes of another length
 
 pub other-length : (height width : ℕ) (digits : List ℕ) → (length digits ≡ height * width → ⊥) → record-of-codes height width digits ≡ []
-unfolding record-of-codes
+unfolding record-of-codes codes-fit
 other-length height width digits other = rw (ne-eqb (length digits) (height * width) other) refl
 
 -- more than 256 codes are no more to a grid than none

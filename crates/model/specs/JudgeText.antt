@@ -37,12 +37,16 @@ digit-fits height width digits v =
     && ((not (coded digits (right v)) || ltb (v % width + 1) width)
     && (not (coded digits (down v)) || ltb (v + width) (height * width))))
 
--- THE RECORD of codes: one for each pad, each fitting; other codes have the empty record, which is no layout's
+-- one for each pad, each fitting
+unfoldable pub codes-fit : ℕ → ℕ → List ℕ → Bool
+codes-fit height width digits = eqb (length digits) (height * width) && all-below (digit-fits height width digits) (height * width)
+
+-- THE RECORD of codes; codes that do not fit have the empty record, which is no layout's
+abbrev pub coded-bytes : List ℕ → Edge → ℕ
+coded-bytes digits e = byte-of (coded digits e)
+
 unfoldable pub record-of-codes : ℕ → ℕ → List ℕ → List ℕ
-record-of-codes height width digits =
-    if eqb (length digits) (height * width) && all-below (digit-fits height width digits) (height * width)
-    then field height width (λ e. byte-of (coded digits e))
-    else []
+record-of-codes height width digits = if codes-fit height width digits then field height width (coded-bytes digits) else []
 
 -- THE LINE that is printed: verdict and lines
 unfoldable pub judged-line : Judged → List ℕ
@@ -59,6 +63,10 @@ judged-text digits reading =
       | suc n ↦ refusal-line (suc n) (reading .line) (reading .field)
     ]
 
--- of the bytes of standard input the first 4,096 are read
+-- WHAT `judge` PRINTS for its one argument; of the bytes of standard input the first 4,096 are read
 unfoldable pub judge-text : List ℕ → List ℕ → List ℕ
 judge-text digits input = judged-text digits (read (take 4096 input))
+
+-- and for no argument, or more than one: how it is called
+unfoldable pub usage-line : List ℕ
+usage-line = bytes "judge CODES < GRID-FILE: CODES are the digits of the pads, as routes prints them\n"

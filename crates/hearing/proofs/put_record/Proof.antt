@@ -6,7 +6,7 @@ use Rattle.model.specs.RefusalLaws.{size-of-test}
 use Rattle.text.specs.Put.{Put}
 use Rattle.text.specs.PutLaws.{put-length, put-none, put-same}
 use Rattle.rules.specs.RecordLaws.{field-rows, no-rows}
-use Rattle.hearing.specs.CodedRecord.{coded-bytes}
+use Rattle.model.specs.JudgeText.{coded-bytes}
 use Rattle.hearing.proofs.RowLaws.{row-has-room, one-row-put, all-put}
 use Rattle.hearing.proofs.put_record.Statement.{statement}
 use Rattle.hearing.proofs.put_record.Tie as tie

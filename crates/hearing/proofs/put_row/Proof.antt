@@ -5,7 +5,7 @@ use Rattle.rules.specs.Grid.{place-at}
 use Rattle.rules.specs.Record.{byte-at-place, tabulate}
 use Rattle.text.specs.Put.{Put}
 use Rattle.text.specs.PutLaws.{put-length, put-none}
-use Rattle.hearing.specs.CodedRecord.{coded-bytes}
+use Rattle.model.specs.JudgeText.{coded-bytes}
 use Rattle.hearing.proofs.RowLaws.{byte-put, row-put}
 use Rattle.hearing.proofs.put_row.Statement.{statement}
 use Rattle.hearing.proofs.put_row.Tie as tie

@@ -1,7 +1,7 @@
 -- `hearing::usage` meets its contract: the bytes are those of the text. Assumes nothing.
 use mathlib.Core.Path.{refl}
 use Rattle.model.specs.Text.{bytes}
-use Rattle.hearing.specs.Usage.{usage-line}
+use Rattle.model.specs.JudgeText.{usage-line}
 use Rattle.hearing.proofs.usage.Statement.{statement}
 use Rattle.hearing.proofs.usage.Tie as tie
 
