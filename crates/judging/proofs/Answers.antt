@@ -1,31 +1,31 @@
--- Laws of the answers: the verdict by the two tests, and what is answered by the refusals, the verdict and the lines. They rest on the
--- model's Judge.antt.
+-- Laws of the answers: what is answered by the refusals, by the verdict of an accepted grid, and by the lines. They rest on the model's
+-- Judge.antt.
 use Prim.Native.Nat.{ℕ}
-use mathlib.Core.Path.{_≡_, refl}
-use mathlib.Core.Bool.{Bool, true, false, not}
+use mathlib.Core.Path.{_≡_, refl, ap, _∙_}
 use mathlib.Core.List.{List}
 use lib.IntN.{ℤ}
-use borrow.Author.Tests.{ne-eqb, not-true, not-false}
-use Rattle.rules.specs.Grid.{Grid, grid-of, Accepted}
+use borrow.Author.Tests.{ne-eqb}
+use Rattle.rules.specs.Grid.{grid-of, Accepted}
 use Rattle.rules.specs.Record.{record-lines}
 use Rattle.model.specs.Refusals.{grid-refusal}
 use Rattle.model.specs.RefusalLaws.{not-refused}
-use Rattle.model.specs.Judge.{is-ordinary-record, has-listed-shape, verdict, judge}
+use Rattle.model.specs.Judge as model
+use Rattle.model.specs.Judge.{verdict, judge}
+use Rattle.judging.specs.Judging.{answer}
 
--- THE VERDICT
-module _ (g : Grid) (bytes : List ℕ) {ordinary : Bool} (o : ordinary ≡ is-ordinary-record g bytes) where
-  pub says-0 : not ordinary ≡ true → 0 ≡ verdict g bytes
-  unfolding verdict
-  says-0 h = rw (← o, not-true ordinary h) refl
+-- A VERDICT WITH THE LINES
+module _ (said lines : ℕ) where
+  pub no-lines : said ≡ 0 → record { number = 0; index = 0; verdict = 0; lines = 0 } ≡ answer said lines
+  no-lines h = rw h refl
 
-  module _ (is : not ordinary ≡ false) {shape : Bool} (s : shape ≡ has-listed-shape g bytes) where
-    pub says-2 : shape ≡ true → 2 ≡ verdict g bytes
-    unfolding verdict
-    says-2 h = rw (← o, not-false ordinary is, ← s, h) refl
+  pub with-lines : (said ≡ 0 → ⊥) → record { number = 0; index = 0; verdict = said; lines = lines } ≡ answer said lines
+  with-lines h = rw (ne-eqb said 0 h) refl
 
-    pub says-1 : shape ≡ false → 1 ≡ verdict g bytes
-    unfolding verdict
-    says-1 h = rw (← o, not-false ordinary is, ← s, h) refl
+  pub no-layout : {r : model.Judged} → r ≡ answer 0 0 → 0 ≡ said → r ≡ answer said lines
+  no-layout is h = is ∙ ap (λ n. answer n lines) h
+
+  pub a-layout : {r : model.Judged} (n m : ℕ) → r ≡ answer n m → n ≡ said → m ≡ lines → r ≡ answer said lines
+  a-layout n m is h k = is ∙ (λ i. answer (h i) (k i))
 
 -- THE ANSWER
 module _ (height width : ℕ) (cells : List ℤ) (bytes : List ℕ) {number index : ℕ} (refusal : (number, index) ≡ grid-refusal height width cells) where
@@ -37,11 +37,6 @@ module _ (height width : ℕ) (cells : List ℤ) (bytes : List ℕ) {number inde
     pub accepted : Accepted height width cells
     accepted = not-refused height width cells (rw (← refusal) none)
 
-    module _ {said : ℕ} (is : said ≡ verdict (grid-of height width cells) bytes) where
-      pub no-lines : said ≡ 0 → record { number = 0; index = 0; verdict = 0; lines = 0 } ≡ judge height width cells bytes
-      unfolding judge
-      no-lines h = rw (← refusal, none, ← is, h) refl
-
-      pub with-lines : (said ≡ 0 → ⊥) → {lines : ℕ} → lines ≡ record-lines bytes → record { number = 0; index = 0; verdict = said; lines = lines } ≡ judge height width cells bytes
-      unfolding judge
-      with-lines h l = rw (← refusal, none, ← is, ne-eqb said 0 h, l) refl
+    pub judged : {said : model.Judged} → said ≡ answer (verdict (grid-of height width cells) bytes) (record-lines bytes) → said ≡ judge height width cells bytes
+    unfolding judge
+    judged is = rw (← refusal, none) is

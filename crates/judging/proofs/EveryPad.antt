@@ -31,9 +31,6 @@ module _ (test : ℕ → Bool) where
     unfolding all-below
     passes all h = rw (add-one i) (both-on all (sym is ∙ not-false r h))
 
-  pub all-passed : (i n : ℕ) → i ≤ n → n ≤ i → all-below test i ≡ true → true ≡ all-below test n
-  all-passed i n h k all = let e : i ≡ n = omega arith in sym (rw e at all)
-
 -- two tests that follow from each other are one
 same-truth : (a b : Bool) → (a ≡ true → b ≡ true) → (b ≡ true → a ≡ true) → a ≡ b
 same-truth true b to from = sym (to refl)
@@ -54,20 +51,20 @@ three-tests f g k n = same-truth _ _ together apart
         (all-below-so k n (λ v l. both (g v) _ (both (f v) _ (all-below-at _ n h v l) .1) .1)))
 
 -- row by row
-by-rows : (test : ℕ → Bool) (height width : ℕ) → 0 < width → all-below (λ y. all-below (λ x. test (pad-index width y x)) width) height ≡ all-below test (height * width)
+pub pad-inside : (height width y x : ℕ) → y < height → x < width → pad-index width y x < height * width
+pad-inside height width y x low inside =
+    let rows : suc y * width ≤ height * width = mul-le-mul-right width low in
+    omega (arith, suc-mul y width)
+
+pub by-rows : (test : ℕ → Bool) (height width : ℕ) → 0 < width → all-below (λ y. all-below (λ x. test (pad-index width y x)) width) height ≡ all-below test (height * width)
 by-rows test height width some = same-truth _ _ rows-to-pads pads-to-rows
   where
     rows-to-pads : all-below (λ y. all-below (λ x. test (pad-index width y x)) width) height ≡ true → all-below test (height * width) ≡ true
     rows-to-pads h = all-below-so test (height * width) (λ v l. ap test (sym (div-add-mod' v width))
         ∙ all-below-at (λ x. test (pad-index width (v / width) x)) width (all-below-at _ height h (v / width) (div-lt-iff-lt-mul some .1 l)) (v % width) (mod-lt v some))
 
-    pad-inside : (y x : ℕ) → y < height → x < width → pad-index width y x < height * width
-    pad-inside y x low inside =
-        let rows : suc y * width ≤ height * width = mul-le-mul-right width low in
-        omega (arith, suc-mul y width)
-
     pads-to-rows : all-below test (height * width) ≡ true → all-below (λ y. all-below (λ x. test (pad-index width y x)) width) height ≡ true
-    pads-to-rows h = all-below-so _ height (λ y low. all-below-so _ width (λ x inside. all-below-at test (height * width) h (pad-index width y x) (pad-inside y x low inside)))
+    pads-to-rows h = all-below-so _ height (λ y low. all-below-so _ width (λ x inside. all-below-at test (height * width) h (pad-index width y x) (pad-inside height width y x low inside)))
 
 -- THE SHAPE OF A LISTED DRAWING, row by row
 pub shape-by-rows : (height width : ℕ) (cells : List ℤ) (bytes : List ℕ) → 0 < width

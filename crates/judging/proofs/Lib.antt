@@ -4,5 +4,6 @@ mod Stretches
 mod Cells
 mod Drawn
 mod EveryPad
+mod Marks
 mod Ordinary
 mod Answers

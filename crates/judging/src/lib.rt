@@ -1,18 +1,19 @@
 // The judge of a drawing: whether a record of edge bytes is that of an ordinary or of a listed drawing of a grid, with its lines. What it
 // answers is the definition of the same name in the crate `model`, specs/Judge.antt there; the crate `ruletest` proves that it says what the
-// rules say. The ends of the pads are joined line by line, by the functions that step c of a decision calls.
+// rules say. The ends of the pads are joined line by line, by the functions that step c of a decision calls. The places are gone through
+// once, and then the pads once.
 ghost use mathlib.Core.Path.{_≡_};
 ghost use Prim.Native.Nat.{_+_, _*_, _≤_, _<_};
 ghost use lib.Dec.{eqb};
 ghost use lib.ListN.{length, getD};
 ghost use Rattle.rules.specs.Grid.{pad-index, place-at, field-side, places, grid-of, Accepted};
 ghost use Rattle.rules.specs.Drawing.{on-left, on-right};
-ghost use Rattle.rules.specs.Record.{line-byte, undecided-byte, drawing-of};
+ghost use Rattle.rules.specs.Record.{line-byte, undecided-byte, drawing-of, record-lines};
 ghost use Rattle.rules.specs.Tests.{all-below};
 ghost use Rattle.rules.specs.CheckedListed.{has-corner};
 ghost use Rattle.model.specs.Judge as model;
-ghost use Rattle.judging.specs.Judging.{judged-says};
-ghost use Rattle.judging.specs.Following.{InUse, Stepped, after-edge, FollowedOn, finished-at};
+ghost use Rattle.judging.specs.Judging.{judged-says, mark, answer};
+ghost use Rattle.judging.specs.Following.{InUse, Stepped, after-edge, lines-in, FollowedOn, finished-at};
 ghost use Rattle.judging.specs.Shape.{InColumn, taken-at, lines-around, square-keeps, corner-keeps, pad-keeps};
 use grid::BLANK;
 use grid::Edge;
@@ -33,6 +34,12 @@ pub struct Judged {
     pub index: usize,
     pub verdict: u8,
     pub lines: usize,
+}
+
+// What following a record has found: a byte or a line that is wrong, or so many lines.
+enum Followed {
+    Wrong,
+    Lines(usize),
 }
 
 // Joins the ends of the two pads of a line, if the line can be.
@@ -70,36 +77,53 @@ fn follow_place(ends: &mut [i32; 512], width: usize, row: usize, column: usize, 
     }
 }
 
-// Follows a row of the field.
-fn follow_row(ends: &mut [i32; 512], width: usize, row: usize, bytes: &[u8]) -> bool
-    requires { ⌜ (2 ≤ width) × (width ≤ 16) × (row < 31) × (row * field-side width + field-side width ≤ length (now bytes)) × InUse (now ends) ⌝ }
+// Follows a row of the field, and counts its lines with those before it.
+fn follow_row(
+    ends: &mut [i32; 512],
+    width: usize,
+    row: usize,
+    bytes: &[u8],
+    lines: usize,
+) -> Followed
+    requires { ⌜ (2 ≤ width) × (width ≤ 16) × (row < 31) × (row * field-side width + field-side width ≤ length (now bytes)) × InUse (now ends) × (lines ≡ lines-in (now bytes) (row * field-side width)) ⌝ }
     ensures { λ r. ⌜ FollowedOn width (now (bytes .entry)) (row * field-side width) (row * field-side width + field-side width) (now (ends .entry)) r (now (ends .exit)) ⌝ }
 {
     let side = 2 * width - 1;
+    let mut found = lines;
     let mut column = 0;
     while column < side {
-        if !follow_place(ends, width, row, column, bytes[row * side + column]) {
-            return false;
+        let held = bytes[row * side + column];
+        if !follow_place(ends, width, row, column, held) {
+            return Followed::Wrong;
+        }
+        if held == LINE {
+            found += 1;
         }
         column += 1;
     }
-    true
+    Followed::Lines(found)
 }
 
 // Follows the whole field, row by row.
-fn follow_record(ends: &mut [i32; 512], height: usize, width: usize, bytes: &[u8]) -> bool
+fn follow_record(ends: &mut [i32; 512], height: usize, width: usize, bytes: &[u8]) -> Followed
     requires { ⌜ (2 ≤ height) × (height ≤ 16) × (2 ≤ width) × (width ≤ 16) × (length (now bytes) ≡ places height width) × InUse (now ends) ⌝ }
     ensures { λ r. ⌜ FollowedOn width (now (bytes .entry)) 0 (places height width) (now (ends .entry)) r (now (ends .exit)) ⌝ }
 {
     let rows = 2 * height - 1;
+    let mut lines: usize = 0;
     let mut row = 0;
     while row < rows {
-        if !follow_row(ends, width, row, bytes) {
-            return false;
+        match follow_row(ends, width, row, bytes, lines) {
+            Followed::Wrong => {
+                return Followed::Wrong;
+            }
+            Followed::Lines(found) => {
+                lines = found;
+            }
         }
         row += 1;
     }
-    true
+    Followed::Lines(lines)
 }
 
 // Whether a pad is finished: a clue has its line, a blank pad two or none, a hole none.
@@ -116,36 +140,6 @@ fn is_finished(cells: &[i32], ends: &[i32; 512], v: usize) -> bool
         return false;
     }
     end == v as i32
-}
-
-// Whether all pads are finished.
-fn all_finished(cells: &[i32], ends: &[i32; 512]) -> bool
-    requires { ⌜ (length (now cells) ≤ 512) × (length (now ends) ≡ 512) ⌝ }
-    ensures { λ r. ⌜ r ≡ all-below (finished-at (now (cells .entry)) (now (ends .entry))) (length (now (cells .entry))) ⌝ }
-{
-    let mut v = 0;
-    while v < cells.len() {
-        if !is_finished(cells, ends, v) {
-            return false;
-        }
-        v += 1;
-    }
-    true
-}
-
-// Whether a record is that of an ordinary drawing.
-fn is_ordinary(height: usize, width: usize, cells: &[i32], bytes: &[u8]) -> bool
-    requires { ⌜ Accepted height width (now cells) ⌝ }
-    ensures { λ r. ⌜ r ≡ model.is-ordinary-record (grid-of height width (now (cells .entry))) (now (bytes .entry)) ⌝ }
-{
-    if bytes.len() != (2 * height - 1) * (2 * width - 1) {
-        return false;
-    }
-    let mut ends = boardbare::bare_ends(cells);
-    if !follow_record(&mut ends, height, width, bytes) {
-        return false;
-    }
-    all_finished(cells, &ends)
 }
 
 // Whether the place of that number holds a line; past the record's end there is none.
@@ -261,48 +255,85 @@ fn pad_keeps(height: usize, width: usize, cells: &[i32], bytes: &[u8], y: usize,
     left_corner_keeps(bytes, width, cells, y, x) && right_corner_keeps(bytes, width, cells, y, x)
 }
 
-// The rules of a listed drawing at every pad of a row.
-fn row_keeps(height: usize, width: usize, cells: &[i32], bytes: &[u8], y: usize) -> bool
-    requires { ⌜ (2 ≤ width) × (width ≤ 16) × (height ≤ 16) × (y < height) ⌝ }
-    ensures { λ r. ⌜ r ≡ all-below (λ x. pad-keeps height width (now (cells .entry)) (drawing-of width (now (bytes .entry))) (pad-index width y x)) width ⌝ }
+// The verdict by the pads of a row: 0 where one is not finished, 1 where one breaks a rule of a listed drawing, else 2.
+fn row_verdict(
+    height: usize,
+    width: usize,
+    cells: &[i32],
+    bytes: &[u8],
+    ends: &[i32; 512],
+    y: usize,
+) -> u8
+    requires { ⌜ Accepted height width (now cells) × (length (now ends) ≡ 512) × (y < height) ⌝ }
+    ensures { λ r. ⌜ r ≡ mark (all-below (λ x. finished-at (now (cells .entry)) (now (ends .entry)) (pad-index width y x)) width) (all-below (λ x. pad-keeps height width (now (cells .entry)) (drawing-of width (now (bytes .entry))) (pad-index width y x)) width) ⌝ }
 {
+    let mut least = 2;
     let mut x = 0;
     while x < width {
+        if !is_finished(cells, ends, y * width + x) {
+            return 0;
+        }
         if !pad_keeps(height, width, cells, bytes, y, x) {
-            return false;
+            least = 1;
         }
         x += 1;
     }
-    true
+    least
 }
 
-// The rules of a listed drawing at every pad.
-fn has_listed_shape(height: usize, width: usize, cells: &[i32], bytes: &[u8]) -> bool
-    requires { ⌜ Accepted height width (now cells) ⌝ }
-    ensures { λ r. ⌜ r ≡ model.has-listed-shape (grid-of height width (now (cells .entry))) (now (bytes .entry)) ⌝ }
+// The verdict by all pads, the least of the rows.
+fn pads_verdict(height: usize, width: usize, cells: &[i32], bytes: &[u8], ends: &[i32; 512]) -> u8
+    requires { ⌜ Accepted height width (now cells) × (length (now ends) ≡ 512) ⌝ }
+    ensures { λ r. ⌜ r ≡ mark (all-below (finished-at (now (cells .entry)) (now (ends .entry))) (height * width)) (model.has-listed-shape (grid-of height width (now (cells .entry))) (now (bytes .entry))) ⌝ }
 {
+    let mut least = 2;
     let mut y = 0;
     while y < height {
-        if !row_keeps(height, width, cells, bytes, y) {
-            return false;
+        let row = row_verdict(height, width, cells, bytes, ends, y);
+        if row == 0 {
+            return 0;
+        }
+        if row < least {
+            least = row;
         }
         y += 1;
     }
-    true
+    least
 }
 
-// The verdict on a record of an accepted grid.
-fn verdict(height: usize, width: usize, cells: &[i32], bytes: &[u8]) -> u8
-    requires { ⌜ Accepted height width (now cells) ⌝ }
-    ensures { λ r. ⌜ r ≡ model.verdict (grid-of height width (now (cells .entry))) (now (bytes .entry)) ⌝ }
+// The answer for an accepted grid: a verdict with the lines, 0 beside 0.
+fn answered(verdict: u8, lines: usize) -> Judged
+    ensures { λ r. ⌜ judged-says r ≡ answer verdict lines ⌝ }
 {
-    if !is_ordinary(height, width, cells, bytes) {
-        return 0;
+    if verdict == 0 {
+        return Judged {
+            number: 0,
+            index: 0,
+            verdict: 0,
+            lines: 0,
+        };
     }
-    if has_listed_shape(height, width, cells, bytes) {
-        return 2;
+    Judged {
+        number: 0,
+        index: 0,
+        verdict,
+        lines,
     }
-    1
+}
+
+// Judges a record of an accepted grid: its length, its places, the pads.
+fn judge_record(height: usize, width: usize, cells: &[i32], bytes: &[u8]) -> Judged
+    requires { ⌜ Accepted height width (now cells) ⌝ }
+    ensures { λ r. ⌜ judged-says r ≡ answer (model.verdict (grid-of height width (now (cells .entry))) (now (bytes .entry))) (record-lines (now (bytes .entry))) ⌝ }
+{
+    if bytes.len() != (2 * height - 1) * (2 * width - 1) {
+        return answered(0, 0);
+    }
+    let mut ends = boardbare::bare_ends(cells);
+    match follow_record(&mut ends, height, width, bytes) {
+        Followed::Wrong => answered(0, 0),
+        Followed::Lines(lines) => answered(pads_verdict(height, width, cells, bytes, &ends), lines),
+    }
 }
 
 // Judges a record: the grid's refusals beside a 0, or the verdict with the lines.
@@ -318,19 +349,5 @@ pub fn judge(height: usize, width: usize, cells: &[i32], bytes: &[u8]) -> Judged
             lines: 0,
         };
     }
-    let said = verdict(height, width, cells, bytes);
-    if said == 0 {
-        return Judged {
-            number: 0,
-            index: 0,
-            verdict: 0,
-            lines: 0,
-        };
-    }
-    Judged {
-        number: 0,
-        index: 0,
-        verdict: said,
-        lines: records::lines(bytes),
-    }
+    judge_record(height, width, cells, bytes)
 }

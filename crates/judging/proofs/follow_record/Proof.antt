@@ -1,19 +1,21 @@
--- `judging::follow_record` meets its contract. The loop has followed the first rows of the field; the rows that are left fall. Assumes nothing.
+-- `judging::follow_record` meets its contract. The loop has followed the first rows of the field and counted their lines; the rows that are
+-- left fall. Assumes nothing.
 use Prim.Native.Nat.{_*_, _-_, _≤_}
-use mathlib.Core.Bool.{true}
 use mathlib.Core.Path.{_≡_}
 use native.Mathlib.Omega.{arith}
+use borrow.Author.Needs.{needs}
 use Rattle.rules.specs.Grid.{field-side}
+use Rattle.judging.specs.declared.Followed.the-variants.{Lines}
 use Rattle.judging.specs.Following.{FollowedOn}
 use Rattle.judging.proofs.Stretches.{row-fits, no-row, row-wrong, row-right}
 use Rattle.judging.proofs.follow_record.Statement.{statement}
 use Rattle.judging.proofs.follow_record.Tie as tie
 
 abbrev Inv-loop : tie.InvT-loop
-Inv-loop ends₀ height width bytes rows row₀ ends row = (row ≤ field-side height) × FollowedOn width bytes 0 (row * field-side width) ends₀ true ends
+Inv-loop ends₀ height width bytes rows lines₀ row₀ ends lines row = (row ≤ field-side height) × FollowedOn width bytes 0 (row * field-side width) ends₀ (Lines lines) ends
 
 abbrev μ-loop : tie.MeasureT-loop
-μ-loop ends₀ height width bytes rows row₀ ends row = rows - row
+μ-loop ends₀ height width bytes rows lines₀ row₀ ends lines row = rows - row
 
 mul-rows : tie.Need-mul-rows Inv-loop μ-loop
 mul-rows c = omega arith
@@ -32,10 +34,17 @@ follow-row-requires c κs =
       omega (arith, c .before .loop-test .taken, start .pre .1),
       omega (arith, row-fits (start .args .width) (c .before .before .loop .row) _ (c .before .loop-test .taken), start .pre .4),
       c .before .before .loop .inv .1 .in-use,
+      c .before .before .loop .inv .1 .tells,
     )
 
+enum-told : tie.Need-enum-told Inv-loop μ-loop
+enum-told c = search needs
+
 returns : tie.Need-returns Inv-loop μ-loop
-returns c = row-wrong _ _ _ _ (c .before .before .before .loop-test .taken) (c .before .before .before .before .loop .inv .1) (c .before .follow-row .ensures) (c .if1 .taken)
+returns c = row-wrong _ _ _ _ (c .before .before .before .before .loop-test .taken) (c .before .before .before .before .before .loop .inv .1) (c .before .before .follow-row .ensures) (c .enum-told .given .1)
+
+enum-known-found : tie.Need-enum-known-found Inv-loop μ-loop
+enum-known-found c = search needs
 
 add-row : tie.Need-add-row Inv-loop μ-loop
 add-row c = omega arith
@@ -45,8 +54,8 @@ loop-less c = omega arith
 
 loop-again : tie.Need-loop-again Inv-loop μ-loop
 loop-again c = (
-  omega (arith, c .before .before .before .loop-test .taken),
-  row-right _ _ _ _ (c .before .before .before .loop-test .taken) (c .before .before .before .before .loop .inv .1) (c .before .follow-row .ensures) (c .if1 .left),
+  omega (arith, c .before .before .before .before .before .loop-test .taken),
+  row-right _ _ _ _ (c .before .before .before .before .before .loop-test .taken) (c .before .before .before .before .before .before .loop .inv .1) (c .before .before .before .follow-row .ensures) (c .before .found .given .1),
 )
 
 returns-2 : tie.Need-returns-2 Inv-loop μ-loop
@@ -65,7 +74,9 @@ follow-record-spec =
     sub-rows
     loop-holds
     follow-row-requires
+    enum-told
     returns
+    enum-known-found
     add-row
     loop-less
     loop-again
