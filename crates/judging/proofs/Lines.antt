@@ -14,12 +14,12 @@ use Rattle.rules.specs.Record.{undecided-byte, line-byte, none-byte}
 use Rattle.rules.specs.Places.{zero≢one}
 use Rattle.model.specs.Choice.{if_then_else_}
 use Rattle.model.specs.JoinedEnds.{at-pad, unjoinable, joined-ends}
-use Rattle.model.specs.Judge.{wrong, so-far, after-line, after-place}
+use Rattle.model.specs.Judge.{wrong, so-far, after-line, after-edge, after-place}
 use Rattle.grid.specs.PadsAt.{pads-of}
 use Rattle.grid.specs.declared.Pads.the-variants.{Beside, Above, NoEdge}
 use Rattle.boardview.specs.View.{end-at, joined}
 use Rattle.boardview.specs.Ends.{stay-near, joined-long, joined-at}
-use Rattle.judging.specs.Following.{told, InUse, Stepped, after-edge}
+use Rattle.judging.specs.Following.{told, InUse, Stepped}
 
 -- A LINE between pads v and q
 module _ (v q : ℕ) (ends : List ℤ) (hv : v < 512) (hq : q < 512) (good : InUse ends) where

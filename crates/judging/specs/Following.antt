@@ -5,15 +5,13 @@ use Prim.Native.Nat.{ℕ, _<_}
 use mathlib.Core.Path.{_≡_}
 use mathlib.Core.Bool.{Bool, true, false}
 use mathlib.Core.List.{List}
-use lib.Dec.{eqb}
 use lib.ListN.{getD, length, take}
 use lib.IntN.{ℤ}
 use Rattle.rules.specs.Grid.{cell-of, blank-cell, Grid}
-use Rattle.rules.specs.Record.{line-byte, none-byte, record-lines}
-use Rattle.model.specs.Choice.{if_then_else_}
+use Rattle.rules.specs.Record.{record-lines}
 use Rattle.model.specs.JoinedEnds.{End, at-pad}
 use Rattle.model.specs.Judge as model
-use Rattle.model.specs.Judge.{wrong, so-far, after-line, followed, finished}
+use Rattle.model.specs.Judge.{wrong, so-far, followed, finished}
 use Rattle.boardview.specs.View.{end-at}
 use Rattle.judging.specs.declared.Followed.{Followed}
 use Rattle.judging.specs.declared.Followed.the-variants.{Wrong, Lines}
@@ -32,13 +30,6 @@ pub record InUse (ends : List ℤ) : Type 0 where
 pub record Stepped (step : (ℕ → End) → model.Followed) (before : List ℤ) (r : Bool) (after : List ℤ) : Type 0 where
   pub says : told r after ≡ step (λ v. end-at before v)
   pub in-use : InUse after
-
--- the byte of an edge between pads u and v: 1 for a line, 2 for none, and no other
-unfoldable pub after-edge : ℕ → ℕ → ℕ → (ℕ → End) → model.Followed
-after-edge u v byte ends =
-    if eqb byte line-byte then after-line u v ends
-    else if eqb byte none-byte then so-far ends
-    else wrong
 
 -- THE LINES of a record's first n bytes
 abbrev pub lines-in : List ℕ → ℕ → ℕ

@@ -13,7 +13,7 @@ ghost use Rattle.rules.specs.Tests.{all-below};
 ghost use Rattle.rules.specs.CheckedListed.{has-corner};
 ghost use Rattle.model.specs.Judge as model;
 ghost use Rattle.judging.specs.Judging.{judged-says, mark, answer};
-ghost use Rattle.judging.specs.Following.{InUse, Stepped, after-edge, lines-in, FollowedOn, finished-at};
+ghost use Rattle.judging.specs.Following.{InUse, Stepped, lines-in, FollowedOn, finished-at};
 ghost use Rattle.judging.specs.Shape.{InColumn, taken-at, lines-around, square-keeps, corner-keeps, pad-keeps};
 use grid::BLANK;
 use grid::Edge;
@@ -57,7 +57,7 @@ fn follow_line(ends: &mut [i32; 512], first: usize, second: usize) -> bool
 // Follows the byte of an edge: 1 for a line, 2 for none, and no other.
 fn follow_edge(ends: &mut [i32; 512], first: usize, second: usize, byte: u8) -> bool
     requires { ⌜ (first < 512) × (second < 512) × InUse (now ends) ⌝ }
-    ensures { λ r. ⌜ Stepped (after-edge first second byte) (now (ends .entry)) r (now (ends .exit)) ⌝ }
+    ensures { λ r. ⌜ Stepped (model.after-edge first second byte) (now (ends .entry)) r (now (ends .exit)) ⌝ }
 {
     if byte == LINE {
         return follow_line(ends, first, second);

@@ -26,13 +26,17 @@ pub data Followed : Type 0 where
 unfoldable pub after-line : ℕ → ℕ → (ℕ → End) → Followed
 after-line u v ends = if unjoinable (ends u) (ends v) v then wrong else so-far (joined-ends ends u v (ends u) (ends v))
 
--- an edge's byte is 1, a line, or 2, none; between the edges the bytes are 0
-unfoldable pub after-place : ℕ → Place → ℕ → (ℕ → End) → Followed
-after-place width no-edge byte ends = if eqb byte undecided-byte then so-far ends else wrong
-after-place width (edge e) byte ends =
-    if eqb byte line-byte then after-line (first e) (second width e) ends
+-- the byte of an edge between them is 1, a line, or 2, none
+unfoldable pub after-edge : ℕ → ℕ → ℕ → (ℕ → End) → Followed
+after-edge u v byte ends =
+    if eqb byte line-byte then after-line u v ends
     else if eqb byte none-byte then so-far ends
     else wrong
+
+-- and between the edges the bytes are 0
+unfoldable pub after-place : ℕ → Place → ℕ → (ℕ → End) → Followed
+after-place width (edge e) byte ends = after-edge (first e) (second width e) byte ends
+after-place width no-edge byte ends = if eqb byte undecided-byte then so-far ends else wrong
 
 -- a pad is finished: a clue has its line, a blank pad two or none, a hole none
 abbrev pub finished : Cell → ℕ → End → Bool

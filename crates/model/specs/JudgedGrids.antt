@@ -11,7 +11,7 @@ use Rattle.rules.specs.Tests.{all-below}
 use Rattle.rules.specs.CheckedListed.{has-corner, diagonal, not-blank, squares-checked, corners-checked}
 use Rattle.model.specs.Choice.{if_then_else_}
 use Rattle.model.specs.JoinedEnds.{unjoinable, joined-ends, put-end, put-end-at}
-use Rattle.model.specs.Judge.{after-line, after-place, followed, is-ordinary-record, has-listed-shape, verdict}
+use Rattle.model.specs.Judge.{after-line, after-edge, after-place, followed, is-ordinary-record, has-listed-shape, verdict}
 use Rattle.model.specs.SmallGrids.{drawing-of-codes, codes-at, before-each, all-drawings, relabel, labels, codes-agree, none-closed, is-ordinary, is-listed, o, h}
 
 -- by the test that counts and labels
@@ -39,7 +39,7 @@ pub record JudgedGrids : Type 0 where
   pub holes-3-2 : Judged 3 2 (o ∷ pos 1 ∷ pos 1 ∷ h ∷ h ∷ o ∷ [])
 
 pub judged-grids : JudgedGrids
-unfolding counted-verdict all-below drawing-of-codes codes-at before-each all-drawings relabel labels codes-agree none-closed is-ordinary is-listed drawing-of field record-of tabulate place-at parity grid-of cell-of has-corner diagonal not-blank squares-checked corners-checked unjoinable joined-ends put-end put-end-at after-line after-place followed is-ordinary-record has-listed-shape verdict
+unfolding counted-verdict all-below drawing-of-codes codes-at before-each all-drawings relabel labels codes-agree none-closed is-ordinary is-listed drawing-of field record-of tabulate place-at parity grid-of cell-of has-corner diagonal not-blank squares-checked corners-checked unjoinable joined-ends put-end put-end-at after-line after-edge after-place followed is-ordinary-record has-listed-shape verdict
 judged-grids = record {
   blank-2-2 = refl;
   pair-2-2 = refl;

@@ -22,7 +22,7 @@ use Rattle.model.specs.Choice.{if_then_else_}
 use Rattle.model.specs.JoinedEnds.{End, at-pad, bare-end, unjoinable, joined-ends}
 use Rattle.model.specs.Board.{isClue, on-board}
 use Rattle.model.specs.BoardLaws.{on-board-test, on-board-of-test, clue-is-clue}
-use Rattle.model.specs.Judge.{Followed, wrong, so-far, after-line, after-place, and-then, followed}
+use Rattle.model.specs.Judge.{Followed, wrong, so-far, after-line, after-edge, after-place, and-then, followed}
 use Rattle.propagation.specs.Ends.{Ends, Added}
 use Rattle.propagation.specs.Storing.{bare-ends, joined-say}
 use Rattle.propagation.specs.Refutation.{nothing-against}
@@ -185,7 +185,7 @@ module _ (g : Grid) (wide : 2 ≤ g .width) (bytes : List ℕ) where
     other-place e is on at = let there = edge-at-number g wide e on in let h = ap place at in zero≢one (cc)
 
     step : (ends′ : ℕ → End) → after-place (g .width) (place n) (byte n) ends ≡ so-far ends′ → Known (suc n) ends′
-    unfolding after-place after-line
+    unfolding after-place after-edge after-line
     step ends′ = go (place n) refl
       where
         go : (p : Place) → place n ≡ p → after-place (g .width) p (byte n) ends ≡ so-far ends′ → Known (suc n) ends′
@@ -257,7 +257,7 @@ module _ (g : Grid) (wide : 2 ≤ g .width) (bytes : List ℕ) where
           (first e) (second (g .width) e) (geometry g wide .apart e) (no-line-yet n e (its .0) (its .1) line) (line-forward (g .width) D e d)
 
       next : GoesOn (suc n)
-      unfolding followed after-place after-line
+      unfolding followed after-place after-edge after-line
       next = go (place n) refl (its-byte n inside)
         where
           go : (p : Place) → place n ≡ p → byte n ≡ byte-at-place (λ e. byte-of (drawn D e)) p → GoesOn (suc n)
@@ -266,8 +266,8 @@ module _ (g : Grid) (wide : 2 ≤ g .width) (bytes : List ℕ) where
             where
               by-line : (d : Bool) → drawn D e ≡ d → GoesOn (suc n)
               by-line true d = let line : byte n ≡ line-byte = b ∙ ap byte-of d in
-                  record { ends = joined-ends ends (first e) (second (g .width) e) (ends (first e)) (ends (second (g .width) e)); so = rw (so, is, line, line-goes-on e is d line, followed, after-place, after-line) refl }
-              by-line false d = let none : byte n ≡ none-byte = b ∙ ap byte-of d in record { ends = ends; so = rw (so, is, none, followed, after-place) refl }
+                  record { ends = joined-ends ends (first e) (second (g .width) e) (ends (first e)) (ends (second (g .width) e)); so = rw (so, is, line, line-goes-on e is d line, followed, after-place, after-edge, after-line) refl }
+              by-line false d = let none : byte n ≡ none-byte = b ∙ ap byte-of d in record { ends = ends; so = rw (so, is, none, followed, after-place, after-edge) refl }
 
     pub never-wrong : (n : ℕ) → n ≤ all-places → GoesOn n
     never-wrong zero inside = record { ends = λ v. bare-end v (g .cell v); so = unfold followed in refl }
