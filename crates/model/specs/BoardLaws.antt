@@ -1,17 +1,18 @@
--- Small laws of the board's definitions: a pad is blank, a clue or a hole; an edge of the board passes its test, and no other does, the next pad of a row has one to its left, an end names at
--- most one pad, and an end that is put stands at its pad and nowhere else. They rest on Board.antt.
+-- Small laws of the definitions of the board and of the ends: a pad is blank, a clue or a hole; an edge of the board passes its test, and no
+-- other does; the next pad of a row has one to its left; what the tests of an end say, and that it names at most one pad; and an end that is
+-- put stands at its pad and nowhere else. They rest on Board.antt and JoinedEnds.antt.
 use Prim.Native.Nat.{ℕ, _+_, _%_, _<_}
 use mathlib.Core.Path.{_≡_, refl, sym, ap}
 use mathlib.Core.Logic.{_≢_}
 use mathlib.Core.Bool.{true, false}
 use native.Mathlib.Omega.{arith}
 use native.Mathlib.Decide.{ℕ-discrete}
-use borrow.Author.Tests.{eq-eqb, ne-eqb, lt-ltb, ltb-true}
+use borrow.Author.Tests.{eq-eqb, eqb-true, ne-eqb, lt-ltb, ltb-true}
 use lib.Dec.{ltb}
 use Rattle.rules.specs.Grid.{Edge, right, down, Cell, blank, clue, hole, Grid, pads, OnBoard}
 use Rattle.rules.specs.Tests.{both, both-on, conflict}
 use Rattle.rules.specs.Places.{zero≢one, next-column}
-use Rattle.model.specs.JoinedEnds.{End, through, at-pad, at-clue, put-end, put-end-at}
+use Rattle.model.specs.JoinedEnds.{End, through, at-pad, at-clue, isThrough, isPad, put-end, put-end-at}
 use Rattle.model.specs.Board.{isBlank, isClue, isHole, has-left, has-right, on-board}
 
 -- WHAT A PAD IS
@@ -50,6 +51,17 @@ pub is-pad-end : (A : End) (x : ℕ) → Dec (A ≡ at-pad x)
 is-pad-end through x = no (λ e. zero≢one (cc))
 is-pad-end (at-clue c) x = no (λ e. zero≢one (cc))
 is-pad-end (at-pad a) x = elim (ℕ-discrete a x) [ yes e ↦ yes (ap at-pad e) | no n ↦ no (λ e. n (cc)) ]
+
+-- what its tests say
+pub is-through : (A : End) → isThrough A ≡ true → A ≡ through
+is-through through h = refl
+is-through (at-pad a) h = zero≢one (cc)
+is-through (at-clue c) h = zero≢one (cc)
+
+pub is-pad : (A : End) (v : ℕ) → isPad A v ≡ true → A ≡ at-pad v
+is-pad through v h = zero≢one (cc)
+is-pad (at-clue c) v h = zero≢one (cc)
+is-pad (at-pad a) v h = ap at-pad (eqb-true a v h)
 
 -- AN END THAT IS PUT
 pub put-same : (f : ℕ → End) (x : ℕ) (e : End) (y : ℕ) → y ≡ x → put-end f x e y ≡ e

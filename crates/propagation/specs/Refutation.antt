@@ -1,11 +1,11 @@
 -- What the ends rule out, for a drawing wired by the ordinary rules that has all the lines joined so far: where step c would find something
 -- against a line, the drawing does not have it. And what they give where every pad is finished: the lines are wired by the ordinary rules.
 use Prim.Native.Nat.{ℕ}
-use mathlib.Core.Path.{_≡_, refl, sym, _∙_, ap}
+use mathlib.Core.Path.{_≡_, refl, sym, _∙_}
 use mathlib.Core.Logic.{_≢_, _⊎_, inl, inr, ⊎-elim, ⊎-map}
 use mathlib.Core.Bool.{true, false, not}
 use native.Mathlib.Decide.{ℕ-discrete}
-use borrow.Author.Tests.{eq-eqb, eqb-true}
+use borrow.Author.Tests.{eq-eqb}
 use lib.Dec.{eqb}
 use Rattle.rules.specs.Grid.{Cell, blank, clue, hole}
 use Rattle.rules.specs.Drawing.{Relation, NoLine, OneLine, TwoLines, Joined, Loop, Wired, here, more}
@@ -13,7 +13,7 @@ use Rattle.rules.specs.Places.{zero≢one}
 use Rattle.rules.specs.Tests.{not-so}
 use Rattle.model.specs.JoinedEnds.{End, isThrough, unequal-negative, isPad, unjoinable, through, at-pad, at-clue}
 use Rattle.model.specs.Board.{isClue}
-use Rattle.model.specs.BoardLaws.{clue-is-clue}
+use Rattle.model.specs.BoardLaws.{clue-is-clue, is-through, is-pad}
 use Rattle.rules.specs.Chains.{Symmetric, join-trans, join-sym, join-mono, first-line}
 use Rattle.propagation.specs.Ends.{Full, PadEnd, Ends, two-lines, one-line}
 
@@ -97,15 +97,8 @@ module _ {cell : ℕ → Cell} {L D : Relation} {end : ℕ → End}
     not-unequal (at-clue c) (at-clue x) p q h =
         no-clash u v c x p q (λ y. let k = eq-eqb c x y in let j : not (eqb c x) ≡ false = rw k refl in zero≢one (cc)) d
 
-    not-closing : (X : End) → end u ≡ X → isPad X v ≡ true → ⊥
-    not-closing through p h = zero≢one (cc)
-    not-closing (at-clue c) p h = zero≢one (cc)
-    not-closing (at-pad a) p h = no-ring u v ne (p ∙ ap at-pad (eqb-true a v h)) n d
-
-    is-through : (X : End) → isThrough X ≡ true → X ≡ through
-    is-through through h = refl
-    is-through (at-pad a) h = zero≢one (cc)
-    is-through (at-clue c) h = zero≢one (cc)
+    not-closing : isPad (end u) v ≡ true → ⊥
+    not-closing h = no-ring u v ne (is-pad (end u) v h) n d
 
     pub nothing-against : unjoinable (end u) (end v) v ≡ false
     unfolding unjoinable
@@ -113,7 +106,7 @@ module _ {cell : ℕ → Cell} {L D : Relation} {end : ℕ → End}
       not-so (isThrough (end u)) (λ h. not-through-A (is-through (end u) h)),
       not-so (isThrough (end v)) (λ h. not-through-B (is-through (end v) h)),
       not-so (unequal-negative (end u) (end v)) (not-unequal (end u) (end v) refl refl),
-      not-so (isPad (end u) v) (not-closing (end u) refl),
+      not-so (isPad (end u) v) not-closing,
     ) refl
 
 -- every pad finished, and no line at a hole: the lines are an ordinary drawing

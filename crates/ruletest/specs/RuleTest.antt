@@ -21,22 +21,12 @@ use Rattle.rules.specs.Chains.{edge-of-line, line-of-edge, first-line}
 use Rattle.rules.specs.RecordLaws.{edge-number-in-field, edge-at-number, number-of-edge, getD-from-zero, length-field, record-shows}
 use Rattle.model.specs.JoinedEnds.{End, through, at-pad, at-clue, isThrough, isPad}
 use Rattle.model.specs.Board.{isClue}
-use Rattle.model.specs.BoardLaws.{clue-is-clue}
+use Rattle.model.specs.BoardLaws.{clue-is-clue, is-through, is-pad}
 use Rattle.model.specs.Judge.{Followed, wrong, so-far, followed, finished, all-finished, is-ordinary-record, has-listed-shape}
 use Rattle.propagation.specs.Ends.{Ends, Full, Room, two-lines, one-line, other-room, clue-room}
 use Rattle.propagation.specs.Refutation.{finished-wired}
 use Rattle.propagation.specs.ProperGrid.{Proper}
 use Rattle.ruletest.specs.Following.{byte, number, place, shown, what-is-shown, it-is-shown, shown-placed, MayHold, Known, known-so-far, its-byte, shown-drawn, GoesOn, never-wrong}
-
-is-through : (A : End) → isThrough A ≡ true → A ≡ through
-is-through through h = refl
-is-through (at-pad a) h = zero≢one (cc)
-is-through (at-clue c) h = zero≢one (cc)
-
-is-pad : (A : End) (v : ℕ) → isPad A v ≡ true → A ≡ at-pad v
-is-pad through v h = zero≢one (cc)
-is-pad (at-clue c) v h = zero≢one (cc)
-is-pad (at-pad a) v h = ap at-pad (eqb-true a v h)
 
 module _ (g : Grid) (proper : Proper g) (bytes : List ℕ) where
   abbrev wide : 2 ≤ g .width
