@@ -68,7 +68,7 @@ extern "C" {
  *   answer[4]  the width; 0 beside a refusal
  * The first 256 cells are written: the height * width cells of the grid, and -1 in all others.
  */
-size_t hunekowha_read(const uint8_t *file, size_t file_length, uint64_t *answer, size_t answer_length, int32_t *cells,
+size_t hunekowha_read(const uint8_t *file, size_t file_length, uint64_t *answer, size_t answer_length, int64_t *cells,
                       size_t cells_length);
 
 /*
@@ -89,7 +89,7 @@ size_t hunekowha_read(const uint8_t *file, size_t file_length, uint64_t *answer,
  *   answer[2]  how many bytes were written; 0 beside a refusal
  * The bytes of `text` past those that were written keep their values.
  */
-size_t hunekowha_write(size_t height, size_t width, const int32_t *cells, size_t cells_length, uint8_t *text,
+size_t hunekowha_write(size_t height, size_t width, const int64_t *cells, size_t cells_length, uint8_t *text,
                        size_t text_length, uint64_t *answer, size_t answer_length);
 
 /*
@@ -112,7 +112,7 @@ size_t hunekowha_write(size_t height, size_t width, const int32_t *cells, size_t
  *   answer[5]  the fewest lines of a written layout, 481 where none was written
  * The bytes of the buffer after the last record keep their values.
  */
-size_t hunekowha_solve(size_t height, size_t width, const int32_t *cells, size_t cells_length, uint64_t limit,
+size_t hunekowha_solve(size_t height, size_t width, const int64_t *cells, size_t cells_length, uint64_t limit,
                        uint8_t *buffer, size_t buffer_length, uint64_t *answer, size_t answer_length);
 
 /*
@@ -155,7 +155,7 @@ size_t hunekowha_record(size_t height, size_t width, size_t count, size_t k, con
  *              beside a refusal
  *   answer[3]  how many lines the drawing has; 0 beside the verdict 0
  */
-size_t hunekowha_judge(size_t height, size_t width, const int32_t *cells, size_t cells_length, const uint8_t *record,
+size_t hunekowha_judge(size_t height, size_t width, const int64_t *cells, size_t cells_length, const uint8_t *record,
                        size_t record_length, uint64_t *answer, size_t answer_length);
 
 /*
@@ -188,7 +188,7 @@ size_t hunekowha_judge(size_t height, size_t width, const int32_t *cells, size_t
  *
  * Returns how many numbers were written: the blocks of all calls. Returns 0 where `answer` is too short for them all.
  */
-size_t hunekowha_replay(size_t height, size_t width, const int32_t *cells, size_t cells_length, const uint64_t *calls,
+size_t hunekowha_replay(size_t height, size_t width, const int64_t *cells, size_t cells_length, const uint64_t *calls,
                         size_t calls_length, int64_t *answer, size_t answer_length);
 
 #ifdef __cplusplus

@@ -27,8 +27,8 @@ const MOST_CHECKPOINTS: usize = 256;
 // checkpoints: the count that stood then.
 pub struct Board {
     edges: [u8; 1024],
-    ends: [i32; 512],
-    log: [i32; 2048],
+    ends: [i64; 512],
+    log: [i64; 2048],
     kind: [u8; 1024],
     count: usize,
     fresh: usize,
@@ -48,7 +48,7 @@ pub struct Shown {
     pub height: usize,
     pub width: usize,
     pub edges: [u8; 961],
-    pub ends: [i32; 256],
+    pub ends: [i64; 256],
     pub flag: bool,
 }
 
@@ -70,8 +70,8 @@ fn pads_at(kind: &[u8; 1024], y: usize, x: usize) -> Pads
 // Decides the edge between two pads of the board; where there is none, nothing changes.
 fn decide_pads(
     edges: &mut [u8; 1024],
-    ends: &mut [i32; 512],
-    log: &mut [i32; 2048],
+    ends: &mut [i64; 512],
+    log: &mut [i64; 2048],
     kind: &[u8; 1024],
     pads: Pads,
     line: bool,
@@ -94,7 +94,7 @@ fn flag_number(count: usize) -> usize
     if count < FLAGGED { 0 } else { 1 }
 }
 
-fn no_entries() -> [i32; 2048]
+fn no_entries() -> [i64; 2048]
     ensures { λ r. ⌜ length r ≡ 2048 ⌝ }
 {
     [0; 2048]
@@ -106,7 +106,7 @@ fn no_bytes() -> [u8; 961]
     [0; 961]
 }
 
-fn no_ends() -> [i32; 256]
+fn no_ends() -> [i64; 256]
     ensures { λ r. ⌜ length r ≡ 256 ⌝ }
 {
     [0; 256]
@@ -130,7 +130,7 @@ fn declined(board: Board, number: u8) -> Answer
 }
 
 // The fresh board of an accepted grid.
-fn fresh(height: usize, width: usize, cells: &[i32]) -> Board
+fn fresh(height: usize, width: usize, cells: &[i64]) -> Board
     requires { ⌜ Accepted height width (now cells) ⌝ }
     ensures { λ r. ⌜ Held r (model.fresh-board (grid-of height width (now (cells .entry)))) ⌝ }
 {
@@ -234,7 +234,7 @@ fn record_of(edges: &[u8; 1024], kind: &[u8; 1024]) -> [u8; 961]
 }
 
 // The ends of the first 256 pads.
-fn shown_ends(ends: &[i32; 512]) -> [i32; 256]
+fn shown_ends(ends: &[i64; 512]) -> [i64; 256]
     requires { ⌜ length (now ends) ≡ 512 ⌝ }
     ensures { λ r. ⌜ Laid (end-at-index (now (ends .entry))) 256 r 256 ⌝ }
 {
@@ -249,7 +249,7 @@ fn shown_ends(ends: &[i32; 512]) -> [i32; 256]
 
 impl Board {
     // The fresh board of a grid; 7, 8 or 9 with the index of the first bad cell, and the fresh 2 by 2 blank board.
-    pub fn new(height: usize, width: usize, cells: &[i32]) -> Answer
+    pub fn new(height: usize, width: usize, cells: &[i64]) -> Answer
         ensures { λ r. ⌜ Says r (model.new height width (now (cells .entry))) ⌝ }
     {
         let refusal = grid::grid_refusal(height, width, cells);

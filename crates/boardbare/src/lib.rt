@@ -77,28 +77,28 @@ fn bare_edges(height: usize, width: usize) -> [u8; 1024]
 }
 
 // The end number of one pad is stored: -v - 2 for a clue of value v, its own index for a blank pad and for a hole.
-fn put_bare_end(ends: &mut [i32; 512], cells: &[i32], v: usize)
+fn put_bare_end(ends: &mut [i64; 512], cells: &[i64], v: usize)
     requires { ⌜ (v < 512) × CellsInRange (now cells) ⌝ }
     ensures { λ _. ⌜ now (ends .exit) ≡ set (now (ends .entry)) v (end-number-at (now (cells .entry)) v) ⌝ }
 {
     if v >= cells.len() {
-        ends[v] = v as i32;
+        ends[v] = v as i64;
         return;
     }
     let code = cells[v];
     if code < 0 {
-        ends[v] = v as i32;
+        ends[v] = v as i64;
         return;
     }
     ends[v] = -code - 2;
 }
 
 // The ends of all pads.
-pub fn bare_ends(cells: &[i32]) -> [i32; 512]
+pub fn bare_ends(cells: &[i64]) -> [i64; 512]
     requires { ⌜ CellsInRange (now cells) ⌝ }
     ensures { λ r. ⌜ EndsFrom (now (cells .entry)) 0 r ⌝ }
 {
-    let mut ends = [0i32; 512];
+    let mut ends = [0i64; 512];
     let mut v = 512;
     while 0 < v {
         v -= 1;
@@ -108,7 +108,7 @@ pub fn bare_ends(cells: &[i32]) -> [i32; 512]
 }
 
 // Whether a pad is a clue: a blank pad and a hole are below 0.
-fn clue_at(cells: &[i32], v: usize) -> bool
+fn clue_at(cells: &[i64], v: usize) -> bool
     requires { ⌜ v < length (now cells) ⌝ }
     ensures { λ r. ⌜ r ≡ is-clue (now (cells .entry)) v ⌝ }
 {
@@ -120,7 +120,7 @@ fn clue_at(cells: &[i32], v: usize) -> bool
 }
 
 // Whether a pad is taken: a clue or a hole.
-fn taken_at(cells: &[i32], v: usize) -> bool
+fn taken_at(cells: &[i64], v: usize) -> bool
     requires { ⌜ v < length (now cells) ⌝ }
     ensures { λ r. ⌜ r ≡ is-taken (now (cells .entry)) v ⌝ }
 {
@@ -201,7 +201,7 @@ fn kind_byte(
 }
 
 // The byte of a pad, from the bytes of the pads below it.
-fn pad_kind(kind: &[u8; 1024], width: usize, pads: usize, cells: &[i32], v: usize) -> u8
+fn pad_kind(kind: &[u8; 1024], width: usize, pads: usize, cells: &[i64], v: usize) -> u8
     requires { ⌜ (0 < width) × (width ≤ 16) × (v < 256) × (v < length (now cells)) ⌝ }
     ensures { λ r. ⌜ r ≡ kind-from (now (kind .entry)) width pads (now (cells .entry)) v ⌝ }
 {
@@ -299,7 +299,7 @@ fn action_table() -> [u8; 1024]
 }
 
 // The kinds of all pads, from the last one up, the sizes, and the pad check's table.
-fn all_kinds(height: usize, width: usize, cells: &[i32]) -> [u8; 1024]
+fn all_kinds(height: usize, width: usize, cells: &[i64]) -> [u8; 1024]
     requires { ⌜ Accepted height width (now cells) ⌝ }
     ensures { λ r. ⌜ AllKinds height width (now (cells .entry)) r ⌝ }
 {
@@ -318,12 +318,12 @@ fn all_kinds(height: usize, width: usize, cells: &[i32]) -> [u8; 1024]
 // The arrays of a bare board.
 pub struct Bare {
     pub edges: [u8; 1024],
-    pub ends: [i32; 512],
+    pub ends: [i64; 512],
     pub kind: [u8; 1024],
 }
 
 // The arrays of the bare board of an accepted grid.
-pub fn bare_board(height: usize, width: usize, cells: &[i32]) -> Bare
+pub fn bare_board(height: usize, width: usize, cells: &[i64]) -> Bare
     requires { ⌜ Accepted height width (now cells) ⌝ }
     ensures { λ r. ⌜ BareBoard (grid-of height width (now (cells .entry))) (r .edges) (r .ends) (r .kind) ⌝ }
 {

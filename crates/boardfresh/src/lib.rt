@@ -32,8 +32,8 @@ fn is_hole(kind: &[u8; 1024], v: usize) -> bool
 // Puts the edge at a slot to a decision as none. An edge that is none already stays so, and off the board stands none for ever.
 fn shut_edge(
     edges: &mut [u8; 1024],
-    ends: &mut [i32; 512],
-    log: &mut [i32; 2048],
+    ends: &mut [i64; 512],
+    log: &mut [i64; 2048],
     kind: &[u8; 1024],
     slot: usize,
     count: usize,
@@ -51,8 +51,8 @@ fn shut_edge(
 // Puts the edges at a pad to a decision as none, if it is a hole: left, right, up, down.
 fn shut_pad(
     edges: &mut [u8; 1024],
-    ends: &mut [i32; 512],
-    log: &mut [i32; 2048],
+    ends: &mut [i64; 512],
+    log: &mut [i64; 2048],
     kind: &[u8; 1024],
     v: usize,
     count: usize,
@@ -74,8 +74,8 @@ fn shut_pad(
 // Shuts all holes, in index order.
 fn shut_holes(
     edges: &mut [u8; 1024],
-    ends: &mut [i32; 512],
-    log: &mut [i32; 2048],
+    ends: &mut [i64; 512],
+    log: &mut [i64; 2048],
     kind: &[u8; 1024],
 ) -> usize
     requires { ⌜ Kinds (now kind) × Ready (grid-in (now kind)) (record { edges = now edges; ends = now ends; log = now log; count = 0 }) ⌝ }
@@ -105,13 +105,13 @@ fn restart(count: usize) -> usize
 // The arrays of a fresh board, and its count: the log is empty, and the flag may be set.
 pub struct Fresh {
     pub edges: [u8; 1024],
-    pub ends: [i32; 512],
+    pub ends: [i64; 512],
     pub kind: [u8; 1024],
     pub count: usize,
 }
 
 // The arrays of the fresh board of an accepted grid.
-pub fn fresh_board(height: usize, width: usize, cells: &[i32]) -> Fresh
+pub fn fresh_board(height: usize, width: usize, cells: &[i64]) -> Fresh
     requires { ⌜ Accepted height width (now cells) ⌝ }
     ensures { λ r. ⌜ FreshBoard (grid-of height width (now (cells .entry))) (r .edges) (r .ends) (r .kind) (r .count) ⌝ }
 {
@@ -119,7 +119,7 @@ pub fn fresh_board(height: usize, width: usize, cells: &[i32]) -> Fresh
     let mut edges = bare.edges;
     let mut ends = bare.ends;
     let kind = bare.kind;
-    let mut log = [0i32; 2048];
+    let mut log = [0i64; 2048];
     let count = shut_holes(&mut edges, &mut ends, &mut log, &kind);
     Fresh {
         edges,

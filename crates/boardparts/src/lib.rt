@@ -138,7 +138,7 @@ pub fn second_pad(slot: usize, width: usize) -> usize
 }
 
 // The pad that a pad's end names, or 512.
-pub fn end_pad(ends: &[i32; 512], v: usize) -> usize
+pub fn end_pad(ends: &[i64; 512], v: usize) -> usize
     requires { ⌜ (v < 512) × (length (now ends) ≡ 512) ⌝ }
     ensures { λ r. ⌜ r ≡ pad-number (end-at (now (ends .entry)) v) ⌝ }
 {
@@ -150,7 +150,7 @@ pub fn end_pad(ends: &[i32; 512], v: usize) -> usize
 }
 
 // 1 more than the code of the clue that a pad's end names, or 0.
-pub fn end_code(ends: &[i32; 512], v: usize) -> usize
+pub fn end_code(ends: &[i64; 512], v: usize) -> usize
     requires { ⌜ (v < 512) × (length (now ends) ≡ 512) ⌝ }
     ensures { λ r. ⌜ r ≡ code-number (end-at (now (ends .entry)) v) ⌝ }
 {
@@ -162,7 +162,7 @@ pub fn end_code(ends: &[i32; 512], v: usize) -> usize
 }
 
 // A line passes through the pad.
-fn passed(ends: &[i32; 512], v: usize) -> bool
+fn passed(ends: &[i64; 512], v: usize) -> bool
     requires { ⌜ (v < 512) × (length (now ends) ≡ 512) ⌝ }
     ensures { λ r. ⌜ r ≡ isThrough (end-at (now (ends .entry)) v) ⌝ }
 {
@@ -184,7 +184,7 @@ fn rivals(a: usize, b: usize) -> bool
 }
 
 // Step c: the line cannot be, by the ends of its pads.
-pub fn cannot_join(ends: &[i32; 512], v: usize, q: usize) -> bool
+pub fn cannot_join(ends: &[i64; 512], v: usize, q: usize) -> bool
     requires { ⌜ (v < 512) × (q < 512) × (length (now ends) ≡ 512) ⌝ }
     ensures { λ r. ⌜ r ≡ unjoinable (end-at (now (ends .entry)) v) (end-at (now (ends .entry)) q) q ⌝ }
 {
@@ -202,29 +202,29 @@ pub fn cannot_join(ends: &[i32; 512], v: usize, q: usize) -> bool
 }
 
 // Stores the state of an edge, and an entry of the log for it.
-pub fn store(edges: &mut [u8; 1024], log: &mut [i32; 2048], slot: usize, state: u8, count: usize)
+pub fn store(edges: &mut [u8; 1024], log: &mut [i64; 2048], slot: usize, state: u8, count: usize)
     requires { ⌜ (slot < 1024) × (count % 1024 < 480) ⌝ }
     ensures { λ _. ⌜ (now (edges .exit) ≡ set (now (edges .entry)) slot state) × (now (log .exit) ≡ log-stored (now (log .entry)) (count % 1024) slot) ⌝ }
 {
     let k = 4 * (count % FLAGGED);
     edges[slot] = state;
-    log[k] = slot as i32;
+    log[k] = slot as i64;
     log[k + 1] = -1;
 }
 
 // Stores an entry of the log for a line that joins the chains of pads v and q.
-fn log_line(ends: &[i32; 512], log: &mut [i32; 2048], slot: usize, v: usize, q: usize, count: usize)
+fn log_line(ends: &[i64; 512], log: &mut [i64; 2048], slot: usize, v: usize, q: usize, count: usize)
     requires { ⌜ (slot < 1024) × (v < 512) × (q < 512) × (count % 1024 < 480) × (length (now ends) ≡ 512) ⌝ }
     ensures { λ _. ⌜ now (log .exit) ≡ log-joined (now (log .entry)) (count % 1024) slot (getD (now (ends .entry)) v (pos v)) (getD (now (ends .entry)) q (pos q)) ⌝ }
 {
     let k = 4 * (count % FLAGGED);
-    log[k] = slot as i32;
+    log[k] = slot as i64;
     log[k + 1] = ends[v];
     log[k + 2] = ends[q];
 }
 
 // Step c: both pads get -1, then pad A (if there is one) gets B and pad B gets A.
-pub fn join_ends(ends: &mut [i32; 512], v: usize, q: usize)
+pub fn join_ends(ends: &mut [i64; 512], v: usize, q: usize)
     requires { ⌜ (v < 512) × (q < 512) × (length (now ends) ≡ 512) ⌝ }
     ensures { λ _. ⌜ now (ends .exit) ≡ joined v q (now (ends .entry)) ⌝ }
 {
@@ -252,8 +252,8 @@ pub fn join_ends(ends: &mut [i32; 512], v: usize, q: usize)
 // cannot be, the flag is set and the decision has ended.
 pub fn begin_line(
     edges: &mut [u8; 1024],
-    ends: &mut [i32; 512],
-    log: &mut [i32; 2048],
+    ends: &mut [i64; 512],
+    log: &mut [i64; 2048],
     slot: usize,
     v: usize,
     q: usize,
@@ -274,7 +274,7 @@ pub fn begin_line(
 }
 
 // The edge at a slot is to be none, since it leads to a pad whose end is of another clue than `code`. `past` is 16 more than that pad.
-fn keeps_apart(edges: &[u8; 1024], ends: &[i32; 512], code: usize, slot: usize, past: usize) -> bool
+fn keeps_apart(edges: &[u8; 1024], ends: &[i64; 512], code: usize, slot: usize, past: usize) -> bool
     requires { ⌜ (slot < 1024) × (past < 528) × (getD (now edges) slot 0 ≡ 0 → 16 ≤ past) × (length (now ends) ≡ 512) ⌝ }
     ensures { λ r. ⌜ r ≡ keeps-apart (now (edges .entry)) (now (ends .entry)) code slot (past - 16) ⌝ }
 {
@@ -287,7 +287,7 @@ fn keeps_apart(edges: &[u8; 1024], ends: &[i32; 512], code: usize, slot: usize, 
 // The slot if its edge is to be none and the decision goes on, else slot 0, which holds none for ever.
 pub fn slot_apart(
     edges: &[u8; 1024],
-    ends: &[i32; 512],
+    ends: &[i64; 512],
     code: usize,
     slot: usize,
     past: usize,
@@ -316,7 +316,7 @@ pub fn count_after(slot: usize, before: usize, after: usize) -> usize
 }
 
 // One of the four edges at a pad is to be none.
-fn some_apart(edges: &[u8; 1024], ends: &[i32; 512], width: usize, v: usize) -> bool
+fn some_apart(edges: &[u8; 1024], ends: &[i64; 512], width: usize, v: usize) -> bool
     requires { ⌜ (v < 256) × (2 ≤ width) × (width ≤ 16) × (length (now ends) ≡ 512) × (getD (now edges) (30 + 2 * v) 0 ≡ 0 → 1 ≤ v) × (getD (now edges) (33 + 2 * v - 2 * width) 0 ≡ 0 → width ≤ v) ⌝ }
     ensures { λ r. ⌜ r ≡ clue-apart (now (edges .entry)) (now (ends .entry)) width v ⌝ }
 {
@@ -337,7 +337,7 @@ fn some_apart(edges: &[u8; 1024], ends: &[i32; 512], width: usize, v: usize) -> 
 }
 
 // Behind the last of a pad's four sides if none of its edges is to be none, else the first side.
-pub fn first_side(edges: &[u8; 1024], ends: &[i32; 512], width: usize, v: usize) -> usize
+pub fn first_side(edges: &[u8; 1024], ends: &[i64; 512], width: usize, v: usize) -> usize
     requires { ⌜ (v < 256) × (2 ≤ width) × (width ≤ 16) × (length (now ends) ≡ 512) × (getD (now edges) (30 + 2 * v) 0 ≡ 0 → 1 ≤ v) × (getD (now edges) (33 + 2 * v - 2 * width) 0 ≡ 0 → width ≤ v) ⌝ }
     ensures { λ r. ⌜ r ≡ pick (clue-apart (now (edges .entry)) (now (ends .entry)) width v) 0 4 ⌝ }
 {

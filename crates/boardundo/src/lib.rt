@@ -12,7 +12,7 @@ use grid::Edge;
 const UNDECIDED: u8 = Edge::UNDECIDED.0;
 
 // The pad that the number at an index of the log names, or 512.
-fn logged_pad(log: &[i32; 2048], i: usize) -> usize
+fn logged_pad(log: &[i64; 2048], i: usize) -> usize
     requires { ⌜ i < 2048 ⌝ }
     ensures { λ r. ⌜ r ≡ pad-number (end-of (getD (now (log .entry)) i (pos 0))) ⌝ }
 {
@@ -24,7 +24,7 @@ fn logged_pad(log: &[i32; 2048], i: usize) -> usize
 }
 
 // Gives back the ends of an entry: those of its pads v and q, and at the pads that these ends name, v and q.
-fn unjoin(ends: &mut [i32; 512], log: &[i32; 2048], k: usize, v: usize, q: usize)
+fn unjoin(ends: &mut [i64; 512], log: &[i64; 2048], k: usize, v: usize, q: usize)
     requires { ⌜ (k < 480) × (v < 512) × (q < 512) × (length (now ends) ≡ 512) ⌝ }
     ensures { λ _. ⌜ now (ends .exit) ≡ unjoined v q (getD (now (log .entry)) (4 * k + 1) (pos 0)) (getD (now (log .entry)) (4 * k + 2) (pos 0)) (now (ends .entry)) ⌝ }
 {
@@ -38,21 +38,21 @@ fn unjoin(ends: &mut [i32; 512], log: &[i32; 2048], k: usize, v: usize, q: usize
     ends[v] = a;
     ends[q] = b;
     if p < 512 {
-        ends[p] = v as i32;
+        ends[p] = v as i64;
         if o < 512 {
-            ends[o] = q as i32;
+            ends[o] = q as i64;
             return;
         }
         return;
     }
     if o < 512 {
-        ends[o] = q as i32;
+        ends[o] = q as i64;
         return;
     }
 }
 
 // The slot of an entry.
-fn logged_slot(log: &[i32; 2048], k: usize) -> usize
+fn logged_slot(log: &[i64; 2048], k: usize) -> usize
     requires { ⌜ (k < 480) × (getD (now log) (4 * k) (pos 0) ≡ pos (slot-logged (now log) k)) ⌝ }
     ensures { λ r. ⌜ r ≡ slot-logged (now (log .entry)) k ⌝ }
 {
@@ -62,8 +62,8 @@ fn logged_slot(log: &[i32; 2048], k: usize) -> usize
 // Undoes entry k.
 fn undo_one(
     edges: &mut [u8; 1024],
-    ends: &mut [i32; 512],
-    log: &[i32; 2048],
+    ends: &mut [i64; 512],
+    log: &[i64; 2048],
     kind: &[u8; 1024],
     k: usize,
 )
@@ -80,8 +80,8 @@ fn undo_one(
 // Undoes the entries from `from` down to `to`.
 pub fn undo(
     edges: &mut [u8; 1024],
-    ends: &mut [i32; 512],
-    log: &[i32; 2048],
+    ends: &mut [i64; 512],
+    log: &[i64; 2048],
     kind: &[u8; 1024],
     from: usize,
     to: usize,

@@ -1,5 +1,5 @@
--- Laws of the end numbers as the code holds them: what the sign of an i32 says of the end, that -1 - a is exact for a negative a, and what
--- the stores of step c and of undo leave. It rests on View.antt and on the kit's account of i32.
+-- Laws of the end numbers as the code holds them: what the sign of an i64 says of the end, that -1 - a is exact for a negative a, and what
+-- the stores of step c and of undo leave. It rests on View.antt and on the kit's account of i64.
 use mathlib.Core.Path.{_≡_, refl, sym, ap, _∙_}
 use mathlib.Core.Bool.{Bool, true, false, not, _||_, true≢false}
 use mathlib.Core.List.{List}
@@ -10,7 +10,7 @@ use lib.Seq.{set-out}
 use lib.IntN.{ℤ, pos, negsuc, natAbs, _-ℤ_}
 use lib.Signed.{ltZ, nonNeg}
 use lib.Dec.{T, eqb}
-use mir.Syntax.{w32, w64}
+use mir.Syntax.{w64}
 use mir.Val.{SFits, Fits, toZ, ofZ}
 use mir.ValLaws.{toZ-ofZ, toZ-pos}
 use borrow.Author.Tests.{ltb-true, le-ltb, ne-eqb, eq-eqb, eqb-true, eqb-false}
@@ -18,23 +18,23 @@ use Rattle.model.specs.JoinedEnds.{End, through, at-pad, at-clue, isThrough, un
 use Rattle.boardview.specs.View.{end-of, end-at, pad-number, code-number, rival, put-number, joined, unjoined}
 use Rattle.model.specs.Lists.{default-free}
 
-pub back : (z : ℤ) → SFits w32 z → toZ w32 (ofZ w32 z) ≡ z
-back z f = toZ-ofZ w32 z f
+pub back : (z : ℤ) → SFits w64 z → toZ w64 (ofZ w64 z) ≡ z
+back z f = toZ-ofZ w64 z f
 
-pub from-bits : (z : ℤ) (n : ℕ) → SFits w32 z → ofZ w32 z ≡ n → z ≡ toZ w32 n
-from-bits z n f e = sym (back z f) ∙ ap (toZ w32) e
+pub from-bits : (z : ℤ) (n : ℕ) → SFits w64 z → ofZ w64 z ≡ n → z ≡ toZ w64 n
+from-bits z n f e = sym (back z f) ∙ ap (toZ w64) e
 
-pub negative : (e : ℤ) → SFits w32 e → ltZ (toZ w32 (ofZ w32 e)) (pos 0) ≡ true → (k : ℕ) × (e ≡ negsuc k)
+pub negative : (e : ℤ) → SFits w64 e → ltZ (toZ w64 (ofZ w64 e)) (pos 0) ≡ true → (k : ℕ) × (e ≡ negsuc k)
 negative e f h = signs e (rw (back e f) at h)
   where
     signs : (e : ℤ) → ltZ e (pos 0) ≡ true → (k : ℕ) × (e ≡ negsuc k)
     signs (pos k) h = absurd (omega (arith, ltb-true k 0 h))
     signs (negsuc k) h = (k, refl)
 
-pub not-negative : (e : ℤ) → SFits w32 e → ltZ (toZ w32 (ofZ w32 e)) (pos 0) ≡ false → (n : ℕ) × (e ≡ pos n) × (n < 2 ^ 31)
+pub not-negative : (e : ℤ) → SFits w64 e → ltZ (toZ w64 (ofZ w64 e)) (pos 0) ≡ false → (n : ℕ) × (e ≡ pos n) × (n < 2 ^ 63)
 not-negative e f h = signs e f (rw (back e f) at h)
   where
-    signs : (e : ℤ) → SFits w32 e → ltZ e (pos 0) ≡ false → (n : ℕ) × (e ≡ pos n) × (n < 2 ^ 31)
+    signs : (e : ℤ) → SFits w64 e → ltZ e (pos 0) ≡ false → (n : ℕ) × (e ≡ pos n) × (n < 2 ^ 63)
     signs (pos k) f h = (k, refl, f .sfits)
     signs (negsuc k) f h = absurd (true≢false h)
 
@@ -46,20 +46,20 @@ no-pad e h = rw (h .1) (go (h .0))
     go zero = refl
     go (suc k) = refl
 
-pub cast-pad : (e : ℤ) → SFits w32 e → (n : ℕ) × (e ≡ pos n) × (n < 2 ^ 31) → T (nonNeg (toZ w32 (ofZ w32 e))) × Fits w64 (natAbs (toZ w32 (ofZ w32 e)))
+pub cast-pad : (e : ℤ) → SFits w64 e → (n : ℕ) × (e ≡ pos n) × (n < 2 ^ 63) → T (nonNeg (toZ w64 (ofZ w64 e))) × Fits w64 (natAbs (toZ w64 (ofZ w64 e)))
 cast-pad e f h = rw (back e f, h .1) (tt, record { fits = omega (arith, h .2) })
 
-pub pad-is : (e : ℤ) → SFits w32 e → (n : ℕ) × (e ≡ pos n) × (n < 2 ^ 31) → natAbs (toZ w32 (ofZ w32 e)) ≡ pad-number (end-of e)
+pub pad-is : (e : ℤ) → SFits w64 e → (n : ℕ) × (e ≡ pos n) × (n < 2 ^ 63) → natAbs (toZ w64 (ofZ w64 e)) ≡ pad-number (end-of e)
 unfolding pad-number end-of
 pad-is e f h = rw (back e f, h .1) refl
 
-pub not-passed : (e : ℤ) → (ofZ w32 e ≡ 4294967295 → ⊥) → false ≡ isThrough (end-of e)
+pub not-passed : (e : ℤ) → (ofZ w64 e ≡ ofZ w64 (negsuc 0) → ⊥) → false ≡ isThrough (end-of e)
 unfolding end-of
 not-passed (pos n) h = refl
 not-passed (negsuc zero) h = absurd (h refl)
 not-passed (negsuc (suc n)) h = refl
 
-pub no-code : (e : ℤ) → (n : ℕ) × (e ≡ pos n) × (n < 2 ^ 31) → 0 ≡ code-number (end-of e)
+pub no-code : (e : ℤ) → (n : ℕ) × (e ≡ pos n) × (n < 2 ^ 63) → 0 ≡ code-number (end-of e)
 unfolding code-number end-of
 no-code e h = rw (h .1) refl
 
@@ -67,25 +67,25 @@ minus-one : (k : ℕ) → negsuc 0 -ℤ negsuc k ≡ pos k
 minus-one zero = refl
 minus-one (suc k) = rw (le-ltb (suc (suc k)) 1 (omega arith)) (ap pos (omega arith))
 
-module _ (e : ℤ) (f : SFits w32 e) (h : (k : ℕ) × (e ≡ negsuc k)) where
-  code-value : negsuc 0 -ℤ toZ w32 (ofZ w32 e) ≡ pos (h .0)
+module _ (e : ℤ) (f : SFits w64 e) (h : (k : ℕ) × (e ≡ negsuc k)) where
+  code-value : negsuc 0 -ℤ toZ w64 (ofZ w64 e) ≡ pos (h .0)
   code-value = rw (back e f, h .1) (minus-one (h .0))
 
-  small : h .0 < 2 ^ 31
-  small = let g = rw (h .1) at f in g .sfits
+  pub code-small : h .0 < 2 ^ 63
+  code-small = let g = rw (h .1) at f in g .sfits
 
-  pub code-sub : SFits w32 (negsuc 0 -ℤ toZ w32 (ofZ w32 e))
-  code-sub = rw code-value (record { sfits = small })
+  pub code-sub : SFits w64 (negsuc 0 -ℤ toZ w64 (ofZ w64 e))
+  code-sub = rw code-value (record { sfits = code-small })
 
-  whole : toZ w32 (ofZ w32 (negsuc 0 -ℤ toZ w32 (ofZ w32 e))) ≡ pos (h .0)
-  whole = back _ code-sub ∙ code-value
+  pub code-whole : toZ w64 (ofZ w64 (negsuc 0 -ℤ toZ w64 (ofZ w64 e))) ≡ pos (h .0)
+  code-whole = back _ code-sub ∙ code-value
 
-  pub code-cast : T (nonNeg (toZ w32 (ofZ w32 (negsuc 0 -ℤ toZ w32 (ofZ w32 e))))) × Fits w64 (natAbs (toZ w32 (ofZ w32 (negsuc 0 -ℤ toZ w32 (ofZ w32 e)))))
-  code-cast = rw whole (tt, record { fits = omega (arith, small) })
+  pub code-cast : T (nonNeg (toZ w64 (ofZ w64 (negsuc 0 -ℤ toZ w64 (ofZ w64 e))))) × Fits w64 (natAbs (toZ w64 (ofZ w64 (negsuc 0 -ℤ toZ w64 (ofZ w64 e)))))
+  code-cast = rw code-whole (tt, record { fits = omega (arith, code-small) })
 
-  pub code-is : natAbs (toZ w32 (ofZ w32 (negsuc 0 -ℤ toZ w32 (ofZ w32 e)))) ≡ code-number (end-of e)
+  pub code-is : natAbs (toZ w64 (ofZ w64 (negsuc 0 -ℤ toZ w64 (ofZ w64 e)))) ≡ code-number (end-of e)
   unfolding code-number end-of
-  code-is = rw whole (rw (h .1) (go (h .0)))
+  code-is = rw code-whole (rw (h .1) (go (h .0)))
     where
       go : (k : ℕ) → k ≡ code-number (end-of (negsuc k))
       go zero = refl
@@ -181,10 +181,10 @@ module _ (ends : List ℤ) (v q p o : ℕ) (a b : ℤ) (hv : v < 512) (hq : q < 
   joined-4 h k = sym (shape ∙ (ap (put-number (end-at ends q) a) (put-nowhere (end-at ends v) b both (rw ep at h) both-long) ∙ put-nowhere (end-at ends q) a both (rw eo at k) both-long))
 
 -- A SLOT AND A READ END in the log
-pub slot-number : (n : ℕ) → n < 1024 → toZ w32 n ≡ pos n
-slot-number n h = toZ-pos w32 n (omega arith)
+pub slot-number : (n : ℕ) → n < 1024 → toZ w64 n ≡ pos n
+slot-number n h = toZ-pos w64 n (omega arith)
 
-pub end-copied : (ends : List ℤ) (v : ℕ) → v < 512 → length ends ≡ 512 → SFits w32 (getD ends v (pos 0)) → toZ w32 (ofZ w32 (getD ends v (pos 0))) ≡ getD ends v (pos v)
+pub end-copied : (ends : List ℤ) (v : ℕ) → v < 512 → length ends ≡ 512 → SFits w64 (getD ends v (pos 0)) → toZ w64 (ofZ w64 (getD ends v (pos 0))) ≡ getD ends v (pos v)
 end-copied ends v h l f = back (getD ends v (pos 0)) f ∙ default-free ends v (pos 0) (pos v) (omega arith)
 
 -- UNDO'S STORES, by the pads that the logged ends name
@@ -218,13 +218,13 @@ module _ (ends : List ℤ) (v q p o : ℕ) (A B a b x y : ℤ) (long : length en
     pub unjoined-4 : 512 ≤ p → 512 ≤ o → given ≡ unjoined v q A B ends
     unjoined-4 h k = sym (unjoined-shape ∙ (ap (put-number (end-of B) y) (put-nowhere (end-of A) x given (rw ep at h) given-long) ∙ put-nowhere (end-of B) y given (rw eo at k) given-long))
 
-pub unjoined-0 : (ends : List ℤ) (v q : ℕ) (A B : ℤ) → SFits w32 A → ofZ w32 A ≡ 4294967295 → ends ≡ unjoined v q A B ends
+pub unjoined-0 : (ends : List ℤ) (v q : ℕ) (A B : ℤ) → SFits w64 A → ofZ w64 A ≡ ofZ w64 (negsuc 0) → ends ≡ unjoined v q A B ends
 unfolding unjoined end-of
-unjoined-0 ends v q A B f e = rw (from-bits A 4294967295 f e) refl
+unjoined-0 ends v q A B f e = rw (from-bits A _ f e) refl
 
 -- A SLOT in the log
-pub slot-cast : (z : ℤ) (n : ℕ) → SFits w32 z → z ≡ pos n → T (nonNeg (toZ w32 (ofZ w32 z))) × Fits w64 (natAbs (toZ w32 (ofZ w32 z)))
+pub slot-cast : (z : ℤ) (n : ℕ) → SFits w64 z → z ≡ pos n → T (nonNeg (toZ w64 (ofZ w64 z))) × Fits w64 (natAbs (toZ w64 (ofZ w64 z)))
 slot-cast z n f e = cast-pad z f (n, e, let g = rw e at f in g .sfits)
 
-pub slot-read : (z : ℤ) → SFits w32 z → natAbs (toZ w32 (ofZ w32 z)) ≡ natAbs z
+pub slot-read : (z : ℤ) → SFits w64 z → natAbs (toZ w64 (ofZ w64 z)) ≡ natAbs z
 slot-read z f = ap natAbs (back z f)

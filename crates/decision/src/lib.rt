@@ -29,8 +29,8 @@ const NONE: u8 = Edge::NONE.0;
 // Steps a, b and f: an edge is to have no line. At a slot off the board nothing changes.
 pub fn decide_none(
     edges: &mut [u8; 1024],
-    ends: &mut [i32; 512],
-    log: &mut [i32; 2048],
+    ends: &mut [i64; 512],
+    log: &mut [i64; 2048],
     kind: &[u8; 1024],
     slot: usize,
     count: usize,
@@ -55,8 +55,8 @@ pub fn decide_none(
 // Steps a to f: the edge to the right of pad v is to be a line.
 pub fn decide_line_right(
     edges: &mut [u8; 1024],
-    ends: &mut [i32; 512],
-    log: &mut [i32; 2048],
+    ends: &mut [i64; 512],
+    log: &mut [i64; 2048],
     kind: &[u8; 1024],
     v: usize,
     count: usize,
@@ -107,8 +107,8 @@ pub fn decide_line_right(
 // Steps a to f: the edge downward from pad v is to be a line.
 pub fn decide_line_down(
     edges: &mut [u8; 1024],
-    ends: &mut [i32; 512],
-    log: &mut [i32; 2048],
+    ends: &mut [i64; 512],
+    log: &mut [i64; 2048],
     kind: &[u8; 1024],
     v: usize,
     count: usize,
@@ -161,8 +161,8 @@ pub fn decide_line_down(
 // Step d, one third of a unit square: if the edge at slot a is a line, those at b and c become none.
 pub fn detour(
     edges: &mut [u8; 1024],
-    ends: &mut [i32; 512],
-    log: &mut [i32; 2048],
+    ends: &mut [i64; 512],
+    log: &mut [i64; 2048],
     kind: &[u8; 1024],
     a: usize,
     b: usize,
@@ -188,8 +188,8 @@ pub fn detour(
 // Step e: the right and down corner above pad q, if the edge at slot a completes it and q is blank.
 pub fn corner_right(
     edges: &mut [u8; 1024],
-    ends: &mut [i32; 512],
-    log: &mut [i32; 2048],
+    ends: &mut [i64; 512],
+    log: &mut [i64; 2048],
     kind: &[u8; 1024],
     q: usize,
     a: usize,
@@ -218,8 +218,8 @@ pub fn corner_right(
 // Step e: the left and down corner above pad q, if the edge at slot a completes it and q is blank.
 pub fn corner_left(
     edges: &mut [u8; 1024],
-    ends: &mut [i32; 512],
-    log: &mut [i32; 2048],
+    ends: &mut [i64; 512],
+    log: &mut [i64; 2048],
     kind: &[u8; 1024],
     q: usize,
     a: usize,
@@ -248,8 +248,8 @@ pub fn corner_left(
 // Step e: if pad v is barred, by this bit of its kind, the edge at the slot becomes none.
 pub fn bar(
     edges: &mut [u8; 1024],
-    ends: &mut [i32; 512],
-    log: &mut [i32; 2048],
+    ends: &mut [i64; 512],
+    log: &mut [i64; 2048],
     kind: &[u8; 1024],
     v: usize,
     bit: u8,
@@ -271,8 +271,8 @@ pub fn bar(
 // The pad check; a pad number of 512 stands for no pad.
 pub fn check(
     edges: &mut [u8; 1024],
-    ends: &mut [i32; 512],
-    log: &mut [i32; 2048],
+    ends: &mut [i64; 512],
+    log: &mut [i64; 2048],
     kind: &[u8; 1024],
     v: usize,
     count: usize,
@@ -318,8 +318,8 @@ pub fn check(
 // The edge to the right of a pad becomes a line or none.
 pub fn decide_right(
     edges: &mut [u8; 1024],
-    ends: &mut [i32; 512],
-    log: &mut [i32; 2048],
+    ends: &mut [i64; 512],
+    log: &mut [i64; 2048],
     kind: &[u8; 1024],
     v: usize,
     line: bool,
@@ -338,8 +338,8 @@ pub fn decide_right(
 // The edge downward from a pad becomes a line or none.
 pub fn decide_down(
     edges: &mut [u8; 1024],
-    ends: &mut [i32; 512],
-    log: &mut [i32; 2048],
+    ends: &mut [i64; 512],
+    log: &mut [i64; 2048],
     kind: &[u8; 1024],
     v: usize,
     line: bool,

@@ -11,7 +11,7 @@ use lib.ListN.{length, getD, drop, drop-of-length-le}
 use lib.Seq.{drop-cons}
 use lib.IntN.{ℤ, pos, negsuc}
 use lib.Signed.{ltZ}
-use mir.Syntax.{w32}
+use mir.Syntax.{w64}
 use mir.Val.{SFits, toZ, ofZ}
 use mir.ValLaws.{toZ-ofZ}
 use borrow.Author.Tests.{ltb-true, ltb-false, lt-ltb, le-ltb, le-leb, lt-leb, ne-eqb, eq-eqb, not-true, not-false}
@@ -21,11 +21,11 @@ use Rattle.model.specs.Refusals.{is-cell, first-bad-cell, grid-refusal}
 
 -- ## The code's tests of a cell
 
-module _ (z : ℤ) (f : SFits w32 z) where
-  back : toZ w32 (ofZ w32 z) ≡ z
-  back = toZ-ofZ w32 z f
+module _ (z : ℤ) (f : SFits w64 z) where
+  back : toZ w64 (ofZ w64 z) ≡ z
+  back = toZ-ofZ w64 z f
 
-  pub below-hole : ltZ (toZ w32 (ofZ w32 z)) (negsuc 1) ≡ true → is-cell z ≡ false
+  pub below-hole : ltZ (toZ w64 (ofZ w64 z)) (negsuc 1) ≡ true → is-cell z ≡ false
   unfolding is-cell
   below-hole h = go z (rw back at h)
     where
@@ -33,7 +33,7 @@ module _ (z : ℤ) (f : SFits w32 z) where
       go (pos n) h = absurd (false≢true h)
       go (negsuc n) h = lt-leb n 1 (ltb-true 1 n h)
 
-  pub above-codes : ltZ (pos 2147483646) (toZ w32 (ofZ w32 z)) ≡ true → is-cell z ≡ false
+  pub above-codes : ltZ (pos 2147483646) (toZ w64 (ofZ w64 z)) ≡ true → is-cell z ≡ false
   unfolding is-cell
   above-codes h = go z (rw back at h)
     where
@@ -41,7 +41,7 @@ module _ (z : ℤ) (f : SFits w32 z) where
       go (pos n) h = rw h
       go (negsuc n) h = absurd (false≢true h)
 
-  pub sound-cell : ltZ (toZ w32 (ofZ w32 z)) (negsuc 1) ≡ false → ltZ (pos 2147483646) (toZ w32 (ofZ w32 z)) ≡ false → is-cell z ≡ true
+  pub sound-cell : ltZ (toZ w64 (ofZ w64 z)) (negsuc 1) ≡ false → ltZ (pos 2147483646) (toZ w64 (ofZ w64 z)) ≡ false → is-cell z ≡ true
   unfolding is-cell
   sound-cell h k = go z (rw back at h) (rw back at k)
     where

@@ -73,11 +73,11 @@ pub const LEAST_SIZE: usize = 2;
 pub const LARGEST_SIZE: usize = 16;
 
 // A cell is blank, a hole, or a floor code from 0 to the largest.
-pub const BLANK: i32 = -1;
+pub const BLANK: i64 = -1;
 
-pub const HOLE: i32 = -2;
+pub const HOLE: i64 = -2;
 
-pub const LARGEST_CODE: i32 = 2147483646;
+pub const LARGEST_CODE: i64 = 2147483646;
 
 // Why a grid is declined: document 01's number, 0 for an accepted one, and the index of the first bad cell.
 pub struct Refusal {
@@ -93,7 +93,7 @@ pub fn is_size(n: usize) -> bool
 }
 
 // The index of the first cell that is neither blank nor a hole nor a code, or the number of cells.
-fn first_bad_cell(cells: &[i32]) -> usize
+fn first_bad_cell(cells: &[i64]) -> usize
     ensures { λ r. ⌜ r ≡ first-bad-cell (now (cells .entry)) ⌝ }
 {
     let mut i = 0;
@@ -111,7 +111,7 @@ fn first_bad_cell(cells: &[i32]) -> usize
 }
 
 // The refusals 7, 8 and 9, in this order, for a board or a search.
-pub fn grid_refusal(height: usize, width: usize, cells: &[i32]) -> Refusal
+pub fn grid_refusal(height: usize, width: usize, cells: &[i64]) -> Refusal
     ensures { λ r. ⌜ refusal-says r ≡ grid-refusal height width (now (cells .entry)) ⌝ }
 {
     if !is_size(height) {

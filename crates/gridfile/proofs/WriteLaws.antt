@@ -11,7 +11,7 @@ use lib.Seq.{drop-cons, take-append-seam}
 use lib.IntN.{ℤ, pos, negsuc, natAbs}
 use lib.Signed.{ltZ, nonNeg}
 use lib.Dec.{T, eqb}
-use mir.Syntax.{w32, w64}
+use mir.Syntax.{w64}
 use mir.Val.{Fits, SFits, toZ, ofZ}
 use mir.ValLaws.{toZ-ofZ}
 use borrow.Author.Tests.{ltb-true, eqb-true, eqb-false, ne-eqb, eq-eqb}
@@ -29,31 +29,31 @@ use Rattle.reading.specs.WriteRead.{refused-grid, no-room, has-room}
 
 -- ## The field of a pad
 
-module _ (z : ℤ) (f : SFits w32 z) where
-  pub back : toZ w32 (ofZ w32 z) ≡ z
-  back = toZ-ofZ w32 z f
+module _ (z : ℤ) (f : SFits w64 z) where
+  pub back : toZ w64 (ofZ w64 z) ≡ z
+  back = toZ-ofZ w64 z f
 
-  pub a-blank : ofZ w32 z ≡ 4294967295 → cell-text z ≡ []
+  pub a-blank : ofZ w64 z ≡ ofZ w64 (negsuc 0) → cell-text z ≡ []
   unfolding cell-text
-  a-blank e = ap cell-text (sym back ∙ ap (toZ w32) e)
+  a-blank e = ap cell-text (sym back ∙ ap (toZ w64) e)
 
-  pub a-hole : (ofZ w32 z ≡ 4294967295 → ⊥) → ltZ (toZ w32 (ofZ w32 z)) (pos 0) ≡ true → cell-text z ≡ 35 ∷ []
+  pub a-hole : (ofZ w64 z ≡ ofZ w64 (negsuc 0) → ⊥) → ltZ (toZ w64 (ofZ w64 z)) (pos 0) ≡ true → cell-text z ≡ 35 ∷ []
   unfolding cell-text hole-sign bytes
   a-hole n h = go z n (rw back at h)
     where
-      go : (z : ℤ) → (ofZ w32 z ≡ 4294967295 → ⊥) → ltZ z (pos 0) ≡ true → cell-text z ≡ 35 ∷ []
+      go : (z : ℤ) → (ofZ w64 z ≡ ofZ w64 (negsuc 0) → ⊥) → ltZ z (pos 0) ≡ true → cell-text z ≡ 35 ∷ []
       go (pos code) n h = absurd (omega (arith, ltb-true code 0 h))
       go (negsuc zero) n h = absurd (n refl)
       go (negsuc (suc below)) n h = refl
 
-  pub a-code : ltZ (toZ w32 (ofZ w32 z)) (pos 0) ≡ false → T (nonNeg (toZ w32 (ofZ w32 z))) × Fits w64 (natAbs (toZ w32 (ofZ w32 z)))
+  pub a-code : ltZ (toZ w64 (ofZ w64 z)) (pos 0) ≡ false → T (nonNeg (toZ w64 (ofZ w64 z))) × Fits w64 (natAbs (toZ w64 (ofZ w64 z)))
   a-code h = rw back (go z f (rw back at h))
     where
-      go : (z : ℤ) → SFits w32 z → ltZ z (pos 0) ≡ false → T (nonNeg z) × Fits w64 (natAbs z)
+      go : (z : ℤ) → SFits w64 z → ltZ z (pos 0) ≡ false → T (nonNeg z) × Fits w64 (natAbs z)
       go (pos n) f h = (tt, record { fits = omega (arith, f .sfits) })
       go (negsuc n) f h = absurd (true≢false h)
 
-  pub its-digits : ltZ (toZ w32 (ofZ w32 z)) (pos 0) ≡ false → decimal (natAbs (toZ w32 (ofZ w32 z))) ≡ cell-text z
+  pub its-digits : ltZ (toZ w64 (ofZ w64 z)) (pos 0) ≡ false → decimal (natAbs (toZ w64 (ofZ w64 z))) ≡ cell-text z
   unfolding cell-text
   its-digits h = rw back (go z (rw back at h))
     where

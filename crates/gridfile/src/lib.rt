@@ -38,7 +38,7 @@ pub struct Reading {
     pub field: usize,
     pub height: usize,
     pub width: usize,
-    pub cells: [i32; 256],
+    pub cells: [i64; 256],
 }
 
 // What writing a grid gives: number 0 and how many bytes were written, or a refusal with length 0; the index is beside 9.
@@ -137,14 +137,14 @@ fn field_number(field: Field) -> u8
 }
 
 // 256 blank cells.
-fn no_cells() -> [i32; 256]
+fn no_cells() -> [i64; 256]
     ensures { λ r. ⌜ r ≡ no-cells ⌝ }
 {
     [grid::BLANK; 256]
 }
 
 // A cell gets what its field says: a hole, blank if the field had no digits, else the value.
-fn store_cell(cells: &mut [i32; 256], index: usize, hole: bool, digits: usize, value: usize)
+fn store_cell(cells: &mut [i64; 256], index: usize, hole: bool, digits: usize, value: usize)
     requires { ⌜ (index < 256) × (value ≤ largest-code) ⌝ }
     ensures { λ _. ⌜ now (cells .exit) ≡ set (now (cells .entry)) index (cell-of (part-of hole digits value)) ⌝ }
 {
@@ -153,7 +153,7 @@ fn store_cell(cells: &mut [i32; 256], index: usize, hole: bool, digits: usize, v
     } else if digits == 0 {
         cells[index] = grid::BLANK;
     } else {
-        cells[index] = value as i32;
+        cells[index] = value as i64;
     }
 }
 
@@ -243,7 +243,7 @@ pub fn read(bytes: &[u8]) -> Reading
 }
 
 // The field of a pad from a place on: nothing for a blank one, the sign of a hole, or the code; the place after it.
-fn put_cell(out: &mut [u8], at: usize, cell: i32) -> usize
+fn put_cell(out: &mut [u8], at: usize, cell: i64) -> usize
     requires { ⌜ at + length (cell-text cell) ≤ length (now out) ⌝ }
     ensures { λ r. ⌜ Put (now (out .entry)) (now (out .exit)) at (cell-text cell) r ⌝ }
 {
@@ -257,7 +257,7 @@ fn put_cell(out: &mut [u8], at: usize, cell: i32) -> usize
 }
 
 // The fields of the pads in index order from a place on, after each a comma or, at a row's end, a line end; the place after them.
-fn put_rows(out: &mut [u8], at: usize, width: usize, cells: &[i32]) -> usize
+fn put_rows(out: &mut [u8], at: usize, width: usize, cells: &[i64]) -> usize
     requires { ⌜ (is-size width ≡ true) × (at + length (rows-text width 1 (now cells)) ≤ length (now out)) ⌝ }
     ensures { λ r. ⌜ Put (now (out .entry)) (now (out .exit)) at (rows-text width 1 (now (cells .entry))) r ⌝ }
 {
@@ -279,7 +279,7 @@ fn put_rows(out: &mut [u8], at: usize, width: usize, cells: &[i32]) -> usize
 }
 
 // The text of a grid from the start on; its length.
-fn put_grid(out: &mut [u8], height: usize, width: usize, cells: &[i32]) -> usize
+fn put_grid(out: &mut [u8], height: usize, width: usize, cells: &[i64]) -> usize
     requires { ⌜ (is-size width ≡ true) × (length (grid-text height width (now cells)) ≤ length (now out)) ⌝ }
     ensures { λ r. ⌜ Put (now (out .entry)) (now (out .exit)) 0 (grid-text height width (now (cells .entry))) r ⌝ }
 {
@@ -290,7 +290,7 @@ fn put_grid(out: &mut [u8], height: usize, width: usize, cells: &[i32]) -> usize
 
 // A grid into a lent buffer: the grid's refusals first, then 14 where the buffer is shorter than the text. The text is made in an array
 // that the longest one fits, so that nothing is written where there is no room.
-pub fn write(height: usize, width: usize, cells: &[i32], buffer: &mut [u8]) -> Writing
+pub fn write(height: usize, width: usize, cells: &[i64], buffer: &mut [u8]) -> Writing
     ensures { λ r. ⌜ writing-says r (now (buffer .exit)) ≡ write height width (now (cells .entry)) (now (buffer .entry)) ⌝ }
 {
     let refusal = grid::grid_refusal(height, width, cells);

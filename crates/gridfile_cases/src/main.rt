@@ -19,7 +19,7 @@ fn print_refusal(number: u8, line: usize, field: usize) {
 }
 
 // The grid of an accepted file, as it is written back.
-fn print_grid(height: usize, width: usize, cells: &[i32]) {
+fn print_grid(height: usize, width: usize, cells: &[i64]) {
     let mut text = [0; gridfile::LONGEST_TEXT];
     let writing = gridfile::write(height, width, cells, &mut text);
     let length = writing.length;
@@ -27,7 +27,7 @@ fn print_grid(height: usize, width: usize, cells: &[i32]) {
 }
 
 // A line for each cell past the pads that is not blank.
-fn print_past(cells: &[i32], pads: usize) {
+fn print_past(cells: &[i64], pads: usize) {
     let mut index = pads;
     while index < cells.len() {
         if cells[index] != grid::BLANK {

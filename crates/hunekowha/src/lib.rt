@@ -15,7 +15,7 @@ ghost use Rattle.hunekowha.specs.Replay.{replay-gives};
 
 // Reads a grid file into five numbers and 256 cells.
 #[no_mangle]
-pub extern "C" fn hunekowha_read(file: &[u8], answer: &mut [u64], cells: &mut [i32]) -> usize
+pub extern "C" fn hunekowha_read(file: &[u8], answer: &mut [u64], cells: &mut [i64]) -> usize
     ensures { λ r. ⌜ read-gives (now (file .entry)) (now (answer .entry)) (now (cells .entry)) ≡ record { returned = r; answer = now (answer .exit); cells = now (cells .exit) } ⌝ }
 {
     if answer.len() < 5 {
@@ -34,7 +34,7 @@ pub extern "C" fn hunekowha_read(file: &[u8], answer: &mut [u64], cells: &mut [i
     ];
     lend::put_numbers(answer, 0, &numbers);
     let read_cells = reading.cells;
-    lend::put_cells(cells, 0, &read_cells);
+    lend::put_signed(cells, 0, &read_cells);
     5
 }
 
@@ -43,7 +43,7 @@ pub extern "C" fn hunekowha_read(file: &[u8], answer: &mut [u64], cells: &mut [i
 pub extern "C" fn hunekowha_write(
     height: usize,
     width: usize,
-    cells: &[i32],
+    cells: &[i64],
     text: &mut [u8],
     answer: &mut [u64],
 ) -> usize
@@ -88,7 +88,7 @@ pub extern "C" fn hunekowha_record(
 pub extern "C" fn hunekowha_judge(
     height: usize,
     width: usize,
-    cells: &[i32],
+    cells: &[i64],
     bytes: &[u8],
     answer: &mut [u64],
 ) -> usize
@@ -123,7 +123,7 @@ fn called(
     board: Board,
     height: usize,
     width: usize,
-    cells: &[i32],
+    cells: &[i64],
     kind: u64,
     row: usize,
     column: usize,
@@ -178,7 +178,7 @@ fn put_block(answer: &mut [i64], place: usize, made: Answer)
     let head = [made.number, made.answer as u8, flag as u8];
     lend::put_bytes(answer, place, &head);
     lend::put_bytes(answer, place + 3, &edges[..places]);
-    lend::put_ends(answer, place + 3 + places, &ends[..height * width]);
+    lend::put_signed(answer, place + 3 + places, &ends[..height * width]);
 }
 
 // Makes the calls of a list on a fresh board, and writes their blocks one behind the other.
@@ -187,7 +187,7 @@ fn put_blocks(
     fresh: Board,
     height: usize,
     width: usize,
-    cells: &[i32],
+    cells: &[i64],
     calls: &[u64],
     size: usize,
     count: usize,
@@ -220,7 +220,7 @@ fn put_blocks(
 pub extern "C" fn hunekowha_replay(
     height: usize,
     width: usize,
-    cells: &[i32],
+    cells: &[i64],
     calls: &[u64],
     answer: &mut [i64],
 ) -> usize
@@ -242,7 +242,7 @@ pub extern "C" fn hunekowha_replay(
 pub extern "C" fn hunekowha_solve(
     height: usize,
     width: usize,
-    cells: &[i32],
+    cells: &[i64],
     limit: u64,
     buffer: &mut [u8],
     answer: &mut [u64],

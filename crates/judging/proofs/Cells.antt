@@ -1,4 +1,4 @@
--- Laws of a cell and of an end as the code reads them, each an i32: when a pad is finished, and when it is a clue or a hole. They rest on
+-- Laws of a cell and of an end as the code reads them, each an i64: when a pad is finished, and when it is a clue or a hole. They rest on
 -- boardview's Signed.antt.
 use Prim.Native.Nat.{ℕ, zero, suc, _-_, _≤_, _<_}
 use mathlib.Core.Path.{_≡_, refl, ap}
@@ -9,7 +9,7 @@ use lib.Dec.{eqb}
 use lib.IntN.{ℤ, pos, negsuc}
 use lib.ListN.{getD, length, List·getD-eq-default}
 use lib.Signed.{ltZ, leZ}
-use mir.Syntax.{w32}
+use mir.Syntax.{w64}
 use mir.Val.{SFits, toZ, ofZ}
 use borrow.Author.Tests.{le-ltb, le-leb, ne-eqb}
 use Rattle.rules.specs.Grid.{blank-cell, cell-of}
@@ -34,38 +34,38 @@ module _ (cells ends : List ℤ) (v : ℕ) (inside : v < length cells) (low : v 
   unfolding finished-at
   as-read = λ i. finished (cell-of (default-free cells v blank-cell (pos 0) inside i)) v (end-of (default-free ends v (pos v) (pos 0) (omega arith) i))
 
-  module _ (cell-fits : SFits w32 cell) (end-fits : SFits w32 end) where
+  module _ (cell-fits : SFits w64 cell) (end-fits : SFits w64 end) where
     -- a line passes through it
-    pub passed-through : ofZ w32 end ≡ 4294967295 → ltZ (negsuc 1) (toZ w32 (ofZ w32 cell)) ≡ finished-at cells ends v
+    pub passed-through : ofZ w64 end ≡ ofZ w64 (negsuc 0) → ltZ (negsuc 1) (toZ w64 (ofZ w64 cell)) ≡ finished-at cells ends v
     unfolding end-of cell-of
-    passed-through h = rw (back cell cell-fits, as-read, from-bits end 4294967295 end-fits h) (go cell)
+    passed-through h = rw (back cell cell-fits, as-read, from-bits end _ end-fits h) (go cell)
       where
         go : (z : ℤ) → ltZ (negsuc 1) z ≡ finished (cell-of z) v (end-of (negsuc 0))
         go (pos n) = refl
         go (negsuc zero) = refl
         go (negsuc (suc n)) = le-ltb (suc n) 1 (omega arith)
 
-    module _ (h : ofZ w32 end ≡ 4294967295 → ⊥) where
+    module _ (h : ofZ w64 end ≡ ofZ w64 (negsuc 0) → ⊥) where
       -- a clue with no line
-      pub clue-alone : leZ (pos 0) (toZ w32 (ofZ w32 cell)) ≡ true → false ≡ finished-at cells ends v
+      pub clue-alone : leZ (pos 0) (toZ w64 (ofZ w64 cell)) ≡ true → false ≡ finished-at cells ends v
       unfolding end-of cell-of
       clue-alone k = rw as-read (go cell (rw (back cell cell-fits) at k) end h)
         where
-          go : (z : ℤ) → leZ (pos 0) z ≡ true → (e : ℤ) → (ofZ w32 e ≡ 4294967295 → ⊥) → false ≡ finished (cell-of z) v (end-of e)
+          go : (z : ℤ) → leZ (pos 0) z ≡ true → (e : ℤ) → (ofZ w64 e ≡ ofZ w64 (negsuc 0) → ⊥) → false ≡ finished (cell-of z) v (end-of e)
           go (pos n) k (pos a) h = refl
           go (pos n) k (negsuc zero) h = absurd (h refl)
           go (pos n) k (negsuc (suc a)) h = refl
           go (negsuc n) k e h = absurd (false≢true k)
 
       -- a blank pad or a hole: no line, or one
-      pub own-end : leZ (pos 0) (toZ w32 (ofZ w32 cell)) ≡ false → eqb (ofZ w32 end) v ≡ finished-at cells ends v
+      pub own-end : leZ (pos 0) (toZ w64 (ofZ w64 cell)) ≡ false → eqb (ofZ w64 end) v ≡ finished-at cells ends v
       unfolding end-of cell-of
       own-end k = rw as-read (go cell (rw (back cell cell-fits) at k) end end-fits h)
         where
-          far : (a : ℕ) → SFits w32 (negsuc (suc a)) → eqb (ofZ w32 (negsuc (suc a))) v ≡ false
-          far a fits = ne-eqb (ofZ w32 (negsuc (suc a))) v (λ (e : 4294967296 - suc (suc a) ≡ v). omega (arith, fits .sfits))
+          far : (a : ℕ) → SFits w64 (negsuc (suc a)) → eqb (ofZ w64 (negsuc (suc a))) v ≡ false
+          far a fits = ne-eqb (ofZ w64 (negsuc (suc a))) v (λ (e : 18446744073709551616 - suc (suc a) ≡ v). omega (arith, fits .sfits))
 
-          go : (z : ℤ) → leZ (pos 0) z ≡ false → (e : ℤ) → SFits w32 e → (ofZ w32 e ≡ 4294967295 → ⊥) → eqb (ofZ w32 e) v ≡ finished (cell-of z) v (end-of e)
+          go : (z : ℤ) → leZ (pos 0) z ≡ false → (e : ℤ) → SFits w64 e → (ofZ w64 e ≡ ofZ w64 (negsuc 0) → ⊥) → eqb (ofZ w64 e) v ≡ finished (cell-of z) v (end-of e)
           go (pos n) k e f h = conflict (le-leb 0 n (omega arith)) k
           go (negsuc zero) k (pos a) f h = refl
           go (negsuc zero) k (negsuc zero) f h = absurd (h refl)
@@ -80,11 +80,11 @@ module _ (cells : List ℤ) (v : ℕ) where
   unfolding taken-at cell-of not-blank
   past-the-cells past = rw (List·getD-eq-default cells blank-cell past) refl
 
-  pub taken-there : v < length cells → SFits w32 (getD cells v (pos 0)) → not (eqb (ofZ w32 (getD cells v (pos 0))) 4294967295) ≡ taken-at cells v
+  pub taken-there : v < length cells → SFits w64 (getD cells v (pos 0)) → not (eqb (ofZ w64 (getD cells v (pos 0))) (ofZ w64 (negsuc 0))) ≡ taken-at cells v
   unfolding taken-at cell-of not-blank
   taken-there inside fits = rw (default-free cells v blank-cell (pos 0) inside) (go (getD cells v (pos 0)) fits)
     where
-      go : (z : ℤ) → SFits w32 z → not (eqb (ofZ w32 z) 4294967295) ≡ not-blank (cell-of z)
-      go (pos n) f = ap not (ne-eqb n 4294967295 (λ e. omega (arith, f .sfits)))
+      go : (z : ℤ) → SFits w64 z → not (eqb (ofZ w64 z) (ofZ w64 (negsuc 0))) ≡ not-blank (cell-of z)
+      go (pos n) f = ap not (ne-eqb n (ofZ w64 (negsuc 0)) (λ e. omega (arith, f .sfits)))
       go (negsuc zero) f = refl
-      go (negsuc (suc n)) f = ap not (ne-eqb (ofZ w32 (negsuc (suc n))) 4294967295 (λ (e : 4294967296 - suc (suc n) ≡ 4294967295). omega arith))
+      go (negsuc (suc n)) f = ap not (ne-eqb (ofZ w64 (negsuc (suc n))) (ofZ w64 (negsuc 0)) (λ (e : 18446744073709551616 - suc (suc n) ≡ ofZ w64 (negsuc 0)). omega arith))

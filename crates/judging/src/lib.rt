@@ -43,7 +43,7 @@ enum Followed {
 }
 
 // Joins the ends of the two pads of a line, if the line can be.
-fn follow_line(ends: &mut [i32; 512], first: usize, second: usize) -> bool
+fn follow_line(ends: &mut [i64; 512], first: usize, second: usize) -> bool
     requires { ⌜ (first < 512) × (second < 512) × InUse (now ends) ⌝ }
     ensures { λ r. ⌜ Stepped (model.after-line first second) (now (ends .entry)) r (now (ends .exit)) ⌝ }
 {
@@ -55,7 +55,7 @@ fn follow_line(ends: &mut [i32; 512], first: usize, second: usize) -> bool
 }
 
 // Follows the byte of an edge: 1 for a line, 2 for none, and no other.
-fn follow_edge(ends: &mut [i32; 512], first: usize, second: usize, byte: u8) -> bool
+fn follow_edge(ends: &mut [i64; 512], first: usize, second: usize, byte: u8) -> bool
     requires { ⌜ (first < 512) × (second < 512) × InUse (now ends) ⌝ }
     ensures { λ r. ⌜ Stepped (model.after-edge first second byte) (now (ends .entry)) r (now (ends .exit)) ⌝ }
 {
@@ -66,7 +66,7 @@ fn follow_edge(ends: &mut [i32; 512], first: usize, second: usize, byte: u8) -> 
 }
 
 // Follows the byte of a place; between the edges it is 0.
-fn follow_place(ends: &mut [i32; 512], width: usize, row: usize, column: usize, byte: u8) -> bool
+fn follow_place(ends: &mut [i64; 512], width: usize, row: usize, column: usize, byte: u8) -> bool
     requires { ⌜ (width ≤ 16) × (row < 31) × (column < 31) × InUse (now ends) ⌝ }
     ensures { λ r. ⌜ Stepped (model.after-place width (place-at width row column) byte) (now (ends .entry)) r (now (ends .exit)) ⌝ }
 {
@@ -79,7 +79,7 @@ fn follow_place(ends: &mut [i32; 512], width: usize, row: usize, column: usize, 
 
 // Follows a row of the field, and counts its lines with those before it.
 fn follow_row(
-    ends: &mut [i32; 512],
+    ends: &mut [i64; 512],
     width: usize,
     row: usize,
     bytes: &[u8],
@@ -105,7 +105,7 @@ fn follow_row(
 }
 
 // Follows the whole field, row by row.
-fn follow_record(ends: &mut [i32; 512], height: usize, width: usize, bytes: &[u8]) -> Followed
+fn follow_record(ends: &mut [i64; 512], height: usize, width: usize, bytes: &[u8]) -> Followed
     requires { ⌜ (2 ≤ height) × (height ≤ 16) × (2 ≤ width) × (width ≤ 16) × (length (now bytes) ≡ places height width) × InUse (now ends) ⌝ }
     ensures { λ r. ⌜ FollowedOn width (now (bytes .entry)) 0 (places height width) (now (ends .entry)) r (now (ends .exit)) ⌝ }
 {
@@ -127,7 +127,7 @@ fn follow_record(ends: &mut [i32; 512], height: usize, width: usize, bytes: &[u8
 }
 
 // Whether a pad is finished: a clue has its line, a blank pad two or none, a hole none.
-fn is_finished(cells: &[i32], ends: &[i32; 512], v: usize) -> bool
+fn is_finished(cells: &[i64], ends: &[i64; 512], v: usize) -> bool
     requires { ⌜ (v < length (now cells)) × (v < 512) × (length (now ends) ≡ 512) ⌝ }
     ensures { λ r. ⌜ r ≡ finished-at (now (cells .entry)) (now (ends .entry)) v ⌝ }
 {
@@ -139,7 +139,7 @@ fn is_finished(cells: &[i32], ends: &[i32; 512], v: usize) -> bool
     if 0 <= cell {
         return false;
     }
-    end == v as i32
+    end == v as i64
 }
 
 // Whether the place of that number holds a line; past the record's end there is none.
@@ -169,7 +169,7 @@ fn down_at(bytes: &[u8], width: usize, y: usize, x: usize) -> bool
 }
 
 // Whether a pad is a clue or a hole.
-fn is_taken(cells: &[i32], v: usize) -> bool
+fn is_taken(cells: &[i64], v: usize) -> bool
     ensures { λ r. ⌜ r ≡ taken-at (now (cells .entry)) v ⌝ }
 {
     if v < cells.len() {
@@ -198,7 +198,7 @@ fn left_corner(bytes: &[u8], width: usize, y: usize, x: usize) -> bool
 }
 
 // The corner rule at pad (y, x), to the right: diagonally below stands a clue or a hole, or the same corner.
-fn right_corner_keeps(bytes: &[u8], width: usize, cells: &[i32], y: usize, x: usize) -> bool
+fn right_corner_keeps(bytes: &[u8], width: usize, cells: &[i64], y: usize, x: usize) -> bool
     requires { ⌜ InColumn width y x × (y < 16) ⌝ }
     ensures { λ r. ⌜ r ≡ corner-keeps on-right width (now (cells .entry)) (drawing-of width (now (bytes .entry))) (pad-index width y x) ⌝ }
 {
@@ -209,7 +209,7 @@ fn right_corner_keeps(bytes: &[u8], width: usize, cells: &[i32], y: usize, x: us
 }
 
 // The same to the left.
-fn left_corner_keeps(bytes: &[u8], width: usize, cells: &[i32], y: usize, x: usize) -> bool
+fn left_corner_keeps(bytes: &[u8], width: usize, cells: &[i64], y: usize, x: usize) -> bool
     requires { ⌜ InColumn width y x × (y < 16) ⌝ }
     ensures { λ r. ⌜ r ≡ corner-keeps on-left width (now (cells .entry)) (drawing-of width (now (bytes .entry))) (pad-index width y x) ⌝ }
 {
@@ -245,7 +245,7 @@ fn square_keeps(bytes: &[u8], height: usize, width: usize, y: usize, x: usize) -
 }
 
 // The rules of a listed drawing at pad (y, x).
-fn pad_keeps(height: usize, width: usize, cells: &[i32], bytes: &[u8], y: usize, x: usize) -> bool
+fn pad_keeps(height: usize, width: usize, cells: &[i64], bytes: &[u8], y: usize, x: usize) -> bool
     requires { ⌜ InColumn width y x × (height ≤ 16) × (y < height) ⌝ }
     ensures { λ r. ⌜ r ≡ pad-keeps height width (now (cells .entry)) (drawing-of width (now (bytes .entry))) (pad-index width y x) ⌝ }
 {
@@ -259,9 +259,9 @@ fn pad_keeps(height: usize, width: usize, cells: &[i32], bytes: &[u8], y: usize,
 fn row_verdict(
     height: usize,
     width: usize,
-    cells: &[i32],
+    cells: &[i64],
     bytes: &[u8],
-    ends: &[i32; 512],
+    ends: &[i64; 512],
     y: usize,
 ) -> u8
     requires { ⌜ Accepted height width (now cells) × (length (now ends) ≡ 512) × (y < height) ⌝ }
@@ -282,7 +282,7 @@ fn row_verdict(
 }
 
 // The verdict by all pads, the least of the rows.
-fn pads_verdict(height: usize, width: usize, cells: &[i32], bytes: &[u8], ends: &[i32; 512]) -> u8
+fn pads_verdict(height: usize, width: usize, cells: &[i64], bytes: &[u8], ends: &[i64; 512]) -> u8
     requires { ⌜ Accepted height width (now cells) × (length (now ends) ≡ 512) ⌝ }
     ensures { λ r. ⌜ r ≡ mark (all-below (finished-at (now (cells .entry)) (now (ends .entry))) (height * width)) (model.has-listed-shape (grid-of height width (now (cells .entry))) (now (bytes .entry))) ⌝ }
 {
@@ -322,7 +322,7 @@ fn answered(verdict: u8, lines: usize) -> Judged
 }
 
 // Judges a record of an accepted grid: its length, its places, the pads.
-fn judge_record(height: usize, width: usize, cells: &[i32], bytes: &[u8]) -> Judged
+fn judge_record(height: usize, width: usize, cells: &[i64], bytes: &[u8]) -> Judged
     requires { ⌜ Accepted height width (now cells) ⌝ }
     ensures { λ r. ⌜ judged-says r ≡ answer (model.verdict (grid-of height width (now (cells .entry))) (now (bytes .entry))) (record-lines (now (bytes .entry))) ⌝ }
 {
@@ -337,7 +337,7 @@ fn judge_record(height: usize, width: usize, cells: &[i32], bytes: &[u8]) -> Jud
 }
 
 // Judges a record: the grid's refusals beside a 0, or the verdict with the lines.
-pub fn judge(height: usize, width: usize, cells: &[i32], bytes: &[u8]) -> Judged
+pub fn judge(height: usize, width: usize, cells: &[i64], bytes: &[u8]) -> Judged
     ensures { λ r. ⌜ judged-says r ≡ model.judge height width (now (cells .entry)) (now (bytes .entry)) ⌝ }
 {
     let refusal = grid::grid_refusal(height, width, cells);

@@ -8,7 +8,7 @@ use native.Mathlib.Numerals.{add-one}
 use native.Mathlib.Omega.{arith}
 use lib.ListN.{length, getD, set, List·getD-map}
 use lib.IntN.{ℤ, pos}
-use mir.Syntax.{w32, w64}
+use mir.Syntax.{w64}
 use mir.Val.{SFits, toZ, ofZ}
 use mir.ValLaws.{toZ-ofZ, toZ-pos}
 use lib.Seq.{paste, paste-zero, paste-suc, length-paste}
@@ -35,15 +35,9 @@ module _ {A : Type 0} (source start : List A) (place : ℕ) (fits : place + leng
   pub all-copied : {target : List A} {i : ℕ} → length source ≤ i → Copied source start place target i → target ≡ paste start place source (length source)
   all-copied {target} {i} ended copied = copied .holds ∙ ap (λ (n : ℕ). paste start place source n) (le-antisymm (copied .within) ended)
 
--- an i32 that was stored as its bits, and one that was widened to 64 bits, is the same number
-pub back : {z : ℤ} → SFits w32 z → toZ w32 (ofZ w32 z) ≡ z
-back {z} f = toZ-ofZ w32 z f
-
-pub widens : {z : ℤ} → SFits w32 z → SFits w64 (toZ w32 (ofZ w32 z))
-widens {z} f = rw (toZ-ofZ w32 z f) (record { sfits = omega (arith, f .sfits) })
-
-pub widened : {z : ℤ} → SFits w32 z → toZ w64 (ofZ w64 (toZ w32 (ofZ w32 z))) ≡ z
-widened {z} f = toZ-ofZ w64 _ (widens f) ∙ back f
+-- an i64 that was stored as its bits is the same number
+pub back : {z : ℤ} → SFits w64 z → toZ w64 (ofZ w64 z) ≡ z
+back {z} f = toZ-ofZ w64 z f
 
 -- a byte that was taken to a signed number
 pub byte-signed : (bytes : List ℕ) (i : ℕ) → getD bytes i 0 < 256 → toZ w64 (getD bytes i 0) ≡ getD (map pos bytes) i (pos 0)

@@ -1,4 +1,4 @@
-// Copies into lent slices: numbers, cells and bytes are put at a place of a slice that has room for them, and everything
+// Copies into lent slices: numbers, with a sign or without, and bytes are put at a place of a slice that has room for them, and everything
 // else in it keeps its value. Each says so by `paste` of the kit's lib.Seq: the part before the place, what is put, the rest.
 ghost use mathlib.Core.Path.{_≡_};
 ghost use mathlib.Core.List.{map};
@@ -19,26 +19,14 @@ pub fn put_numbers(target: &mut [u64], place: usize, numbers: &[u64])
     }
 }
 
-// Cells.
-pub fn put_cells(target: &mut [i32], place: usize, cells: &[i32])
-    requires { ⌜ place + length (now cells) ≤ length (now target) ⌝ }
-    ensures { λ _. ⌜ now (target .exit) ≡ paste (now (target .entry)) place (now (cells .entry)) (length (now (cells .entry))) ⌝ }
+// Numbers with a sign: cells, or ends.
+pub fn put_signed(target: &mut [i64], place: usize, numbers: &[i64])
+    requires { ⌜ place + length (now numbers) ≤ length (now target) ⌝ }
+    ensures { λ _. ⌜ now (target .exit) ≡ paste (now (target .entry)) place (now (numbers .entry)) (length (now (numbers .entry))) ⌝ }
 {
     let mut i = 0;
-    while i < cells.len() {
-        target[place + i] = cells[i];
-        i += 1;
-    }
-}
-
-// Numbers with a sign, from 32 to 64 bits.
-pub fn put_ends(target: &mut [i64], place: usize, ends: &[i32])
-    requires { ⌜ place + length (now ends) ≤ length (now target) ⌝ }
-    ensures { λ _. ⌜ now (target .exit) ≡ paste (now (target .entry)) place (now (ends .entry)) (length (now (ends .entry))) ⌝ }
-{
-    let mut i = 0;
-    while i < ends.len() {
-        target[place + i] = ends[i] as i64;
+    while i < numbers.len() {
+        target[place + i] = numbers[i];
         i += 1;
     }
 }

@@ -31,7 +31,7 @@ fn print(number: u64, after: u8) {
 }
 
 // One run: the grid's number, outcome, layouts, visited, fewest, and the checksum of the whole room.
-fn print_run(grid: u64, height: usize, width: usize, cells: &[i32], limit: u64, room: &mut [u8]) {
+fn print_run(grid: u64, height: usize, width: usize, cells: &[i64], limit: u64, room: &mut [u8]) {
     fill(room);
     let solved = solver::solve(height, width, cells, limit, room);
     print(grid, b',');
@@ -43,7 +43,7 @@ fn print_run(grid: u64, height: usize, width: usize, cells: &[i32], limit: u64, 
 }
 
 // One run of the stream: the limit in eight bytes, the room in four.
-fn run_at(stream: &[u8], place: usize, grid: u64, height: usize, width: usize, cells: &[i32]) {
+fn run_at(stream: &[u8], place: usize, grid: u64, height: usize, width: usize, cells: &[i64]) {
     let limit = number_at(stream, place, 8);
     let bytes = number_at(stream, later(place, 8), 4) as usize;
     let mut buffer = io::large_buffer();

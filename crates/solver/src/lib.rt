@@ -16,8 +16,8 @@ use tally::Tally;
 // Undoes what has been decided since.
 fn take_back(
     edges: &mut [u8; 1024],
-    ends: &mut [i32; 512],
-    log: &[i32; 2048],
+    ends: &mut [i64; 512],
+    log: &[i64; 2048],
     kind: &[u8; 1024],
     count: usize,
     before: usize,
@@ -32,8 +32,8 @@ fn take_back(
 // One m at a pad: tried where clue + lines is 0 or 2; decide right, decide down, go on if the flag is clear, undo.
 fn attempt(
     edges: &mut [u8; 1024],
-    ends: &mut [i32; 512],
-    log: &mut [i32; 2048],
+    ends: &mut [i64; 512],
+    log: &mut [i64; 2048],
     kind: &[u8; 1024],
     limit: u64,
     buffer: &mut [u8],
@@ -80,8 +80,8 @@ fn attempt(
 // The search from a pad on: spent where the next entry would pass the limit; a layout in the last row; else m = 0 to 3.
 fn backtrack(
     edges: &mut [u8; 1024],
-    ends: &mut [i32; 512],
-    log: &mut [i32; 2048],
+    ends: &mut [i64; 512],
+    log: &mut [i64; 2048],
     kind: &[u8; 1024],
     limit: u64,
     buffer: &mut [u8],
@@ -142,7 +142,7 @@ pub struct Solved {
 // right edge undecided, or in the last row.
 fn search_from(
     tally: Tally,
-    cells: &[i32],
+    cells: &[i64],
     buffer: &mut [u8],
     height: usize,
     width: usize,
@@ -159,7 +159,7 @@ fn search_from(
     let mut edges = fresh.edges;
     let mut ends = fresh.ends;
     let kind = fresh.kind;
-    let mut log = [0i32; 2048];
+    let mut log = [0i64; 2048];
     let first = searchparts::next_pad(&edges, searchparts::first_of_last_row(&kind), 0);
     let mut visited = tally.visited;
     let mut layouts = tally.layouts;
@@ -188,7 +188,7 @@ fn search_from(
 // The same with the tally lent: the boards visited are counted up in it.
 fn search_lent(
     tally: &mut Tally,
-    cells: &[i32],
+    cells: &[i64],
     buffer: &mut [u8],
     height: usize,
     width: usize,
@@ -201,7 +201,7 @@ fn search_lent(
 }
 
 // Searches a whole grid with a tally of its own, which is lent down the search and handed back.
-fn search(cells: &[i32], buffer: &mut [u8], height: usize, width: usize, limit: u64) -> Tally
+fn search(cells: &[i64], buffer: &mut [u8], height: usize, width: usize, limit: u64) -> Tally
     requires { ⌜ Accepted height width (now cells) ⌝ }
     ensures { λ r. ⌜ answers.Counted height width (now (cells .entry)) limit empty (now (buffer .entry)) r (now (buffer .exit)) ⌝ }
 {
@@ -211,7 +211,7 @@ fn search(cells: &[i32], buffer: &mut [u8], height: usize, width: usize, limit: 
 }
 
 // Lists the wirings of a grid into the lent buffer.
-pub fn solve(height: usize, width: usize, cells: &[i32], limit: u64, buffer: &mut [u8]) -> Solved
+pub fn solve(height: usize, width: usize, cells: &[i64], limit: u64, buffer: &mut [u8]) -> Solved
     ensures { λ r. ⌜ answers.Solves height width (now (cells .entry)) limit (now (buffer .entry)) r (now (buffer .exit)) ⌝ }
 {
     let refusal = grid::grid_refusal(height, width, cells);

@@ -38,7 +38,7 @@ fn show(r: Solved, total: u64) {
 }
 
 // A grid of 2 rows and 2 columns with one cell everywhere, into the first bytes of a buffer of sevens.
-fn square(cell: i32, limit: u64, room: usize)
+fn square(cell: i64, limit: u64, room: usize)
     requires { ⌜ room ≤ 40 ⌝ }
 {
     let cells = [cell; 4];
@@ -51,7 +51,7 @@ fn square(cell: i32, limit: u64, room: usize)
 fn blank(height: usize, width: usize, count: usize, limit: u64)
     requires { ⌜ count ≤ 300 ⌝ }
 {
-    let cells = [-1i32; 300];
+    let cells = [-1i64; 300];
     let mut buffer = [7u8; 40];
     let r = solver::solve(height, width, &cells[..count], limit, &mut buffer);
     show(r, sum(&buffer));
@@ -59,7 +59,7 @@ fn blank(height: usize, width: usize, count: usize, limit: u64)
 
 // Two clues of one code, each shut in by the same two holes.
 fn shut_in(limit: u64) {
-    let cells = [5i32, -2, -2, 5];
+    let cells = [5i64, -2, -2, 5];
     let mut buffer = [7u8; 40];
     let r = solver::solve(2, 2, &cells, limit, &mut buffer);
     show(r, sum(&buffer));

@@ -39,18 +39,18 @@ pub fn number_at(stream: &[u8], place: usize, bytes: usize) -> u64 {
 }
 
 // The cell that a byte stands for: 0 blank, 1 to 250 the codes from 0 on, 251 to 255 the largest codes.
-pub fn cell_of(byte: u8) -> i32 {
+pub fn cell_of(byte: u8) -> i64 {
     if byte == 0 {
         return -1;
     }
     if byte > 250 {
-        return (2147483391 + byte as usize) as i32;
+        return (2147483391 + byte as usize) as i64;
     }
-    (byte - 1) as i32
+    (byte - 1) as i64
 }
 
 // So many cells from a place on, and blank ones after them.
-pub fn cells_at(stream: &[u8], place: usize, count: usize) -> [i32; 256]
+pub fn cells_at(stream: &[u8], place: usize, count: usize) -> [i64; 256]
     ensures { λ r. ⌜ 256 ≡ length r ⌝ }
 {
     let mut cells = [-1; 256];
@@ -80,12 +80,20 @@ pub fn taken_bytes(sum: u64, bytes: &[u8]) -> u64 {
     after
 }
 
-// The checksum after so many ends more, 2147483648 added to each.
-pub fn taken_ends(sum: u64, ends: &[i32]) -> u64 {
+// The number that stands for an end: 2e for an end e that is not negative, 2(-1 - e) + 1 for a negative one.
+fn unsigned(end: i64) -> u64 {
+    if end < 0 {
+        return (-1 - end) as u64 * 2 + 1;
+    }
+    end as u64 * 2
+}
+
+// The checksum after so many ends more, each as a number without a sign.
+pub fn taken_ends(sum: u64, ends: &[i64]) -> u64 {
     let mut after = sum;
     let mut i = 0;
     while i < ends.len() {
-        after = taken(after, (ends[i] as i64 + 2147483648) as u64);
+        after = taken(after, unsigned(ends[i]));
         i += 1;
     }
     after

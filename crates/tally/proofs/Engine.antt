@@ -17,7 +17,7 @@ use types.Kit.{Given, _$_, _∵_, !, qed, fjoin, done}
 use denote.Laws.{Is}
 use denote.Memory.{pointee}
 use denote.Plain.{uint-makes}
-use denote.Builtin.{u8, u64, usize, i32, unit, RefMut, SliceRef, SliceRefMut}
+use denote.Builtin.{u8, u64, usize, i64, unit, RefMut, SliceRef, SliceRefMut}
 use denote.Exit.{yes}
 use denote.RattleType.{RattleType}
 use denote.Signature.{Slot, plain}
@@ -37,7 +37,7 @@ pub record Engine : Type 1 where
 
 -- a cell of the grid
 abbrev pub cell : RattleType
-cell = i32
+cell = i64
 
 -- THE SIGNATURES, each with what is said of its parameters at exit
 abbrev numbers-of : {n : ℕ} → List (Slot n)

@@ -1,5 +1,5 @@
 -- `board::shown_ends` meets its contract. The loop's invariant: the ends of the first i pads are laid out. Assumes nothing.
-use mir.Syntax.{w32}
+use mir.Syntax.{w64}
 use mir.ValLaws.{toZ-ofZ}
 use Rattle.board.specs.ShowLaws.{Laid, end-at-index, none-laid, one-laid, laid-all}
 use Prim.Native.Nat.{_-_, _≤_}
@@ -38,7 +38,7 @@ loop-less : tie.Need-loop-less Inv-loop μ-loop
 loop-less c = omega arith
 
 loop-again : tie.Need-loop-again Inv-loop μ-loop
-loop-again c = (omega arith, one-laid _ 256 (toZ-ofZ w32 _ (record { sfits = c .shown .given })) (omega arith) (c .before .before .loop .inv .1))
+loop-again c = (omega arith, one-laid _ 256 (toZ-ofZ w64 _ (record { sfits = c .shown .given })) (omega arith) (c .before .before .loop .inv .1))
 
 returns : tie.Need-returns Inv-loop μ-loop
 returns c = laid-all _ 256 _ _ 256 (c .before .loop .inv .0) (c .loop-test .left) (c .before .loop .inv .1)

@@ -1,6 +1,6 @@
 -- `gridfile::store_cell` meets its contract: the three stores are the three cases of `cell-of`. Assumes nothing.
 use native.Mathlib.Omega.{arith}
-use mir.Syntax.{w32}
+use mir.Syntax.{w64}
 use mir.ValLaws.{toZ-pos}
 use borrow.Author.Tests.{eq-eqb, ne-eqb}
 use Rattle.model.specs.GridFile.{blank, hole}
@@ -39,7 +39,7 @@ returns-2 c = rw (c .before .if1 .left, eq-eqb _ _ (c .if2 .taken))
 
 returns-3 : tie.Need-returns-3
 unfolding cell-of
-returns-3 c = rw (c .before .if1 .left, ne-eqb _ _ (c .if2 .left), toZ-pos w32 (c .before .before .args .value) (omega arith))
+returns-3 c = rw (c .before .if1 .left, ne-eqb _ _ (c .if2 .left), toZ-pos w64 (c .before .before .args .value) (omega arith))
 
 pub store-cell-spec : {M : Type 1} → statement M
 store-cell-spec =

@@ -25,11 +25,11 @@ slice-aggregate-put-numbers c = search needs
 put-numbers-requires : tie.Need-put-numbers-requires
 put-numbers-requires c κs = search needs
 
-slice-aggregate-put-cells : tie.Need-slice-aggregate-put-cells
-slice-aggregate-put-cells c = search needs
+slice-aggregate-put-signed : tie.Need-slice-aggregate-put-signed
+slice-aggregate-put-signed c = search needs
 
-put-cells-requires : tie.Need-put-cells-requires
-put-cells-requires c κs = let long : length (c .before .before .before .before .before .before .before .before .before .read .result .cells) ≡ 256 = search needs in omega arith
+put-signed-requires : tie.Need-put-signed-requires
+put-signed-requires c κs = let long : length (c .before .before .before .before .before .before .before .before .before .read .result .cells) ≡ 256 = search needs in omega arith
 
 same-length : tie.Need-same-length
 same-length c = search needs
@@ -38,7 +38,7 @@ same-length-2 : tie.Need-same-length-2
 same-length-2 c = search needs
 
 returns-3 : tie.Need-returns-3
-returns-3 c = read-whole _ _ _ (c .before .before .before .before .before .before .before .before .before .before .before .before .before .if1 .left) (c .before .before .before .before .before .before .before .before .before .before .before .before .if2 .left) _ (c .before .before .before .before .before .before .before .before .before .before .before .read .ensures) _ _ (c .before .before .before .before .before .before .before .put-numbers .ensures) (c .before .put-cells .ensures)
+returns-3 c = read-whole _ _ _ (c .before .before .before .before .before .before .before .before .before .before .before .before .before .if1 .left) (c .before .before .before .before .before .before .before .before .before .before .before .before .if2 .left) _ (c .before .before .before .before .before .before .before .before .before .before .before .read .ensures) _ _ (c .before .before .before .before .before .before .before .put-numbers .ensures) (c .before .put-signed .ensures)
 
 pub hunekowha-read-spec : {M : Type 1} → statement M
 hunekowha-read-spec =
@@ -50,8 +50,8 @@ hunekowha-read-spec =
     cast-t9
     slice-aggregate-put-numbers
     put-numbers-requires
-    slice-aggregate-put-cells
-    put-cells-requires
+    slice-aggregate-put-signed
+    put-signed-requires
     same-length
     same-length-2
     returns-3)

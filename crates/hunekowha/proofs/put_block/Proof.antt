@@ -52,11 +52,11 @@ slice-aggregate-put-bytes-2 c = let long : length (c .before .before .before .be
 put-bytes-requires-2 : tie.Need-put-bytes-requires-2
 put-bytes-requires-2 c κs = room-for-edges _ _ (c .before .before .before .before .before .before .before .before .before .before .before .pre .says) _ (c .before .before .before .before .before .before .before .before .before .shown .ensures _ (c .before .before .before .before .before .before .before .before .before .before .before .pre .said .board)) (c .before .before .before .before .before .before .before .before .before .before .before .pre .fits) _ _ _ _ (c .before .before .before .put-bytes .ensures)
 
-add-put-ends : tie.Need-add-put-ends
-add-put-ends c = search needs
+add-put-signed : tie.Need-add-put-signed
+add-put-signed c = search needs
 
-add-put-ends-2 : tie.Need-add-put-ends-2
-add-put-ends-2 c = omega (arith, few-places (in-range (c .before .before .before .before .before .before .before .before .before .before .before .before .before .before .pre .said .board) (c .before .before .before .before .before .before .before .before .before .before .before .before .shown .ensures _ (c .before .before .before .before .before .before .before .before .before .before .before .before .before .before .pre .said .board))), c .before .before .before .before .before .before .before .before .before .before .before .before .before .before .pre .fits)
+add-put-signed-2 : tie.Need-add-put-signed-2
+add-put-signed-2 c = omega (arith, few-places (in-range (c .before .before .before .before .before .before .before .before .before .before .before .before .before .before .pre .said .board) (c .before .before .before .before .before .before .before .before .before .before .before .before .shown .ensures _ (c .before .before .before .before .before .before .before .before .before .before .before .before .before .before .pre .said .board))), c .before .before .before .before .before .before .before .before .before .before .before .before .before .before .pre .fits)
 
 mul-ends : tie.Need-mul-ends
 mul-ends c = omega (arith, few-pads (in-range (c .before .before .before .before .before .before .before .before .before .before .before .before .before .before .pre .said .board) (c .before .before .before .before .before .before .before .before .before .before .before .before .shown .ensures _ (c .before .before .before .before .before .before .before .before .before .before .before .before .before .before .pre .said .board))))
@@ -64,17 +64,17 @@ mul-ends c = omega (arith, few-pads (in-range (c .before .before .before .before
 array-share-prefix-ends : tie.Need-array-share-prefix-ends
 array-share-prefix-ends c = let long : length (c .before .before .before .before .before .before .before .before .before .before .before .before .shown .result .ends) ≡ 256 = search needs in omega (arith, few-pads (in-range (c .before .before .before .before .before .before .before .before .before .before .before .before .before .before .pre .said .board) (c .before .before .before .before .before .before .before .before .before .before .before .before .shown .ensures _ (c .before .before .before .before .before .before .before .before .before .before .before .before .before .before .pre .said .board))))
 
-slice-aggregate-put-ends : tie.Need-slice-aggregate-put-ends
-slice-aggregate-put-ends c = let long : length (c .before .before .before .before .before .before .before .before .before .before .before .before .before .shown .result .ends) ≡ 256 = search needs in sym (length-take-le _ _ (omega (arith, few-pads (in-range (c .before .before .before .before .before .before .before .before .before .before .before .before .before .before .before .pre .said .board) (c .before .before .before .before .before .before .before .before .before .before .before .before .before .shown .ensures _ (c .before .before .before .before .before .before .before .before .before .before .before .before .before .before .before .pre .said .board))))))
+slice-aggregate-put-signed : tie.Need-slice-aggregate-put-signed
+slice-aggregate-put-signed c = let long : length (c .before .before .before .before .before .before .before .before .before .before .before .before .before .shown .result .ends) ≡ 256 = search needs in sym (length-take-le _ _ (omega (arith, few-pads (in-range (c .before .before .before .before .before .before .before .before .before .before .before .before .before .before .before .pre .said .board) (c .before .before .before .before .before .before .before .before .before .before .before .before .before .shown .ensures _ (c .before .before .before .before .before .before .before .before .before .before .before .before .before .before .before .pre .said .board))))))
 
-put-ends-requires : tie.Need-put-ends-requires
-put-ends-requires c κs = room-for-ends _ _ (c .before .before .before .before .before .before .before .before .before .before .before .before .before .before .before .pre .says) _ (c .before .before .before .before .before .before .before .before .before .before .before .before .before .shown .ensures _ (c .before .before .before .before .before .before .before .before .before .before .before .before .before .before .before .pre .said .board)) (c .before .before .before .before .before .before .before .before .before .before .before .before .before .before .before .pre .fits) _ _ _ _ (c .before .before .before .before .before .before .before .put-bytes .ensures) _ (c .before .before .before .put-bytes2 .ensures)
+put-signed-requires : tie.Need-put-signed-requires
+put-signed-requires c κs = room-for-ends _ _ (c .before .before .before .before .before .before .before .before .before .before .before .before .before .before .before .pre .says) _ (c .before .before .before .before .before .before .before .before .before .before .before .before .before .shown .ensures _ (c .before .before .before .before .before .before .before .before .before .before .before .before .before .before .before .pre .said .board)) (c .before .before .before .before .before .before .before .before .before .before .before .before .before .before .before .pre .fits) _ _ _ _ (c .before .before .before .before .before .before .before .put-bytes .ensures) _ (c .before .before .before .put-bytes2 .ensures)
 
 same-length : tie.Need-same-length
 same-length c = search needs
 
 returns : tie.Need-returns
-returns c = λ A says. block-written _ _ A _ (c .before .before .before .before .before .before .before .before .before .before .before .before .before .before .before .shown .ensures _ (says .board)) (omega (arith, c .before .before .before .before .before .before .before .before .before .before .before .before .before .before .before .before .before .pre .fits, size-shown (c .before .before .before .before .before .before .before .before .before .before .before .before .before .before .before .shown .ensures _ (c .before .before .before .before .before .before .before .before .before .before .before .before .before .before .before .before .before .pre .said .board)), size-shown (c .before .before .before .before .before .before .before .before .before .before .before .before .before .before .before .shown .ensures _ (says .board)))) _ _ _ _ (c .before .before .before .before .before .before .before .before .before .put-bytes .ensures) _ (c .before .before .before .before .before .put-bytes2 .ensures) (says .number) (says .answer) (ap num (c .before .before .before .before .before .before .before .before .before .before .before .before .before .before .before .shown .ensures _ (says .board) .flag)) _ (c .before .put-ends .ensures)
+returns c = λ A says. block-written _ _ A _ (c .before .before .before .before .before .before .before .before .before .before .before .before .before .before .before .shown .ensures _ (says .board)) (omega (arith, c .before .before .before .before .before .before .before .before .before .before .before .before .before .before .before .before .before .pre .fits, size-shown (c .before .before .before .before .before .before .before .before .before .before .before .before .before .before .before .shown .ensures _ (c .before .before .before .before .before .before .before .before .before .before .before .before .before .before .before .before .before .pre .said .board)), size-shown (c .before .before .before .before .before .before .before .before .before .before .before .before .before .before .before .shown .ensures _ (says .board)))) _ _ _ _ (c .before .before .before .before .before .before .before .before .before .put-bytes .ensures) _ (c .before .before .before .before .before .put-bytes2 .ensures) (says .number) (says .answer) (ap num (c .before .before .before .before .before .before .before .before .before .before .before .before .before .before .before .shown .ensures _ (says .board) .flag)) _ (c .before .put-signed .ensures)
 
 pub put-block-spec : {M : Type 1} → statement M
 put-block-spec =
@@ -94,11 +94,11 @@ put-block-spec =
     array-share-prefix-edges
     slice-aggregate-put-bytes-2
     put-bytes-requires-2
-    add-put-ends
-    add-put-ends-2
+    add-put-signed
+    add-put-signed-2
     mul-ends
     array-share-prefix-ends
-    slice-aggregate-put-ends
-    put-ends-requires
+    slice-aggregate-put-signed
+    put-signed-requires
     same-length
     returns)

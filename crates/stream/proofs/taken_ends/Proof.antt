@@ -1,7 +1,4 @@
--- `stream::taken_ends` is safe and ends: an end with 2147483648 added is no negative number. Assumes nothing.
-use lib.IntN.{pos}
-use lib.ListN.{getD}
-use Rattle.stream.proofs.Raised.{widens, sum-fits, sum-unsigned}
+-- `stream::taken_ends` is safe and ends. Assumes nothing.
 use borrow.Author.Needs.{needs}
 use lib.ListN.{length}
 use Prim.Native.Nat.{_-_}
@@ -17,20 +14,14 @@ abbrev μ-loop : tie.MeasureT-loop
 loop-holds : tie.Need-loop-holds Inv-loop μ-loop
 loop-holds c = search needs
 
-mul-taken : tie.Need-mul-taken Inv-loop μ-loop
-mul-taken c = search needs
+mul-unsigned : tie.Need-mul-unsigned Inv-loop μ-loop
+mul-unsigned c = search needs
 
-shared-slice-copy-out-taken : tie.Need-shared-slice-copy-out-taken Inv-loop μ-loop
-shared-slice-copy-out-taken c = search needs
+shared-slice-copy-out-unsigned : tie.Need-shared-slice-copy-out-unsigned Inv-loop μ-loop
+shared-slice-copy-out-unsigned c = search needs
 
-cast-taken : tie.Need-cast-taken Inv-loop μ-loop
-cast-taken c = widens (getD (c .before .before .before .args .ends .now) (c .before .before .loop .i) (pos 0)) (record { sfits = c .taken-arg .given })
-
-add-taken : tie.Need-add-taken Inv-loop μ-loop
-add-taken c = sum-fits (getD (c .before .before .before .args .ends .now) (c .before .before .loop .i) (pos 0)) (record { sfits = c .taken-arg .given })
-
-cast-taken-2 : tie.Need-cast-taken-2 Inv-loop μ-loop
-cast-taken-2 c = sum-unsigned (getD (c .before .before .before .args .ends .now) (c .before .before .loop .i) (pos 0)) (record { sfits = c .taken-arg .given })
+unsigned-requires : tie.Need-unsigned-requires Inv-loop μ-loop
+unsigned-requires c κs = search needs
 
 taken-requires : tie.Need-taken-requires Inv-loop μ-loop
 taken-requires c κs = search needs
@@ -54,11 +45,9 @@ taken-ends-spec =
     Inv-loop
     μ-loop
     loop-holds
-    mul-taken
-    shared-slice-copy-out-taken
-    cast-taken
-    add-taken
-    cast-taken-2
+    mul-unsigned
+    shared-slice-copy-out-unsigned
+    unsigned-requires
     taken-requires
     add-i
     loop-less

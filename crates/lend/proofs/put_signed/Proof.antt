@@ -1,17 +1,17 @@
--- `lend::put_cells` meets its contract. The loop's invariant: the first i cells are copied. Assumes nothing.
+-- `lend::put_signed` meets its contract. The loop's invariant: the first i numbers are copied. Assumes nothing.
 use lib.IntN.{pos}
 use Rattle.lend.proofs.Copies.{back, Copied, none-copied, one-more, all-copied}
 use lib.ListN.{length}
 use native.Mathlib.Omega.{arith}
 use Prim.Native.Nat.{_-_}
-use Rattle.lend.proofs.put_cells.Statement.{statement}
-use Rattle.lend.proofs.put_cells.Tie as tie
+use Rattle.lend.proofs.put_signed.Statement.{statement}
+use Rattle.lend.proofs.put_signed.Tie as tie
 
 abbrev Inv-loop : tie.InvT-loop
-Inv-loop target₀ place cells i₀ target i = Copied cells target₀ place target i
+Inv-loop target₀ place numbers i₀ target i = Copied numbers target₀ place target i
 
 abbrev μ-loop : tie.MeasureT-loop
-μ-loop target₀ place cells i₀ target i = length cells - i
+μ-loop target₀ place numbers i₀ target i = length numbers - i
 
 loop-holds : tie.Need-loop-holds Inv-loop μ-loop
 loop-holds c = none-copied _ _ _ (c .pre)
@@ -46,8 +46,8 @@ same-length c = c .before .loop .inv .same-length
 returns : tie.Need-returns Inv-loop μ-loop
 returns c = all-copied _ _ _ (c .before .before .pre) (c .loop-test .left) (c .before .loop .inv)
 
-pub put-cells-spec : {M : Type 1} → statement M
-put-cells-spec =
+pub put-signed-spec : {M : Type 1} → statement M
+put-signed-spec =
     tie.close
     (tie.spec
     Inv-loop
