@@ -15,7 +15,7 @@ import random
 import sys
 
 DIGITS = b"0123456789"
-LARGEST = 2147483646
+LARGEST = 4294967295
 LEAST_SIZE, LARGEST_SIZE = 2, 16
 
 
@@ -112,10 +112,11 @@ def grid(height, width, cell=b""):
 def cases():
     good = b"3,3\n5,,6\n,,\n6,,5\n"
     drilled = b"3,3\n5,#,6\n#,,\n6,,#\n"
+    largest, beyond = b"%d" % LARGEST, b"%d" % (LARGEST + 1)
     # the example, K10 to K12
     yield b"2,2\n5,\n,5\n"
-    yield b"2,2\n2147483646,\n,\n"
-    yield b"2,2\n2147483647,\n,\n"
+    yield b"2,2\n%s,\n,\n" % largest
+    yield b"2,2\n%s,\n,\n" % beyond
     yield b"2,2\n1O,\n,1O\n"
     yield b"2,2\n,1O\n1O,\n"
     yield b"1,2\n,\n"
@@ -162,9 +163,11 @@ def cases():
     for at in range(len(drilled)):
         for byte in b"#7,\n ":
             yield drilled[:at] + bytes([byte]) + drilled[at + 1:]
-    # 2 and 3: ten and eleven digits, the largest code and one more, in the first, a middle and the last field
-    for text in (b"0000000002", b"00000000002", b"2147483646", b"2147483647", b"9999999999", b"4294967296", b"10000000000",
-                 b"007", b"0", b"0000000000", b"2147483646"):
+    # 2 and 3: ten and eleven digits, the edges of 31 and 32 bits, the largest code and one more, alone and behind a zero, in the
+    # first, a middle and the last field
+    for text in (b"0000000002", b"00000000002", b"2147483646", b"2147483647", b"2147483648", b"4294967294", largest, beyond,
+                 b"4294967301", b"9999999999", b"10000000000", b"0" + largest, b"0" + beyond, b"0999999999", b"007", b"0",
+                 b"0000000000"):
         yield b"%s,2\n,\n,\n" % text
         yield b"2,%s\n,\n,\n" % text
         yield b"2,2\n%s,\n,\n" % text
@@ -174,11 +177,11 @@ def cases():
     yield b"\n"
     yield b"2\n"
     yield b"17\n"
-    yield b"2147483647\n"
+    yield beyond + b"\n"
     yield b"2,2,"
     yield b"2,2,2\n"
     yield b"17,17,"
-    yield b"1,2147483647,"
+    yield b"1,%s," % beyond
     for row in range(1, 4):
         lines = good.split(b"\n")
         lines[row] = b"7,7"
@@ -195,10 +198,11 @@ def cases():
             yield b"%s,%s\n" % (h, w)
             if h and w and int(h) <= 17:
                 yield b"%s,%s\n" % (h, w) + (b"," * (int(w) - 1) + b"\n") * int(h)
-    yield b"1,2147483647\n"
-    yield b"2147483647,1\n"
+    for code in (largest, beyond):
+        yield b"1,%s\n" % code
+        yield b"%s,1\n" % code
     # the largest grids, ten digits in every field; one byte cut off, one more
-    longest = b"0000000016,0000000016\n" + (b",".join([b"2147483646"] * 16) + b"\n") * 16
+    longest = b"0000000016,0000000016\n" + (b",".join([largest] * 16) + b"\n") * 16
     yield longest
     yield longest[:-1]
     yield longest + b"0"
@@ -214,7 +218,7 @@ def cases():
     chance = random.Random(4711)
     for _ in range(600):
         h, w = chance.randint(2, 5), chance.randint(2, 5)
-        fields = lambda: b",".join(chance.choice([b"", b"", b"#", b"0", b"7", b"12", b"2147483646", b"0009"]) for _ in range(w))
+        fields = lambda: b",".join(chance.choice([b"", b"", b"#", b"0", b"7", b"12", largest, b"0009"]) for _ in range(w))
         file = bytearray(b"%d,%d\n" % (h, w) + b"".join(fields() + b"\n" for _ in range(h)))
         for _ in range(chance.choice([0, 1, 1, 1, 2, 3])):
             at = chance.randrange(len(file) + 1)

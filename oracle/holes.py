@@ -1,17 +1,17 @@
 #!/usr/bin/env python3
 """A second board and search for grids with holes, to hold the definitions and the proved library against.
 
-The Rust knows no holes, so the judge of grids with holes is this program. It rests on document 01, on order 4 of document 02
-and, for the order in which things happen, on the reference's board.rs and solver.rs; it was written from these, and not from
-the definitions or the code of this repository. On grids without holes it is the Rust written again.
+The Rust knows no holes, so the judge of grids with holes is this program. It rests on document 01, on orders 4 and 6 of document
+02 and, for the order in which things happen, on the reference's board.rs and solver.rs; it was written from these, and not from
+the definitions or the code of this repository. On grids without holes it is the Rust written again, with numbers of any width.
 
     python3 oracle/holes.py known [FILE..]              the known grids K1 to K8, and files of grids with their lists
     python3 oracle/holes.py sequences                   the sequences below: what each call answers, and what the board then shows
     python3 oracle/holes.py slips                       which wrong versions each sequence tells apart
     python3 oracle/holes.py compare LIBRARY CASES SEED  the proved library beside this program
 
-A grid is written as its rows parted by /, with # for a hole. The sequences stand as facts of the model, in HoleSequences.antt.
-The last two commands are in holes_beside.py.
+A grid is written as its rows parted by /, with # for a hole. The sequences stand as facts of the model, in SecondSequences.antt;
+the last one has no hole, but codes about which the Rust cannot be asked as they stand. The last two commands are in holes_beside.py.
 """
 import sys
 
@@ -19,7 +19,7 @@ sys.setrecursionlimit(20000)
 sys.dont_write_bytecode = True
 UNDECIDED, LINE, NONE = 0, 1, 2
 BLANK, HOLE = -1, -2
-LARGEST_CODE, CHECKPOINTS, NO_LAYOUT = 2147483646, 256, 481
+LARGEST_CODE, CHECKPOINTS, NO_LAYOUT = 4294967295, 256, 481
 
 
 def corner_edges(row, column, side):
@@ -304,6 +304,8 @@ SEQUENCES = [
     ("a hole is no clue to its own check", ",,/,#,", "decide 1 2 1; checkpoint; decide 0 1 1; undo; undo"),
     ("corners over a hole", ",,,,/,,#,,/,,,,", "checkpoint; decide 1 2 1; decide 1 6 1; undo; decide 1 6 1; decide 1 2 1"),
     ("bars that holes end", ",,,/,,,/,,,/#,,,#", "decide 2 3 1; undo; decide 3 2 1; undo; decide 3 4 1"),
+    ("the least and the largest code", "0,,0/4294967295,,4294967295",
+     "checkpoint; decide 0 1 1; undo; decide 1 2 1; decide 0 1 2; undo"),
 ]
 WORDS = ["new", "decide", "read", "checkpoint", "undo"]
 

@@ -79,6 +79,23 @@ def holes_blank(method, sides):
     return wrong
 
 
+def word(number):
+    """What is left of a number in a signed word of 32 bits."""
+    return (number + 2 ** 31) % 2 ** 32 - 2 ** 31
+
+
+def word_end(board, end):
+    """The end as it is in a word, where that is an end of this board too."""
+    return word(end) if word(end) < len(board.cells) else end
+
+
+class WordCells(Board):
+    """Cells are kept in words: the two largest codes are a hole and a blank pad."""
+
+    def __init__(self, height, width, cells):
+        super().__init__(height, width, [word(cell) if word(cell) in (BLANK, HOLE) else cell for cell in cells])
+
+
 class Unsealed(Board):
     """Undo goes behind the preparing."""
 
@@ -115,6 +132,17 @@ SLIPS = {
     "a hole does not end a left bar": version(barred=holes_blank(Board.barred, (-1,))),
     "a hole's end is -1": version(first_end=lambda board, pad: -1 if board.cells[pad] == HOLE else Board.first_end(board, pad)),
     "a hole's end is 0": version(first_end=lambda board, pad: 0 if board.cells[pad] == HOLE else Board.first_end(board, pad)),
+    "cells kept in 32 bits": WordCells,
+    "ends of fresh boards kept in 32 bits": version(first_end=lambda board, pad: word_end(board, Board.first_end(board, pad))),
+    "ends of fresh boards held at the least of 32 bits": version(
+        first_end=lambda board, pad: max(Board.first_end(board, pad), -2 ** 31)),
+    "ends of joined chains kept in 32 bits": version(
+        set_end=lambda board, pad, end: Board.set_end(board, pad, word_end(board, end))),
+    "codes told apart by 31 bits": version(
+        first_end=lambda board, pad: -(board.cells[pad] % 2 ** 31) - 2 if board.is_clue(pad) else pad),
+    "a code of 32 bits is no clue in the degree": version(is_clue=lambda board, pad: word(board.cells[pad]) >= 0),
+    "the largest code does not free a corner": version(
+        is_blank=lambda board, row, column: word(board.cells[row * board.width + column]) == BLANK),
     "holes are not checked": version(
         check=lambda board, pad: board.flag if board.cells[pad] == HOLE else Board.check(board, pad)),
     "holes left unprepared": version(prepare=lambda board: None),
@@ -159,8 +187,30 @@ def random_chain(rng, free, width):
         chain.append(rng.choice(onward))
 
 
+BAD_CELLS = (-3, -4, -2 ** 31, -2 ** 32 - 2, -2 ** 32 - 1, -2 ** 32, -2 ** 32 + 5, -2 ** 63, -2 ** 63 + 1,
+             LARGEST_CODE + 1, LARGEST_CODE + 2, 2 ** 32 + 5, 2 ** 33 - 2, 2 ** 33 - 1, 2 ** 63 - 1)
+
+
+def wide_code(rng, other):
+    """A code at an edge of 31 or 32 bits, one that 31 bits do not tell from the other, one whose end is a pad in 32 bits, or any."""
+    edges = [edge + step for edge in (2 ** 31, 2 ** 32 - 2) for step in (-2, -1, 0, 1)]
+    return rng.choice((rng.choice(edges), other ^ 2 ** 31, 2 ** 32 - 2 - rng.randrange(256), rng.randrange(2 ** 32)))
+
+
+def renamed(rng, cells):
+    """The cells with other codes: equal ones stay equal, and no others become so."""
+    names, name = {BLANK: BLANK, HOLE: HOLE}, 0
+    for cell in cells:
+        while cell not in names:
+            name = wide_code(rng, name)
+            if name not in names.values():
+                names[cell] = name
+    return [names[cell] for cell in cells]
+
+
 def random_grid(rng, largest):
-    """A grid with holes: codes strewn over it, or chains laid around the holes; one of a hundred has a cell that is declined."""
+    """A grid with holes: codes strewn over it, or chains laid around the holes. One of three has its codes renamed; one of a hundred
+    has a cell that is declined."""
     height, width = rng.randint(2, largest), rng.randint(2, largest)
     holes, clues, codes = rng.random() / 2, rng.random() / 2, rng.choice((1, 2, 3, 9))
     cells = [HOLE if rng.random() < holes else BLANK for _ in range(height * width)]
@@ -173,8 +223,10 @@ def random_grid(rng, largest):
             chain = random_chain(rng, free, width) if free else []
             if len(chain) > 1:
                 cells[chain[0]] = cells[chain[-1]] = rng.choice((rng.randrange(codes), LARGEST_CODE))
+    if rng.random() < 0.33:
+        cells = renamed(rng, cells)
     if rng.random() < 0.01:
-        cells[rng.randrange(height * width)] = rng.choice((-3, -(2 ** 31), LARGEST_CODE + 1))
+        cells[rng.randrange(height * width)] = rng.choice(BAD_CELLS)
     return height, width, cells
 
 
@@ -203,7 +255,7 @@ class Library:
     def ask(self, name, height, width, cells, *lent):
         """Calls a function. What is lent is a kind of number and its numbers; it comes back, without the cells, as it is after the call."""
         arguments, slices = [ctypes.c_size_t(height), ctypes.c_size_t(width)], []
-        for one in ((ctypes.c_int32, cells), *lent):
+        for one in ((ctypes.c_int64, cells), *lent):
             if isinstance(one, int):
                 arguments.append(ctypes.c_uint64(one))
             else:

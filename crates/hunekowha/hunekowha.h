@@ -16,7 +16,7 @@
  *
  * The words. A grid has `height` rows and `width` columns, each 2 to 16. Pad (y, x) has the index y * width + x, and a
  * grid is given by its cells in this order: -1 for a blank pad, -2 for a hole, where no line may go, or a code from 0 to
- * 2147483646. An edge place is a row and a column of the field of 2 * height - 1 rows and 2 * width - 1 columns: place
+ * 4294967295. An edge place is a row and a column of the field of 2 * height - 1 rows and 2 * width - 1 columns: place
  * (2y, 2x + 1) joins pad (y, x) to the pad on its right, place (2y + 1, 2x) to the pad below. A record is this field row by
  * row, one byte for each place: 1 a line, 2 no line, 0 undecided; the places that are no edge hold 0. A layout is a wiring
  * of the grid, held as a record.
@@ -25,7 +25,7 @@
  *   1  a byte that may not stand there, at the start of its field or after a `#`: a stray byte. A field of a row begins
  *      with a digit or a `#`, one of the header with a digit, and after a `#` comes a comma or a line end (0A hexadecimal)
  *   2  an eleventh digit in a field
- *   3  a field above 2147483646
+ *   3  a field above 4294967295
  *   4  too few fields in a line, or too many
  *   5  a height or width that is empty or outside 2 to 16
  *   6  the file ends before its last row does, or goes on after it
@@ -34,7 +34,7 @@
  * A grid, for a board, a search, a drawing to be judged or writing:
  *   7  a height or width outside 2 to 16
  *   8  the number of cells is not height * width
- *   9  a cell below -2 or equal to 2147483647
+ *   9  a cell below -2 or above 4294967295
  * Writing a grid:
  *  14  the buffer is shorter than the text
  * A call on a board:

@@ -2,8 +2,11 @@
 // whole searches. Everything is asked of the reference's own public calls;
 // only the limit and the room of a search are added, as document 01 has them.
 // The reference knows no holes, and is never asked about a grid that has one.
+// It knows codes to 2147483646 only: where a grid has wider ones, it is asked
+// about the same grid with other names for its codes. Of two codes only matters
+// whether they are equal, so all answers are the same, but for the names in ends.
 
-use reference::board::Board;
+use reference::board;
 use reference::solver::solve;
 use reference::{EdgeState, Problem};
 
@@ -11,8 +14,13 @@ pub const UNDECIDED: u8 = 0;
 pub const LINE: u8 = 1;
 pub const NONE: u8 = 2;
 
-pub const BLANK: i32 = -1;
-pub const HOLE: i32 = -2;
+pub const BLANK: i64 = -1;
+pub const HOLE: i64 = -2;
+
+/// The largest code that a grid may have, and the largest that the reference
+/// can be asked.
+pub const LARGEST_CODE: i64 = 4294967295;
+pub const LARGEST_ASKED: i64 = 2147483646;
 
 /// The fewest lines of a run that put no layout in its buffer.
 pub const NO_LAYOUT: usize = 481;
@@ -22,7 +30,7 @@ pub const NO_LAYOUT: usize = 481;
 pub struct Pads {
     pub height: usize,
     pub width: usize,
-    pub cells: Vec<i32>,
+    pub cells: Vec<i64>,
 }
 
 impl Pads {
@@ -34,15 +42,66 @@ impl Pads {
         self.cells.contains(&HOLE)
     }
 
-    pub fn problem(&self) -> Problem {
+    /// The codes, each once and ascending.
+    pub fn codes(&self) -> Vec<i64> {
+        let mut codes = self.cells.clone();
+        codes.retain(|cell| *cell >= 0);
+        codes.sort();
+        codes.dedup();
+        codes
+    }
+
+    /// The codes where some of them cannot be asked; a code's name is then its
+    /// place among them. None where each code is its own name.
+    fn renamed(&self) -> Vec<i64> {
+        let mut codes = self.codes();
+        if codes.last() <= Some(&LARGEST_ASKED) {
+            codes.clear();
+        }
+        codes
+    }
+
+    fn problem(&self) -> Problem {
         assert!(!self.has_hole(), "the reference knows no holes: {self:?}");
+        let renamed = self.renamed();
         let mut problem = Problem::new(self.height, self.width, None);
         for (index, cell) in self.cells.iter().enumerate() {
             if *cell >= 0 {
-                problem[(index / self.width, index % self.width)] = Some(*cell);
+                let place = renamed.binary_search(cell);
+                let name = place.map_or(*cell, |place| place as i64);
+                let name = i32::try_from(name).expect("a code that can be asked");
+                problem[(index / self.width, index % self.width)] = Some(name);
             }
         }
         problem
+    }
+}
+
+/// A board of the reference, and the codes of its grid that it has other names
+/// for.
+pub struct Board {
+    asked: board::Board,
+    renamed: Vec<i64>,
+}
+
+impl Board {
+    pub fn new(pads: &Pads) -> Self {
+        Board {
+            asked: board::Board::new(pads.problem()),
+            renamed: pads.renamed(),
+        }
+    }
+
+    pub fn inconsistent(&self) -> bool {
+        self.asked.inconsistent()
+    }
+
+    /// An end of a pad; that of a clue tells the grid's own code.
+    fn end(&self, pad: usize) -> i64 {
+        let end = self.asked.end(pad) as i64;
+        let name = usize::try_from(-end - 2).ok();
+        let code = name.and_then(|name| self.renamed.get(name));
+        code.map_or(end, |code| -code - 2)
     }
 }
 
@@ -59,7 +118,7 @@ pub enum Call {
 #[derive(Clone, Debug, Default, PartialEq, Eq)]
 pub struct State {
     pub edges: Vec<u8>,
-    pub ends: Vec<i32>,
+    pub ends: Vec<i64>,
     pub flag: bool,
 }
 
@@ -82,6 +141,7 @@ pub fn state_of(byte: u8) -> EdgeState {
 /// Makes one call. The answer is the flag for a decision, the edge's byte for
 /// a reading, and 0 for a checkpoint and an undo, which answer nothing.
 pub fn make_call(board: &mut Board, call: Call) -> u8 {
+    let board = &mut board.asked;
     match call {
         Call::Decide(row, column, state) => board.decide_edge(row, column, state_of(state)) as u8,
         Call::Read(row, column) => byte_of(board.get_edge(row, column)),
@@ -97,7 +157,7 @@ pub fn make_call(board: &mut Board, call: Call) -> u8 {
 }
 
 /// Writes the board's edges into `record`, row by row of the field.
-pub fn write_record(board: &Board, record: &mut [u8]) {
+fn write_record(board: &board::Board, record: &mut [u8]) {
     let columns = 2 * board.width() - 1;
     for (place, byte) in record.iter_mut().enumerate() {
         let (row, column) = (place / columns, place % columns);
@@ -110,11 +170,11 @@ pub fn write_record(board: &Board, record: &mut [u8]) {
 }
 
 pub fn read_state(board: &Board, state: &mut State) {
-    let (height, width) = (board.height(), board.width());
+    let (height, width) = (board.asked.height(), board.asked.width());
     state
         .edges
         .resize((2 * height - 1) * (2 * width - 1), UNDECIDED);
-    write_record(board, &mut state.edges);
+    write_record(&board.asked, &mut state.edges);
     state.ends.clear();
     state
         .ends
@@ -124,7 +184,7 @@ pub fn read_state(board: &Board, state: &mut State) {
 
 /// Makes the calls on a fresh board; the answer and the state after each.
 pub fn replay(pads: &Pads, calls: &[Call]) -> Vec<(u8, State)> {
-    let mut board = Board::new(pads.problem());
+    let mut board = Board::new(pads);
     let mut answers = Vec::new();
     for call in calls {
         let answer = make_call(&mut board, *call);
@@ -194,7 +254,7 @@ pub fn whole(pads: &Pads) -> Run {
 /// limit of visited boards and a room in bytes.
 pub fn limited(pads: &Pads, limit: u64, room: usize) -> Run {
     let mut search = Search {
-        board: Board::new(pads.problem()),
+        board: board::Board::new(pads.problem()),
         limit,
         room,
         length: pads.record_length(),
@@ -205,7 +265,7 @@ pub fn limited(pads: &Pads, limit: u64, room: usize) -> Run {
 }
 
 struct Search {
-    board: Board,
+    board: board::Board,
     limit: u64,
     room: usize,
     length: usize,

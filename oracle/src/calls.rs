@@ -17,7 +17,7 @@ struct Sequence {
 pub fn read_pads(text: &str) -> Pads {
     let (size, rows) = text.split_once(' ').expect("a size and rows");
     let (height, width) = size.split_once(',').expect("H,W");
-    let cells: Vec<i32> = rows
+    let cells: Vec<i64> = rows
         .split('/')
         .flat_map(|row| row.split(','))
         .map(|cell| {

@@ -24,7 +24,7 @@ pub enum Asked {
 #[derive(Clone, Debug, PartialEq, Eq)]
 pub struct Given {
     pub size: (usize, usize),
-    pub cells: Vec<i32>,
+    pub cells: Vec<i64>,
 }
 
 #[derive(Clone, Debug, PartialEq, Eq)]

@@ -2,13 +2,14 @@
 // calls between them, searches with limits and rooms, records, damaged copies
 // of good files, and grids to be written with rooms about their texts. Files,
 // grids to be written and declined grids have holes here and there; boards and
-// searches that are held beside the reference have none.
+// searches that are held beside the reference have none. One grid in four has
+// codes that the reference cannot be asked as they stand.
 
-use crate::answers::{Call, Pads, BLANK, HOLE, LINE, NONE};
+use crate::answers::{Call, Pads, BLANK, HOLE, LARGEST_ASKED, LARGEST_CODE, LINE, NONE};
 use crate::calls::grids_and_calls;
 use crate::cases::{Asked, Case, Given};
 use crate::expected::{board_room, grid_text, written_text};
-use crate::random::{any_pads, any_plan, wired_pads, Chooser, Random, LARGEST_CODE};
+use crate::random::{any_pads, any_plan, wired_pads, Chooser, Random};
 use crate::sequences::checkpoint_calls;
 
 pub fn given(pads: &Pads) -> Given {
@@ -33,8 +34,74 @@ pub fn any_lent(random: &mut Random, needed: usize) -> usize {
     }
 }
 
+/// Codes about the edges of 31 and 32 bits. Cut to 32 bits, the two largest are
+/// a hole and a blank pad.
+const EDGE_CODES: [i64; 9] = [
+    0,
+    1,
+    LARGEST_ASKED,
+    LARGEST_ASKED + 1,
+    LARGEST_ASKED + 2,
+    LARGEST_ASKED + 3,
+    LARGEST_CODE - 2,
+    LARGEST_CODE - 1,
+    LARGEST_CODE,
+];
+
+/// A code that is taken for something else where too few bits are kept: at the
+/// edges, as far as 31 bits go the same as another code, or with an end that is
+/// a pad's index in 32 bits.
+fn confusable_code(random: &mut Random, other: i64) -> i64 {
+    match random.below(5) {
+        0 | 1 => random.choose(&EDGE_CODES),
+        2 => other ^ 1 << 31,
+        3 => LARGEST_CODE - 1 - random.below(256) as i64,
+        _ => random.below(1 << 32) as i64,
+    }
+}
+
+/// One grid in four with its codes renamed, each to one that no other has.
+pub fn widen(random: &mut Random, pads: &mut Pads) {
+    if !random.chance(25) {
+        return;
+    }
+    let codes = pads.codes();
+    let mut names: Vec<i64> = Vec::new();
+    while names.len() < codes.len() {
+        let name = confusable_code(random, names.last().copied().unwrap_or(0));
+        if !names.contains(&name) {
+            names.push(name);
+        }
+    }
+    for cell in pads.cells.iter_mut() {
+        if let Ok(place) = codes.binary_search(cell) {
+            *cell = names[place];
+        }
+    }
+}
+
+/// Cells that are declined; of most the lower 32 bits would be a sound cell.
+const BAD_CELLS: [i64; 16] = [
+    HOLE - 1,
+    HOLE - 2,
+    i64::MIN,
+    i64::MIN + 1,
+    -(1 << 31),
+    -(1 << 32) - 2,
+    -(1 << 32) - 1,
+    -(1 << 32),
+    -(1 << 32) + 5,
+    LARGEST_CODE + 1,
+    LARGEST_CODE + 2,
+    (1 << 32) + 5,
+    (1 << 33) - 2,
+    (1 << 33) - 1,
+    1 << 62,
+    i64::MAX,
+];
+
 /// A bad cell; before every second one stands a hole, which is not bad.
-fn put_bad_cell(cells: &mut [i32], at: usize, bad: i32) {
+fn put_bad_cell(cells: &mut [i64], at: usize, bad: i64) {
     cells[at] = bad;
     if at % 2 == 1 {
         cells[at - 1] = HOLE;
@@ -42,7 +109,7 @@ fn put_bad_cell(cells: &mut [i32], at: usize, bad: i32) {
 }
 
 /// So many percent of the pads, or only of the blank ones, made holes.
-pub fn drill(random: &mut Random, cells: &mut [i32], percent: usize, only_blank: bool) {
+pub fn drill(random: &mut Random, cells: &mut [i64], percent: usize, only_blank: bool) {
     for cell in cells.iter_mut() {
         if random.chance(percent) && (!only_blank || *cell == BLANK) {
             *cell = HOLE;
@@ -53,7 +120,9 @@ pub fn drill(random: &mut Random, cells: &mut [i32], percent: usize, only_blank:
 /// A grid that is mostly declined; one with holes always is.
 pub fn odd_grid(random: &mut Random) -> Given {
     let (height, width) = (2 + random.below(15), 2 + random.below(15));
-    let mut grid = given(&any_pads(random, height, width));
+    let mut pads = any_pads(random, height, width);
+    widen(random, &mut pads);
+    let mut grid = given(&pads);
     let pads = height * width;
     let odd_size = random.choose(&[0, 1, 2, 16, 17, 18, 255, 258, 1 << 32, usize::MAX]);
     match random.below(8) {
@@ -64,7 +133,7 @@ pub fn odd_grid(random: &mut Random) -> Given {
         4 => grid.cells.resize(random.choose(&[0, 256, 257]), 0),
         _ => {
             for _ in 0..1 + random.below(3) {
-                let bad = random.choose(&[-3, -4, i32::MIN, i32::MIN + 1, i32::MAX]);
+                let bad = random.choose(&BAD_CELLS);
                 put_bad_cell(&mut grid.cells, random.below(pads), bad);
             }
         }
@@ -168,7 +237,7 @@ pub fn varied_case(random: &mut Random, known: &[(Pads, Vec<Call>)]) -> Case {
         );
         match random.below(6) {
             0 => pads.cells[pad] = BLANK,
-            1 => pads.cells[pad] = random.below(4) as i32,
+            1 => pads.cells[pad] = random.below(4) as i64,
             2 if calls.len() > 1 => {
                 calls.remove(at);
             }
@@ -177,6 +246,7 @@ pub fn varied_case(random: &mut Random, known: &[(Pads, Vec<Call>)]) -> Case {
             _ => calls.insert(at, any),
         }
     }
+    widen(random, &mut pads);
     let calls = with_odd_calls(random, (pads.height, pads.width), &calls);
     let grid = given(&pads);
     let lent = any_lent(random, board_room(&grid, calls.len()));
@@ -192,7 +262,8 @@ pub fn board_case(random: &mut Random, number: usize) -> Case {
         return Case::Board { grid, lent, calls };
     }
     let (height, width) = size_of(number);
-    let pads = any_pads(random, height, width);
+    let mut pads = any_pads(random, height, width);
+    widen(random, &mut pads);
     let calls = board_calls(random, &pads, number);
     let mut calls = with_odd_calls(random, (height, width), &calls);
     if number % 400 == 399 {
@@ -212,11 +283,13 @@ pub fn search_pads(random: &mut Random, number: usize) -> Pads {
     } else {
         size_of(number)
     };
-    if number % 2 == 0 {
+    let mut pads = if number % 2 == 0 {
         wired_pads(random, height, width)
     } else {
         any_pads(random, height, width)
-    }
+    };
+    widen(random, &mut pads);
+    pads
 }
 
 pub fn search_case(random: &mut Random, pads: &Pads, limit: u64, room: usize) -> Case {
@@ -260,18 +333,18 @@ pub fn record_case(random: &mut Random) -> Case {
     }
 }
 
-/// A file of the grid, with leading zeros here and there.
+/// A file of the grid, with leading zeros here and there, and some codes larger.
 fn file_text(random: &mut Random, pads: &Pads) -> Vec<u8> {
     let zeros = random.choose(&[1, 1, 2, 3, 10]);
     let text = grid_text(&given(pads), |code| match code {
         code if random.chance(20) => format!("{code:0zeros$}"),
-        code if random.chance(5) => (code ^ random.below(1 << 20) as i32).to_string(),
+        code if random.chance(5) => (code + random.below(1 << 20) as i64).to_string(),
         code => code.to_string(),
     });
     text.into_bytes()
 }
 
-const FIELDS: [&str; 35] = [
+const FIELDS: [&str; 40] = [
     "",
     "0",
     "007",
@@ -289,8 +362,13 @@ const FIELDS: [&str; 35] = [
     "-1",
     "2147483646",
     "2147483647",
-    "9999999999",
+    "2147483648",
+    "4294967294",
+    "4294967295",
+    "4294967296",
     "4294967298",
+    "4294967301",
+    "9999999999",
     "12345678901",
     "5\r",
     "1234567890x",
@@ -357,9 +435,10 @@ pub fn file_case(random: &mut Random) -> Case {
         (2 + random.below(15), 2 + random.below(15))
     };
     let mut pads = any_pads(random, height, width);
+    widen(random, &mut pads);
     if random.chance(20) {
         for cell in pads.cells.iter_mut() {
-            *cell = LARGEST_CODE - random.below(3) as i32;
+            *cell = LARGEST_CODE - random.below(3) as i64;
         }
     }
     if random.chance(33) {
@@ -378,20 +457,21 @@ pub fn file_case(random: &mut Random) -> Case {
 }
 
 /// Any code with as many digits as the power of ten `least`.
-fn code_from(random: &mut Random, least: i32) -> i32 {
-    let codes = (9 * least as usize).min((LARGEST_CODE - least) as usize + 1);
-    least + random.below(codes) as i32
+fn code_from(random: &mut Random, least: i64) -> i64 {
+    let codes = (9 * least).min(LARGEST_CODE - least + 1);
+    least + random.below(codes as usize) as i64
 }
 
-/// A code with one to ten digits; often a power of ten or one less.
-fn any_code(random: &mut Random) -> i32 {
-    let least = 10_i32.pow(random.below(10) as u32);
+/// A code with one to ten digits; often a power of ten or one less, or one about
+/// the edges of 31 and 32 bits.
+fn any_code(random: &mut Random) -> i64 {
+    let least = 10_i64.pow(random.below(10) as u32);
     match random.below(8) {
         0 => 0,
-        1 => random.below(10) as i32,
+        1 => random.below(10) as i64,
         2 => least,
         3 => least - 1,
-        4 => LARGEST_CODE,
+        4 => random.choose(&EDGE_CODES),
         _ => code_from(random, least),
     }
 }
@@ -410,7 +490,7 @@ fn grid_to_write(random: &mut Random, (height, width): (usize, usize)) -> Given 
             any_code(random)
         }
     };
-    let mut cells: Vec<i32> = (0..height * width).map(|_| cell()).collect();
+    let mut cells: Vec<i64> = (0..height * width).map(|_| cell()).collect();
     let holes = random.choose(&[0, 0, 0, 5, 20, 50, 90, 100]);
     drill(random, &mut cells, holes, false);
     Given {

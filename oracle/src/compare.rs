@@ -18,7 +18,7 @@ use crate::grids::{check_beginning, runs_of};
 use crate::holes::{beginning, every_drawing, small_pads, whole_list};
 use crate::judged::{found, Found};
 use crate::random::Random;
-use crate::shown::{ShownCalls, ShownHoles, ShownJudged, ShownNumbers, ShownRooms};
+use crate::shown::{ShownCalls, ShownHoles, ShownJudged, ShownNumbers, ShownRooms, ShownWide};
 use crate::smallest::smallest;
 use std::time::{Duration, Instant};
 
@@ -39,6 +39,7 @@ struct Comparison {
     shown_rooms: ShownRooms,
     shown_holes: ShownHoles,
     shown_judged: ShownJudged,
+    shown_wide: ShownWide,
     boards: Random,
     grid_numbers: Random,
     declined: Random,
@@ -68,6 +69,7 @@ impl Comparison {
             shown_rooms: ShownRooms::default(),
             shown_holes: ShownHoles::default(),
             shown_judged: ShownJudged::default(),
+            shown_wide: ShownWide::default(),
             boards: Random::new(seed),
             grid_numbers: Random::new(seed.wrapping_add(1 << 32)),
             declined: Random::new(seed.wrapping_add(2 << 32)),
@@ -114,6 +116,7 @@ impl Comparison {
         println!("{}", self.shown_rooms.figures());
         println!("{}", self.shown_holes.figures());
         self.shown_judged.print();
+        println!("{}", self.shown_wide.figures());
     }
 
     fn show_progress(&mut self) {
@@ -124,8 +127,9 @@ impl Comparison {
     }
 
     /// Ends the program where the library differs.
-    fn hold(&self, case: &Case, answer: &Answer) {
+    fn hold(&mut self, case: &Case, answer: &Answer) {
         let found = by_library(case);
+        self.shown_wide.count(case, answer);
         if found != *answer {
             println!("{}", self.figures());
             report(case);
@@ -241,7 +245,7 @@ impl Comparison {
     }
 
     /// One record on an accepted grid; what it is by the rules.
-    fn compare_drawing(&self, pads: &Pads, lent: usize, bytes: &[u8]) -> Found {
+    fn compare_drawing(&mut self, pads: &Pads, lent: usize, bytes: &[u8]) -> Found {
         let found = found(pads, bytes);
         let case = judge_case(pads, lent, bytes.to_vec());
         self.hold(&case, &judge_answer((0, 0), found.verdict(), bytes, lent));

@@ -3,16 +3,16 @@
 // that were drawn at random and turned over square by square, so that each pad
 // keeps its lines, layouts of searches, and both with faults put into them.
 
-use crate::answers::{Pads, BLANK, HOLE, LINE, NONE, UNDECIDED};
+use crate::answers::{Pads, BLANK, HOLE, LARGEST_CODE, LINE, NONE, UNDECIDED};
 use crate::cases::{Case, Given};
-use crate::chosen::{any_lent, drill, given, odd_grid};
+use crate::chosen::{any_lent, drill, given, odd_grid, widen};
 use crate::judged::Drawn;
 use crate::library;
-use crate::random::{wired, wired_pads, Random, LARGEST_CODE};
+use crate::random::{wired, wired_pads, Random};
 
 /// What stands on the pads of a tiny grid; a hole is -2, as is the end of the
-/// code 0.
-const TINY: [i32; 4] = [BLANK, HOLE, 0, LARGEST_CODE];
+/// code 0, and the largest code is -1 in 32 bits, as is a blank pad.
+const TINY: [i64; 4] = [BLANK, HOLE, 0, LARGEST_CODE];
 
 /// Every grid of 2 by 2, 2 by 3 and 3 by 2 pads that these four can make.
 pub fn tiny_pads(number: usize) -> Option<Pads> {
@@ -35,7 +35,7 @@ pub fn tiny_pads(number: usize) -> Option<Pads> {
 /// Pads of each kind at random, with two codes.
 fn mixed_pads(random: &mut Random, height: usize, width: usize) -> Pads {
     let blank = random.choose(&[30, 50, 70, 90]);
-    let code = random.below(9) as i32;
+    let code = random.below(9) as i64;
     let mut cell = || match random.chance(blank) {
         true => BLANK,
         false => random.choose(&[HOLE, code, code, code + 1]),
@@ -53,12 +53,14 @@ pub fn tried_pads(random: &mut Random) -> Pads {
         0 => random.choose(&[(3, 4), (4, 3)]),
         _ => random.choose(&[(2, 4), (4, 2), (3, 3), (2, 5), (5, 2)]),
     };
-    if random.chance(25) {
-        return mixed_pads(random, height, width);
-    }
-    let mut pads = wired_pads(random, height, width);
+    let mut pads = if random.chance(25) {
+        mixed_pads(random, height, width)
+    } else {
+        wired_pads(random, height, width)
+    };
     let percent = random.choose(&[0, 10, 30, 60]);
     drill(random, &mut pads.cells, percent, true);
+    widen(random, &mut pads);
     pads
 }
 
@@ -100,7 +102,7 @@ fn snaked(random: &mut Random, (height, width): (usize, usize)) -> (Pads, Vec<(u
             continue;
         }
         if start < step {
-            cells[pad(start)] = random.below(3) as i32;
+            cells[pad(start)] = random.below(3) as i64;
             cells[pad(step)] = cells[pad(start)];
         }
         start = step + 1;
@@ -120,6 +122,7 @@ pub fn drawn(random: &mut Random, size: (usize, usize)) -> (Pads, Vec<u8>) {
         true => snaked(random, size),
         false => wired(random, size.0, size.1),
     };
+    widen(random, &mut pads);
     let mut bytes = empty_record(&pads);
     let mut taken = vec![false; pads.cells.len()];
     for (one, other) in lines {
@@ -241,7 +244,7 @@ pub fn spoil(random: &mut Random, pads: &mut Pads, bytes: &mut Vec<u8>) {
             bytes[place] = random.choose(&[1, 2, 3, 128, 255]);
         }
         4 => spoil_length(random, bytes),
-        5 => pads.cells[pad] = random.choose(&[BLANK, HOLE, 0, 1, LARGEST_CODE]),
+        5 => pads.cells[pad] = random.choose(&[BLANK, HOLE, 0, 1, LARGEST_CODE - 1, LARGEST_CODE]),
         6 => *bytes = any_bytes(random, pads),
         7 => change_code(random, pads),
         _ => {}
@@ -256,8 +259,8 @@ fn change_code(random: &mut Random, pads: &mut Pads) {
         return;
     }
     let (at, other) = (random.choose(&clues), random.choose(&clues));
-    let changed = pads.cells[at] ^ 1 << random.below(31);
-    pads.cells[at] = random.choose(&[pads.cells[other], changed.min(LARGEST_CODE)]);
+    let changed = pads.cells[at] ^ 1 << random.below(32);
+    pads.cells[at] = random.choose(&[pads.cells[other], changed]);
 }
 
 /// The layouts that a search of the library lists, with a limit and a room, and

@@ -5,16 +5,16 @@
 // rules (judged.rs). And what the library gives for the same case. A text that
 // was written is read back, and a grid that was read is written back.
 
-use crate::answers::{limited, make_call, read_state, whole, Call, Pads, Run, State, BLANK, HOLE};
+use crate::answers::{
+    limited, make_call, read_state, whole, Board, Call, Pads, Run, State, BLANK, HOLE, LARGEST_CODE,
+};
 use crate::cases::{Asked, Case, Given};
 use crate::judged::{found, lines_told};
 use crate::{holes, library, routes};
-use reference::board::Board;
 
 /// What fills each lent slice before a call, so that a stray store shows.
 pub const FILL: u8 = 7;
 
-const LARGEST_CODE: i32 = 2147483646;
 const MOST_CHECKPOINTS: usize = 256;
 
 /// What the call returned, and every lent number and byte after it.
@@ -23,7 +23,7 @@ pub struct Answer {
     pub returned: usize,
     pub numbers: Vec<u64>,
     pub signed: Vec<i64>,
-    pub cells: Vec<i32>,
+    pub cells: Vec<i64>,
     pub bytes: Vec<u8>,
     /// The answers when what was written is read back, or what was read is
     /// written back.
@@ -39,7 +39,7 @@ pub fn grid_refusal(grid: &Given) -> (u64, u64) {
     if grid.cells.len() != height * width {
         return (8, 0);
     }
-    let bad = |cell: &i32| *cell < HOLE || *cell > LARGEST_CODE;
+    let bad = |cell: &i64| *cell < HOLE || *cell > LARGEST_CODE;
     grid.cells
         .iter()
         .position(bad)
@@ -81,7 +81,7 @@ impl Guarded {
         let pads = board_pads(grid);
         Guarded {
             refusal: grid_refusal(grid),
-            board: Board::new(pads.problem()),
+            board: Board::new(&pads),
             pads,
             standing: 0,
         }
@@ -101,7 +101,7 @@ impl Guarded {
     fn make(&mut self, asked: Asked) -> (u64, u64) {
         match asked {
             Asked::Fresh => {
-                self.board = Board::new(self.pads.problem());
+                self.board = Board::new(&self.pads);
                 self.standing = 0;
                 self.refusal
             }
@@ -141,9 +141,7 @@ fn expected_board(grid: &Given, lent: usize, calls: &[Asked]) -> Answer {
             answer.signed.extend(head);
             let edges = state.edges.iter().map(|byte| *byte as i64);
             answer.signed.extend(edges);
-            answer
-                .signed
-                .extend(state.ends.iter().map(|end| *end as i64));
+            answer.signed.extend(&state.ends);
         }
     }
     answer.returned = answer.signed.len();
@@ -238,7 +236,7 @@ fn read_answer(
         answer.cells.resize(256, BLANK);
     }
     answer.numbers.resize(lent, FILL as u64);
-    answer.cells.resize(cells_lent, FILL as i32);
+    answer.cells.resize(cells_lent, FILL as i64);
     answer
 }
 
@@ -283,7 +281,7 @@ fn expected_file(lent: usize, cells_lent: usize, bytes: &[u8]) -> Answer {
 
 /// The text of a grid, its codes as `digits` gives them, its blank pads empty,
 /// its holes as `#`.
-pub fn grid_text(grid: &Given, mut digits: impl FnMut(i32) -> String) -> String {
+pub fn grid_text(grid: &Given, mut digits: impl FnMut(i64) -> String) -> String {
     let (height, width) = grid.size;
     let mut text = format!("{height},{width}\n");
     for (index, cell) in grid.cells.iter().enumerate() {
@@ -398,7 +396,7 @@ fn call_numbers(calls: &[Asked]) -> Vec<u64> {
 fn read_by_library(bytes: &[u8], lent: usize, cells_lent: usize) -> Answer {
     let mut answer = Answer {
         numbers: vec![FILL as u64; lent],
-        cells: vec![FILL as i32; cells_lent],
+        cells: vec![FILL as i64; cells_lent],
         ..Answer::default()
     };
     answer.returned = library::read(bytes, &mut answer.numbers, &mut answer.cells);

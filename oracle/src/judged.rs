@@ -144,7 +144,7 @@ impl Drawn<'_> {
     /// and any other has two clues at its ends.
     fn wrong_chain(&self, chain: &[usize]) -> Option<Found> {
         let codes = chain.iter().map(|pad| self.pads.cells[*pad]);
-        let clues: Vec<i32> = codes.filter(|code| *code >= 0).collect();
+        let clues: Vec<i64> = codes.filter(|code| *code >= 0).collect();
         match clues[..] {
             [] => Some(Found::ClosedLoop),
             [one, other] if one == other => None,

@@ -7,13 +7,13 @@ extern "C" {
         file_length: usize,
         answer: *mut u64,
         answer_length: usize,
-        cells: *mut i32,
+        cells: *mut i64,
         cells_length: usize,
     ) -> usize;
     fn hunekowha_solve(
         height: usize,
         width: usize,
-        cells: *const i32,
+        cells: *const i64,
         cells_length: usize,
         limit: u64,
         buffer: *mut u8,
@@ -34,7 +34,7 @@ extern "C" {
     fn hunekowha_replay(
         height: usize,
         width: usize,
-        cells: *const i32,
+        cells: *const i64,
         cells_length: usize,
         calls: *const u64,
         calls_length: usize,
@@ -44,7 +44,7 @@ extern "C" {
     fn hunekowha_write(
         height: usize,
         width: usize,
-        cells: *const i32,
+        cells: *const i64,
         cells_length: usize,
         text: *mut u8,
         text_length: usize,
@@ -54,7 +54,7 @@ extern "C" {
     fn hunekowha_judge(
         height: usize,
         width: usize,
-        cells: *const i32,
+        cells: *const i64,
         cells_length: usize,
         record: *const u8,
         record_length: usize,
@@ -63,7 +63,7 @@ extern "C" {
     ) -> usize;
 }
 
-pub fn read(file: &[u8], answer: &mut [u64], cells: &mut [i32]) -> usize {
+pub fn read(file: &[u8], answer: &mut [u64], cells: &mut [i64]) -> usize {
     unsafe {
         hunekowha_read(
             file.as_ptr(),
@@ -78,7 +78,7 @@ pub fn read(file: &[u8], answer: &mut [u64], cells: &mut [i32]) -> usize {
 
 pub fn solve(
     (height, width): (usize, usize),
-    cells: &[i32],
+    cells: &[i64],
     limit: u64,
     buffer: &mut [u8],
     answer: &mut [u64],
@@ -120,7 +120,7 @@ pub fn record(
 
 pub fn replay(
     (height, width): (usize, usize),
-    cells: &[i32],
+    cells: &[i64],
     calls: &[u64],
     answer: &mut [i64],
 ) -> usize {
@@ -140,7 +140,7 @@ pub fn replay(
 
 pub fn write(
     (height, width): (usize, usize),
-    cells: &[i32],
+    cells: &[i64],
     text: &mut [u8],
     answer: &mut [u64],
 ) -> usize {
@@ -160,7 +160,7 @@ pub fn write(
 
 pub fn judge(
     (height, width): (usize, usize),
-    cells: &[i32],
+    cells: &[i64],
     record: &[u8],
     answer: &mut [u64],
 ) -> usize {

@@ -2,8 +2,9 @@
 // every kind and sequences of board calls. The same seed gives the same
 // grids and calls on every machine.
 
-use crate::answers::{limited, make_call, Call, Pads, BLANK, LINE, NONE, UNDECIDED};
-use reference::board::Board;
+use crate::answers::{
+    limited, make_call, Board, Call, Pads, BLANK, LARGEST_ASKED, LINE, NONE, UNDECIDED,
+};
 
 pub struct Random {
     state: u64,
@@ -34,9 +35,6 @@ impl Random {
         items[self.below(items.len())]
     }
 }
-
-/// The codes that a grid of the streams may hold: 0 to 249, and the five largest.
-pub const LARGEST_CODE: i32 = 2147483646;
 
 /// A grid of the given size without holes, of a kind chosen at random.
 pub fn any_pads(random: &mut Random, height: usize, width: usize) -> Pads {
@@ -142,14 +140,15 @@ fn free_neighbours(free: &[bool], height: usize, width: usize, pad: usize) -> Ve
     near
 }
 
-/// Mostly 0, 1, 2, ..; sometimes the largest codes, sometimes some twice.
-fn some_codes(random: &mut Random, count: usize) -> Vec<i32> {
+/// Mostly 0, 1, 2, ..; sometimes the largest that can be asked, sometimes some
+/// twice. A grid of the streams holds no codes but these: 0 to 249 and five more.
+fn some_codes(random: &mut Random, count: usize) -> Vec<i64> {
     let style = random.below(6);
-    (0..count as i32)
+    (0..count as i64)
         .map(|index| match style {
-            0 => LARGEST_CODE - index % 5,
-            1 => random.below(4) as i32,
-            2 if index == 0 => LARGEST_CODE,
+            0 => LARGEST_ASKED - index % 5,
+            1 => random.below(4) as i64,
+            2 if index == 0 => LARGEST_ASKED,
             3 => 249 - index % 250,
             _ => index % 250,
         })
@@ -202,7 +201,7 @@ impl<'a> Chooser<'a> {
                 }
             }
         }
-        let board = Board::new(pads.problem());
+        let board = Board::new(pads);
         Chooser {
             random,
             board,

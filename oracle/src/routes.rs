@@ -3,10 +3,8 @@
 // refusal of the documents is looked for by itself, and the one at the first
 // byte counts, there the one that is tested first.
 
-use crate::answers::{limited, Pads, Run, BLANK, HOLE, LINE};
+use crate::answers::{limited, Pads, Run, BLANK, HOLE, LARGEST_CODE, LINE};
 use crate::grids::{LIMIT, ROOM};
-
-const LARGEST: u64 = 2147483646;
 
 /// The numbers in the order in which they are tested at one byte.
 const TESTED: [usize; 7] = [6, 1, 13, 2, 3, 4, 5];
@@ -48,7 +46,7 @@ impl Field<'_> {
         self.start + self.text.len()
     }
 
-    fn value(&self) -> Option<u64> {
+    fn value(&self) -> Option<i64> {
         std::str::from_utf8(self.text).ok()?.parse().ok()
     }
 
@@ -66,11 +64,11 @@ impl Field<'_> {
     }
 
     /// What an accepted field of a row says.
-    fn cell(&self) -> i32 {
+    fn cell(&self) -> i64 {
         match self.text {
             [] => BLANK,
             [b'#'] => HOLE,
-            _ => self.value().expect("digits") as i32,
+            _ => self.value().expect("digits"),
         }
     }
 }
@@ -118,7 +116,7 @@ fn field_refusals(field: &Field, wanted: usize, ended: bool, found: &mut Vec<Ref
     if field.text.len() > 10 {
         found.push(refusal(field.start + 10, 2, line, number));
     }
-    if ended && field.value().is_some_and(|value| value > LARGEST) {
+    if ended && field.value().is_some_and(|value| value > LARGEST_CODE) {
         found.push(refusal(field.end(), 3, line, number));
     }
     if ended && ((field.last && number < wanted) || (!field.last && number == wanted)) {

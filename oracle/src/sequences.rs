@@ -2,11 +2,10 @@
 // a seed, and for each sequence a line with the reference's checksum over
 // edges, ends, flag and answer after every call.
 
-use crate::answers::{make_call, read_state, Call, Pads, State};
+use crate::answers::{make_call, read_state, Board, Call, Pads, State};
 use crate::calls::grids_and_calls;
 use crate::random::{any_pads, any_plan, wired_pads, Chooser, Random};
 use crate::stream::{put_call, put_number, put_pads, Checksum, Reader};
-use reference::board::Board;
 
 #[derive(Default)]
 struct Counts {
@@ -20,7 +19,7 @@ struct Counts {
 
 /// What a sequence shows, counted while it is replayed.
 fn count(counts: &mut Counts, pads: &Pads, calls: &[Call]) {
-    let mut board = Board::new(pads.problem());
+    let mut board = Board::new(pads);
     let (mut standing, mut most, mut below, mut on_flagged) = (0, 0, false, 0);
     for call in calls {
         on_flagged += (matches!(call, Call::Decide(..)) && board.inconsistent()) as usize;
@@ -131,7 +130,7 @@ pub fn answers(stream: &[u8]) -> String {
         number += 1;
         let pads = reader.pads();
         let calls = reader.number(2);
-        let mut board = Board::new(pads.problem());
+        let mut board = Board::new(&pads);
         let mut checksum = Checksum::new();
         let mut state = State::default();
         for _ in 0..calls {
@@ -157,7 +156,7 @@ pub fn print_steps(stream: &[u8], wanted: usize) {
             continue;
         }
         println!("{pads:?}");
-        let mut board = Board::new(pads.problem());
+        let mut board = Board::new(&pads);
         let mut checksum = Checksum::new();
         let mut state = State::default();
         for call in calls {

@@ -1,8 +1,8 @@
 // What the cases that were compared have shown, counted and printed: how many
 // there were of each kind and of each answer.
 
-use crate::answers::{Pads, Run, HOLE};
-use crate::cases::{Asked, Given};
+use crate::answers::{Pads, Run, HOLE, LARGEST_ASKED, LARGEST_CODE};
+use crate::cases::{Asked, Case, Given};
 use crate::expected::{written_text, Answer};
 use crate::judged::Found;
 use std::collections::BTreeMap;
@@ -38,6 +38,34 @@ impl ShownCalls {
             self.going_on,
             (7..13).map(|number| (number, self.declined[number])).collect::<Vec<_>>()
         )
+    }
+}
+
+/// How many cases of each kind had a code that the reference cannot be asked as
+/// it stands.
+#[derive(Default)]
+pub struct ShownWide {
+    cases: BTreeMap<&'static str, usize>,
+}
+
+impl ShownWide {
+    pub fn count(&mut self, case: &Case, answer: &Answer) {
+        let (kind, cells) = match case {
+            Case::Board { grid, .. } => ("board", &grid.cells),
+            Case::Search { grid, .. } => ("search", &grid.cells),
+            Case::File { .. } => ("file", &answer.cells),
+            Case::Write { grid, .. } => ("write", &grid.cells),
+            Case::Judge { grid, .. } => ("judge", &grid.cells),
+            Case::Record { .. } => return,
+        };
+        let wide = LARGEST_ASKED + 1..=LARGEST_CODE;
+        if cells.iter().any(|cell| wide.contains(cell)) {
+            *self.cases.entry(kind).or_default() += 1;
+        }
+    }
+
+    pub fn figures(&self) -> String {
+        format!("cases with codes above {LARGEST_ASKED}: {:?}", self.cases)
     }
 }
 

@@ -242,7 +242,7 @@ fn cuts(grid: &Given) -> Vec<(Given, u64, u64)> {
     if grid.cells.len() != height.saturating_mul(width) {
         return found;
     }
-    let keep = |kept: &dyn Fn(usize, usize) -> bool| -> Vec<i32> {
+    let keep = |kept: &dyn Fn(usize, usize) -> bool| -> Vec<i64> {
         let cells = grid.cells.iter().enumerate();
         cells
             .filter(|(index, _)| kept(index / width, index % width))

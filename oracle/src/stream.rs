@@ -1,13 +1,12 @@
 // The streams of bytes that a program replays with no Rust at hand, and the
 // checksum of what it must find. README.md beside this folder describes both.
 
-use crate::answers::{Call, Pads, State, BLANK, LINE, NONE};
-use crate::random::LARGEST_CODE;
+use crate::answers::{Call, Pads, State, BLANK, LARGEST_ASKED, LINE, NONE};
 
-const MODULUS: u64 = 4294967291;
+const MODULUS: u64 = 17179869143;
 
-/// Starts at 1; each number x, from 0 to 4294967295, is taken in by
-/// sum = (sum * 31 + x) mod 4294967291.
+/// Starts at 1; each number x is taken in by
+/// sum = (sum * 31 + x) mod 17179869143.
 #[derive(Clone, Copy)]
 pub struct Checksum {
     pub sum: u64,
@@ -19,7 +18,7 @@ impl Checksum {
     }
 
     pub fn take(&mut self, number: u64) {
-        self.sum = (self.sum * 31 + number) % MODULUS;
+        self.sum = (self.sum * 31 + number % MODULUS) % MODULUS;
     }
 
     pub fn take_bytes(&mut self, bytes: &[u8]) {
@@ -28,35 +27,44 @@ impl Checksum {
         }
     }
 
+    /// An end e that is not negative as 2e, a negative one as 2(-1 - e) + 1.
+    fn take_end(&mut self, end: i64) {
+        self.take(match end {
+            0.. => 2 * end as u64,
+            _ => 2 * (-1 - end) as u64 + 1,
+        });
+    }
+
     /// After a call: the answer, the flag, each byte of the record, and each
-    /// end with 2147483648 added.
+    /// end.
     pub fn take_call(&mut self, answer: u8, state: &State) {
         self.take(answer as u64);
         self.take(state.flag as u64);
         self.take_bytes(&state.edges);
         for end in &state.ends {
-            self.take((*end as i64 + 2147483648) as u64);
+            self.take_end(*end);
         }
     }
 }
 
 /// A cell is one byte: 0 for blank, b - 1 for 1 to 250, and 2147483391 + b
 /// for 251 to 255. A hole has none.
-fn cell_byte(cell: i32) -> u8 {
+fn cell_byte(cell: i64) -> u8 {
     match cell {
         BLANK => 0,
         0..=249 => cell as u8 + 1,
         _ => {
-            assert!(cell > LARGEST_CODE - 5, "cell {cell} has no byte");
-            (cell - (LARGEST_CODE - 255)) as u8
+            let from_largest = LARGEST_ASKED - cell;
+            assert!((0..5).contains(&from_largest), "cell {cell} has no byte");
+            (255 - from_largest) as u8
         }
     }
 }
 
-fn cell_of(byte: u8) -> i32 {
+fn cell_of(byte: u8) -> i64 {
     match byte {
-        0..=250 => byte as i32 - 1,
-        _ => LARGEST_CODE - 255 + byte as i32,
+        0..=250 => byte as i64 - 1,
+        _ => LARGEST_ASKED - 255 + byte as i64,
     }
 }
 

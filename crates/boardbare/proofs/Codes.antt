@@ -1,5 +1,5 @@
--- Laws of a cell as the code reads it, an i64: the sign tells a clue from a blank pad and a hole, -1 is blank, and -v - 2 of a clue's value v is exact, at 0 and at
--- 2147483646, where it is the least i64. Assumes nothing.
+-- Laws of a cell as the code reads it, an i64: the sign tells a clue from a blank pad and a hole, -1 is blank, and -v - 2 of a clue's value v is
+-- exact, from 0, where it is -2, to 4294967295, where it is -4294967297. Assumes nothing.
 use Prim.Native.Nat.{ℕ, zero, suc, _≤_, _<_}
 use mathlib.Core.Path.{_≡_, refl, ap, _∙_}
 use mathlib.Core.Logic.{inl, inr}

@@ -15,6 +15,7 @@ use mir.Syntax.{w64}
 use mir.Val.{SFits, toZ, ofZ}
 use mir.ValLaws.{toZ-ofZ}
 use borrow.Author.Tests.{ltb-true, ltb-false, lt-ltb, le-ltb, le-leb, lt-leb, ne-eqb, eq-eqb, not-true, not-false}
+use Rattle.rules.specs.Grid.{largest-code}
 use Rattle.model.specs.Bounds.{is-size}
 use Rattle.model.specs.RefusalLaws.{size-of-test}
 use Rattle.model.specs.Refusals.{is-cell, first-bad-cell, grid-refusal}
@@ -33,19 +34,19 @@ module _ (z : ℤ) (f : SFits w64 z) where
       go (pos n) h = absurd (false≢true h)
       go (negsuc n) h = lt-leb n 1 (ltb-true 1 n h)
 
-  pub above-codes : ltZ (pos 2147483646) (toZ w64 (ofZ w64 z)) ≡ true → is-cell z ≡ false
+  pub above-codes : ltZ (pos largest-code) (toZ w64 (ofZ w64 z)) ≡ true → is-cell z ≡ false
   unfolding is-cell
   above-codes h = go z (rw back at h)
     where
-      go : (z : ℤ) → ltZ (pos 2147483646) z ≡ true → is-cell z ≡ false
+      go : (z : ℤ) → ltZ (pos largest-code) z ≡ true → is-cell z ≡ false
       go (pos n) h = rw h
       go (negsuc n) h = absurd (false≢true h)
 
-  pub sound-cell : ltZ (toZ w64 (ofZ w64 z)) (negsuc 1) ≡ false → ltZ (pos 2147483646) (toZ w64 (ofZ w64 z)) ≡ false → is-cell z ≡ true
+  pub sound-cell : ltZ (toZ w64 (ofZ w64 z)) (negsuc 1) ≡ false → ltZ (pos largest-code) (toZ w64 (ofZ w64 z)) ≡ false → is-cell z ≡ true
   unfolding is-cell
   sound-cell h k = go z (rw back at h) (rw back at k)
     where
-      go : (z : ℤ) → ltZ z (negsuc 1) ≡ false → ltZ (pos 2147483646) z ≡ false → is-cell z ≡ true
+      go : (z : ℤ) → ltZ z (negsuc 1) ≡ false → ltZ (pos largest-code) z ≡ false → is-cell z ≡ true
       go (pos n) h k = rw k
       go (negsuc n) h k = le-leb n 1 (ltb-false 1 n h)
 

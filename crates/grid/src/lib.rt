@@ -77,7 +77,7 @@ pub const BLANK: i64 = -1;
 
 pub const HOLE: i64 = -2;
 
-pub const LARGEST_CODE: i64 = 2147483646;
+pub const LARGEST_CODE: i64 = 4294967295;
 
 // Why a grid is declined: document 01's number, 0 for an accepted one, and the index of the first bad cell.
 pub struct Refusal {

@@ -11,6 +11,7 @@ use lib.ListN.{length, getD, drop, drop-of-length-le, List·getD-eq-default}
 use lib.Seq.{drop-cons}
 use lib.Dec.{ltb}
 use borrow.Author.Tests.{ltb-true, ltb-false, lt-ltb, le-ltb, ne-eqb, eq-eqb, not-true, not-false}
+use Rattle.rules.specs.Grid.{largest-code}
 use Rattle.rules.specs.Tests.{conflict}
 use Rattle.model.specs.Bounds.{most-digits}
 use Rattle.model.specs.GridFile.{is-digit, is-comma, is-line-end, is-hole-sign, disallowed-number}
@@ -30,11 +31,11 @@ module _ (byte digits value at : ℕ) where
   separates (inl e) = simp (eq-eqb _ _ e)
   separates (inr e) = rw e
 
-  pub too-large : (byte ≡ 44) ⊎ (byte ≡ 10) → 2147483646 < value → Refused 3 ≡ ended-field byte digits value at
+  pub too-large : (byte ≡ 44) ⊎ (byte ≡ 10) → largest-code < value → Refused 3 ≡ ended-field byte digits value at
   unfolding ended-field
   too-large s h = simp (separates s, lt-ltb _ _ h)
 
-  pub sound-value : (byte ≡ 44) ⊎ (byte ≡ 10) → value ≤ 2147483646 → Value value at ≡ ended-field byte digits value at
+  pub sound-value : (byte ≡ 44) ⊎ (byte ≡ 10) → value ≤ largest-code → Value value at ≡ ended-field byte digits value at
   unfolding ended-field
   sound-value s h = simp (separates s, le-ltb _ _ h)
 

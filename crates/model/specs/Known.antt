@@ -58,10 +58,10 @@ pub record KnownGrids : Type 0 where
   -- limit 1 on K1 gives outcome 1, visited 1; 8 bytes on K1 give outcome 2, visited 2; neither writes a byte
   pub K1-spent : solve 2 2 (replicate 4 blank-cell) 1 (replicate 9 7) ≡ solved-as 1 0 1 481 (replicate 9 7)
   pub K1-full : solve 2 2 (replicate 4 blank-cell) 1000000 (replicate 8 7) ≡ solved-as 2 0 2 481 (replicate 8 7)
-  -- clue 0 is end -2, clue 2147483646 is end -2147483648
-  pub K9 : (end-number (fresh (grid-of 2 2 (pos 0 ∷ pos 2147483646 ∷ blank-cell ∷ blank-cell ∷ [])) .end 0) ≡ negsuc 1)
-      × (end-number (fresh (grid-of 2 2 (pos 0 ∷ pos 2147483646 ∷ blank-cell ∷ blank-cell ∷ [])) .end 1) ≡ negsuc 2147483647)
-  -- field 2147483646 is read, 2147483647 gives 3
+  -- clue 0 is end -2, clue 4294967295 is end -4294967297
+  pub K9 : (end-number (fresh (grid-of 2 2 (pos 0 ∷ pos 4294967295 ∷ blank-cell ∷ blank-cell ∷ [])) .end 0) ≡ negsuc 1)
+      × (end-number (fresh (grid-of 2 2 (pos 0 ∷ pos 4294967295 ∷ blank-cell ∷ blank-cell ∷ [])) .end 1) ≡ negsuc 4294967296)
+  -- field 4294967295 is read, 4294967296 gives 3
   pub K10 : Largest-code-read
   -- `1O` first in line 2 gives 13, line 2, field 1
   pub K11 : Letter-refused

@@ -10,22 +10,26 @@ use Rattle.model.specs.Refusals.{is-cell, first-bad-cell, grid-refusal}
 use Rattle.rules.specs.Record.{record-lines}
 use Rattle.model.specs.Records.{record-length, has-record, record-at, shorter}
 
--- sizes first, then the number of cells, then the first bad cell; codes 0 and 2147483646 are sound, and so is a hole
+-- sizes first, then the number of cells, then the first bad cell; codes 0 and 4294967295 are sound, and so is a hole; 4294967296, -3 and
+-- the ends of what a cell can hold are bad
 abbrev pub Grids : Type 0
 Grids =
     (grid-refusal 2 2 (replicate 4 blank) ≡ (0, 0))
     × (grid-refusal 16 16 (replicate 256 blank) ≡ (0, 0))
     × (grid-refusal 17 16 (replicate 272 blank) ≡ (7, 0))
-    × (grid-refusal 2 1 (pos 2147483647 ∷ []) ≡ (7, 0))
-    × (grid-refusal 2 2 (pos 2147483647 ∷ []) ≡ (8, 0))
-    × (grid-refusal 2 2 (pos 0 ∷ pos 2147483646 ∷ blank ∷ blank ∷ []) ≡ (0, 0))
+    × (grid-refusal 2 1 (pos 4294967296 ∷ []) ≡ (7, 0))
+    × (grid-refusal 2 2 (pos 4294967296 ∷ []) ≡ (8, 0))
+    × (grid-refusal 2 3 (pos 0 ∷ pos 2147483646 ∷ pos 2147483647 ∷ pos 2147483648 ∷ pos 4294967294 ∷ pos 4294967295 ∷ []) ≡ (0, 0))
     × (grid-refusal 2 2 (hole ∷ hole ∷ pos 0 ∷ hole ∷ []) ≡ (0, 0))
-    × (grid-refusal 2 2 (blank ∷ pos 2147483647 ∷ negsuc 2 ∷ blank ∷ []) ≡ (9, 1))
+    × (grid-refusal 2 2 (blank ∷ pos 4294967296 ∷ negsuc 2 ∷ blank ∷ []) ≡ (9, 1))
     × (grid-refusal 2 2 (blank ∷ hole ∷ blank ∷ negsuc 2 ∷ []) ≡ (9, 3))
+    × (grid-refusal 2 2 (pos 5 ∷ blank ∷ pos 9999999999 ∷ blank ∷ []) ≡ (9, 2))
+    × (grid-refusal 2 2 (pos 5 ∷ negsuc 9223372036854775807 ∷ blank ∷ blank ∷ []) ≡ (9, 1))
+    × (grid-refusal 2 2 (pos 5 ∷ hole ∷ blank ∷ pos 9223372036854775807 ∷ []) ≡ (9, 3))
 
 pub known-grids : Grids
 unfolding is-size blank hole is-cell first-bad-cell grid-refusal
-known-grids = (refl, refl, refl, refl, refl, refl, refl, refl, refl)
+known-grids = (refl, refl, refl, refl, refl, refl, refl, refl, refl, refl, refl, refl)
 
 -- two records of the 2 by 2 board and one byte more
 unfoldable pub two-records : List ℕ

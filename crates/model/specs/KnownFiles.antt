@@ -31,12 +31,12 @@ cell file index = getD (read file .cells) index blank
 
 -- ## K10, K11 and K12
 
--- field 2147483646 is read, 2147483647 gives 3
+-- field 4294967295 is read, 4294967296 gives 3
 abbrev pub K10 : Type 0
 K10 =
-    (answer (bytes "2,2\n2147483646,\n,\n") ≡ names 0 0 0)
-    × (cell (bytes "2,2\n2147483646,\n,\n") 0 ≡ pos 2147483646)
-    × (answer (bytes "2,2\n2147483647,\n,\n") ≡ names 3 2 1)
+    (answer (bytes "2,2\n4294967295,\n,\n") ≡ names 0 0 0)
+    × (cell (bytes "2,2\n4294967295,\n,\n") 0 ≡ pos 4294967295)
+    × (answer (bytes "2,2\n4294967296,\n,\n") ≡ names 3 2 1)
 
 -- `1O` first in line 2 gives 13, line 2, field 1
 abbrev pub K11 : Type 0
@@ -61,6 +61,12 @@ Leading-zeros =
     × (cell (bytes "2,2\n007,\n,0000000007\n") 3 ≡ pos 7)
     × (cell (bytes "2,2\n0,\n,\n") 0 ≡ pos 0)
 
+-- codes on both sides of the largest signed number of 32 bits, and the two whose 32 bits would be those of a hole and of a blank pad
+abbrev pub Wide-codes-read : Type 0
+Wide-codes-read =
+    (read (bytes "2,3\n2147483646,2147483647,2147483648\n4294967294,4294967295,3100000012\n")
+    ≡ record { number = 0; line = 0; field = 0; height = 2; width = 3; cells = pos 2147483646 ∷ pos 2147483647 ∷ pos 2147483648 ∷ pos 4294967294 ∷ pos 4294967295 ∷ pos 3100000012 ∷ replicate 250 blank })
+
 -- `#` alone in a field of a row is a hole, -2: beside blank pads and codes, in every field, in the last one
 abbrev pub Holes-read : Type 0
 Holes-read =
@@ -73,8 +79,8 @@ Holes-read =
 
 -- the longest file: ten digits in both fields of the header and in each of 16 rows of 16 fields
 unfoldable pub longest-row : ℕ → List ℕ
-longest-row zero = bytes "2147483646\n"
-longest-row (suc more) = bytes "2147483646," ++ longest-row more
+longest-row zero = bytes "4294967295\n"
+longest-row (suc more) = bytes "4294967295," ++ longest-row more
 
 unfoldable pub longest-rows : ℕ → List ℕ
 longest-rows zero = []
@@ -87,7 +93,7 @@ abbrev pub Longest-read : Type 0
 Longest-read =
     (length longest-file ≡ 2838)
     × (read longest-file
-    ≡ record { number = 0; line = 0; field = 0; height = 16; width = 16; cells = replicate 256 (pos 2147483646) })
+    ≡ record { number = 0; line = 0; field = 0; height = 16; width = 16; cells = replicate 256 (pos 4294967295) })
 
 -- ## Refused files
 
@@ -134,11 +140,13 @@ Refused-2 =
     × (answer (bytes "2,2\n12345678901x,\n,\n") ≡ names 2 2 1)
     × (answer (replicate 4096 49) ≡ names 2 1 1)
 
--- 3: the ended field exceeds 2147483646, also where 4 or 5 would apply
+-- 3: the ended field exceeds 4294967295, also where 4 or 5 would apply
 abbrev pub Refused-3 : Type 0
 Refused-3 =
-    (answer (bytes "1,2147483647\n") ≡ names 3 1 2)
-    × (answer (bytes "2147483647\n") ≡ names 3 1 1)
+    (answer (bytes "1,4294967296\n") ≡ names 3 1 2)
+    × (answer (bytes "4294967296\n") ≡ names 3 1 1)
+    × (answer (bytes "4294967295\n") ≡ names 4 1 1)
+    × (answer (bytes "2,2\n4294967295,4294967298\n") ≡ names 3 2 2)
     × (answer (bytes "2,2\n,\n,9999999999\n") ≡ names 3 3 2)
 
 -- 4: too few fields, or a comma after the last, also where 5 would apply, and after a hole
@@ -181,7 +189,7 @@ Declined-read =
     ≡ record { number = 6; line = 3; field = 2; height = 0; width = 0; cells = replicate 256 blank }
 
 pub known-files :
-    K10 × K11 × K12 × Example-read × Leading-zeros × Holes-read × Longest-read
+    K10 × K11 × K12 × Example-read × Leading-zeros × Wide-codes-read × Holes-read × Longest-read
     × Refused-1 × Refused-13 × Refused-2 × Refused-3 × Refused-4 × Refused-5 × Refused-6 × Declined-read
 unfolding is-size most-digits bytes is-digit is-comma is-line-end is-hole-sign begins-hole is-allowed disallowed-number blank hole no-cells start in-header fields-due is-complete field-cell bad-size refusal with-digit with-hole begun after accepted declined read-from read answer cell longest-row longest-rows longest-file
 known-files = (
@@ -190,12 +198,13 @@ known-files = (
   refl,
   refl,
   (refl, refl, refl),
+  refl,
   (refl, refl, refl, refl),
   (refl, refl),
   (refl, refl, refl, refl, refl, refl, refl, refl, refl, refl, refl, refl),
   (refl, refl, refl, refl, refl, refl, refl, refl, refl, refl, refl, refl),
   (refl, refl, refl, refl, refl),
-  (refl, refl, refl),
+  (refl, refl, refl, refl, refl),
   (refl, refl, refl, refl, refl, refl, refl),
   (refl, refl, refl, refl, refl),
   (refl, refl, refl, refl, refl, refl, refl, refl, refl),

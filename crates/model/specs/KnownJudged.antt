@@ -50,6 +50,9 @@ pub record KnownJudged : Type 0 where
   pub no-line-at-a-clue : judge 2 2 pair (0 ∷ 2 ∷ 0 ∷ 2 ∷ 0 ∷ 2 ∷ 0 ∷ 2 ∷ 0 ∷ []) ≡ said 0 0
   pub two-lines-at-a-clue : judge 2 2 pair (0 ∷ 1 ∷ 0 ∷ 1 ∷ 0 ∷ 1 ∷ 0 ∷ 1 ∷ 0 ∷ []) ≡ said 0 0
   pub unequal-codes : judge 2 2 (pos 5 ∷ o ∷ o ∷ pos 4 ∷ []) below ≡ said 0 0
+  -- the largest code joined to itself, and to what is left of it in 31 bits
+  pub largest-codes : judge 2 2 (pos 4294967295 ∷ o ∷ o ∷ pos 4294967295 ∷ []) below ≡ said 2 2
+  pub unequal-largest : judge 2 2 (pos 4294967295 ∷ o ∷ o ∷ pos 2147483647 ∷ []) below ≡ said 0 0
   -- on blank pads: nothing drawn is listed, with no line; a loose end and a loop are no layout
   pub nothing-drawn : judge 2 2 (o ∷ o ∷ o ∷ o ∷ []) (0 ∷ 2 ∷ 0 ∷ 2 ∷ 0 ∷ 2 ∷ 0 ∷ 2 ∷ 0 ∷ []) ≡ said 2 0
   pub loose-end : judge 2 2 (o ∷ o ∷ o ∷ o ∷ []) below ≡ said 0 0
@@ -68,6 +71,7 @@ pub record KnownJudged : Type 0 where
   pub one-row : judge 1 2 (pos 5 ∷ pos 5 ∷ []) (0 ∷ 1 ∷ 0 ∷ []) ≡ refused 7 0
   pub too-many-cells : judge 2 2 (pos 5 ∷ o ∷ o ∷ pos 5 ∷ o ∷ []) below ≡ refused 8 0
   pub bad-cell : judge 2 2 (pos 5 ∷ o ∷ negsuc 2 ∷ pos 5 ∷ []) below ≡ refused 9 2
+  pub code-too-large : judge 2 2 (pos 5 ∷ o ∷ o ∷ pos 4294967296 ∷ []) below ≡ refused 9 3
   -- the program: the example of the order, its mirror image, codes that are no layout's, and a refused file
   pub as-routes-prints : judge-text (bytes "2010") (bytes "2,2\n5,\n,5\n") ≡ bytes "2,2\n"
   pub mirrored : judge-text (bytes "1200") (bytes "2,2\n5,\n,5\n") ≡ bytes "1,2\n"
@@ -97,6 +101,8 @@ known-judged = record {
   no-line-at-a-clue = refl;
   two-lines-at-a-clue = refl;
   unequal-codes = refl;
+  largest-codes = refl;
+  unequal-largest = refl;
   nothing-drawn = refl;
   loose-end = refl;
   loop = refl;
@@ -110,6 +116,7 @@ known-judged = record {
   one-row = refl;
   too-many-cells = refl;
   bad-cell = refl;
+  code-too-large = refl;
   as-routes-prints = refl;
   mirrored = refl;
   no-layout = refl;

@@ -35,14 +35,14 @@ Example-written =
 -- a row has a comma between its fields and none at its end; a blank pad is an empty field, a hole is `#`, floor 0 is neither; digits from the highest on
 abbrev pub Fields-written : Type 0
 Fields-written =
-    (grid-text 2 3 (pos 0 ∷ blank ∷ pos 10 ∷ blank ∷ blank ∷ pos 2147483646 ∷ []) ≡ bytes "2,3\n0,,10\n,,2147483646\n")
+    (grid-text 2 3 (pos 0 ∷ blank ∷ pos 10 ∷ blank ∷ blank ∷ pos 4294967295 ∷ []) ≡ bytes "2,3\n0,,10\n,,4294967295\n")
     × (grid-text 2 3 (hole ∷ blank ∷ pos 0 ∷ pos 5 ∷ hole ∷ hole ∷ []) ≡ bytes "2,3\n#,,0\n5,#,#\n")
     × (grid-text 3 2 (replicate 6 blank) ≡ bytes "3,2\n,\n,\n,\n")
     × (grid-text 2 2 (pos 9 ∷ pos 12 ∷ pos 100 ∷ pos 1000000001 ∷ []) ≡ bytes "2,2\n9,12\n100,1000000001\n")
 
 -- the longest text
 abbrev pub Longest-written : Type 0
-Longest-written = length (grid-text 16 16 (replicate 256 (pos 2147483646))) ≡ 2822
+Longest-written = length (grid-text 16 16 (replicate 256 (pos 4294967295))) ≡ 2822
 
 -- the grid's numbers, whether there is room or not
 abbrev pub Refused-7-8-9 : Type 0
@@ -50,8 +50,8 @@ Refused-7-8-9 =
     (write 1 2 (blank ∷ blank ∷ []) (sevens 20) ≡ leaves 7 0 0 (sevens 20))
     × (write 2 17 (replicate 34 blank) [] ≡ leaves 7 0 0 [])
     × (write 2 2 (blank ∷ blank ∷ blank ∷ []) (sevens 20) ≡ leaves 8 0 0 (sevens 20))
-    × (write 2 2 (blank ∷ hole ∷ negsuc 2 ∷ pos 2147483647 ∷ []) (sevens 20) ≡ leaves 9 2 0 (sevens 20))
-    × (write 2 2 (blank ∷ pos 2147483647 ∷ blank ∷ blank ∷ []) (sevens 1) ≡ leaves 9 1 0 (sevens 1))
+    × (write 2 2 (blank ∷ hole ∷ negsuc 2 ∷ pos 4294967296 ∷ []) (sevens 20) ≡ leaves 9 2 0 (sevens 20))
+    × (write 2 2 (blank ∷ pos 4294967296 ∷ blank ∷ blank ∷ []) (sevens 1) ≡ leaves 9 1 0 (sevens 1))
 
 pub known-writes : Example-written × Fields-written × Longest-written × Refused-7-8-9
 unfolding is-size bytes comma line-end hole-sign digit-byte digits-before decimal blank hole is-cell first-bad-cell grid-refusal cell-text rows-text grid-text turned-away written write

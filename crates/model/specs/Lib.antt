@@ -26,7 +26,7 @@ pub mod KnownCalls
 pub mod Known
 pub mod KnownRoutes
 pub mod Sequences
-pub mod HoleSequences
+pub mod SecondSequences
 pub mod SmallGrids
 pub mod Judge
 pub mod JudgedGrids

@@ -128,6 +128,11 @@ pub record SmallGrids : Type 0 where
   pub pair-3-2 : Agree 3 2 (pos 7 ∷ o ∷ o ∷ o ∷ o ∷ pos 7 ∷ [])
   pub four-3-2 : Agree 3 2 (pos 1 ∷ pos 1 ∷ o ∷ o ∷ pos 1 ∷ pos 1 ∷ [])
   pub turned-3-2 : Agree 3 2 (o ∷ pos 0 ∷ pos 0 ∷ pos 3 ∷ pos 3 ∷ o ∷ [])
+  -- codes that 32 bits do not hold: equal ones are joined, and none with the code that is left of it in 31 bits, or with its neighbour
+  pub wide-pair-2-2 : Agree 2 2 (pos 4294967295 ∷ o ∷ o ∷ pos 4294967295 ∷ [])
+  pub wide-and-low-2-3 : Agree 2 3 (pos 3100000012 ∷ pos 952516364 ∷ o ∷ pos 3100000012 ∷ pos 952516364 ∷ o ∷ [])
+  pub wide-beside-0-2-2 : Agree 2 2 (pos 0 ∷ pos 2147483648 ∷ pos 2147483648 ∷ pos 0 ∷ [])
+  pub wide-neighbours-2-3 : Agree 2 3 (pos 4294967295 ∷ o ∷ pos 4294967294 ∷ pos 4294967295 ∷ h ∷ pos 4294967294 ∷ [])
   -- a hole frees the corner above it, ends the bar, shuts a clue in (no layout) and is gone around
   pub corner-right-over-a-hole-2-2 : Agree 2 2 (o ∷ pos 0 ∷ pos 0 ∷ h ∷ [])
   pub corner-left-over-a-hole-2-2 : Agree 2 2 (pos 0 ∷ o ∷ h ∷ pos 0 ∷ [])
@@ -157,6 +162,10 @@ small-grids = record {
   pair-3-2 = refl;
   four-3-2 = refl;
   turned-3-2 = refl;
+  wide-pair-2-2 = refl;
+  wide-and-low-2-3 = refl;
+  wide-beside-0-2-2 = refl;
+  wide-neighbours-2-3 = refl;
   corner-right-over-a-hole-2-2 = refl;
   corner-left-over-a-hole-2-2 = refl;
   line-at-a-hole-2-2 = refl;

@@ -1,14 +1,14 @@
--- Example drawings that are listed, that are ordinary and not listed, and that are neither, on small grids. Each is a fact of the
--- rules of Drawing.antt, so a slip in those rules is refused here. A drawing is told by the pads with a line to the right and the pads
--- with a line downward. Checked.antt and CheckedListed.antt prove a drawing ordinary or listed by computing: they are given the lines, a
--- number for each pad that rises along its chain, and the code of each pad's chain.
+-- Where codes end, and example drawings that are listed, that are ordinary and not listed, and that are neither, on small grids. Each is a
+-- fact of the rules of Grid.antt and Drawing.antt, so a slip in those rules is refused here. A drawing is told by the pads with a line to
+-- the right and the pads with a line downward. Checked.antt and CheckedListed.antt prove a drawing ordinary or listed by computing: they are
+-- given the lines, a number for each pad that rises along its chain, and the code of each pad's chain.
 use Prim.Native.Nat.{ℕ, zero, suc, _<_}
-use mathlib.Core.Path.{_≡_, refl}
-use mathlib.Core.Logic.{_≢_, ⊎-elim}
+use mathlib.Core.Path.{_≡_, refl, ap}
+use mathlib.Core.Logic.{_≢_, inl, inr, ⊎-elim}
 use mathlib.Core.List.{List, [], _∷_}
 use native.Mathlib.Omega.{arith}
-use lib.IntN.{ℤ, pos}
-use Rattle.rules.specs.Grid.{cell-of, blank-cell, hole-cell, grid-of}
+use lib.IntN.{ℤ, pos, natAbs}
+use Rattle.rules.specs.Grid.{cell-of, blank-cell, hole-cell, CellInRange, grid-of}
 use Rattle.rules.specs.Drawing.{Drawing, Line, rightward, leftward, downward, upward, here, more, Ordinary, Listed, on-left, on-right}
 use Rattle.rules.specs.Checked.{elem, lines-at, checked, checked-ordinary}
 use Rattle.rules.specs.CheckedListed.{corners-checked, squares-checked, checked-listed}
@@ -29,6 +29,15 @@ six = pos 6
 
 abbrev seven : ℤ
 seven = pos 7
+
+-- CODES end with 4294967295.
+pub last-code-is-in-range : CellInRange (pos 4294967295)
+last-code-is-in-range = inr (inr (4294967295, refl, omega arith))
+
+pub one-more-is-not-in-range : CellInRange (pos 4294967296) → ⊥
+one-more-is-not-in-range (inl e) = omega (arith, ap natAbs e)
+one-more-is-not-in-range (inr (inl e)) = omega (arith, ap natAbs e)
+one-more-is-not-in-range (inr (inr (code, e, below))) = omega (arith, ap natAbs e, below)
 
 -- LISTED. 5 and 5 on a diagonal, drawn down from pad 0 and right from pad 2.
 -- (5 _ / _ 5)

@@ -107,9 +107,9 @@ blank-cell = negsuc 0
 abbrev pub hole-cell : ℤ
 hole-cell = negsuc 1
 
--- codes are 0 to 2147483646
+-- codes are 0 to 4294967295
 abbrev pub largest-code : ℕ
-largest-code = 2147483646
+largest-code = 4294967295
 
 -- a cell that a grid may hold: -1, -2, or a code in range
 abbrev pub CellInRange : ℤ → Type 0

@@ -1,6 +1,7 @@
 // Runs what document 01 leaves to a run of the search: limits 0, 1, visited - 1 and visited, buffers of a record less a byte, exactly full
-// and a byte short of two records, sizes 1, 2, 16 and 17, a wrong number of cells and a bad cell; and nothing but holes, and clues that holes
-// shut in. Prints number, index, outcome, layouts, visited, fewest and the sum of the buffer's bytes.
+// and a byte short of two records, sizes 1, 2, 16 and 17, a wrong number of cells and bad cells; codes on both sides of what 31 and 32 bits
+// hold, alike and two by two; and nothing but holes, and clues that holes shut in. Prints number, index, outcome, layouts, visited, fewest
+// and the sum of the buffer's bytes.
 ghost use Prim.Native.Nat.{_≤_, _<_};
 use libc::STDOUT_FILENO;
 use solver::Solved;
@@ -57,6 +58,14 @@ fn blank(height: usize, width: usize, count: usize, limit: u64)
     show(r, sum(&buffer));
 }
 
+// Two pairs of codes in opposite corners: they would cross, unless they are one code.
+fn crossed(first: i64, second: i64) {
+    let cells = [first, second, second, first];
+    let mut buffer = [7u8; 40];
+    let r = solver::solve(2, 2, &cells, 1000, &mut buffer);
+    show(r, sum(&buffer));
+}
+
 // Two clues of one code, each shut in by the same two holes.
 fn shut_in(limit: u64) {
     let cells = [5i64, -2, -2, 5];
@@ -88,9 +97,34 @@ fn blank_rooms() {
 
 fn refusals() {
     square(-3, 1000, 40);
-    square(2147483647, 1000, 40);
+    square(4294967296, 1000, 40);
     blank(2, 2, 5, 1000);
     blank(1, 2, 2, 1000);
+}
+
+fn bad_cells() {
+    square(9999999999, 1000, 40);
+    square(4294967297, 1000, 40);
+    square(-4294967297, 1000, 40);
+    square(9223372036854775807, 1000, 40);
+    square(-9223372036854775808, 1000, 40);
+}
+
+fn codes() {
+    square(2147483646, 1000, 40);
+    square(2147483647, 1000, 40);
+    square(2147483648, 1000, 40);
+    square(4294967294, 1000, 40);
+    square(4294967295, 1000, 40);
+}
+
+fn code_pairs() {
+    crossed(3100000012, 3100000012);
+    crossed(0, 2147483648);
+    crossed(4294967295, 2147483647);
+    crossed(4294967294, 4294967295);
+    crossed(4294967295, -1);
+    crossed(4294967294, -2);
 }
 
 fn sizes() {
@@ -113,6 +147,9 @@ fn main() {
     rooms();
     blank_rooms();
     refusals();
+    bad_cells();
+    codes();
+    code_pairs();
     sizes();
     holes();
 }

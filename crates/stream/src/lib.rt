@@ -38,7 +38,7 @@ pub fn number_at(stream: &[u8], place: usize, bytes: usize) -> u64 {
     value
 }
 
-// The cell that a byte stands for: 0 blank, 1 to 250 the codes from 0 on, 251 to 255 the largest codes.
+// The cell that a byte stands for: 0 blank, 1 to 250 the codes from 0 on, 251 to 255 the largest that the Rust can be asked about.
 pub fn cell_of(byte: u8) -> i64 {
     if byte == 0 {
         return -1;
@@ -64,9 +64,12 @@ pub fn cells_at(stream: &[u8], place: usize, count: usize) -> [i64; 256]
     cells
 }
 
+// The checksum is below this prime, which is above every end as a number without a sign.
+const MODULUS: u64 = 17179869143;
+
 // The checksum after one number more.
 pub fn taken(sum: u64, number: u64) -> u64 {
-    (sum % 4294967291 * 31 + number % 4294967296) % 4294967291
+    (sum % MODULUS * 31 + number % MODULUS) % MODULUS
 }
 
 // The checksum after so many bytes more.

@@ -1,7 +1,7 @@
--- Board calls and searches on grids with holes, as facts by computation. What they say was computed by a second board and search,
--- oracle/holes.py, which is written from the documents; the calls stand there as well. Sequences: the new board and then each call, with its
--- answer, the edges as a record, the ends and the flag. Each is told apart from some wrong version, which its comment names; fresh boards
--- whose flag is set are among them.
+-- Board calls and searches about which the Rust cannot be asked, on grids with holes and with the largest code, as facts by computation. What
+-- they say was computed by a second board and search, oracle/holes.py, which is written from the documents; the calls stand there as well.
+-- Sequences: the new board and then each call, with its answer, the edges as a record, the ends and the flag. Each is told apart from some
+-- wrong version, which its comment names; fresh boards whose flag is set are among them.
 use Prim.Native.Nat.{ℕ}
 use mathlib.Core.Path.{_≡_, refl}
 use mathlib.Core.Bool.{Bool, true, false}
@@ -158,11 +158,28 @@ Sequence-10 =
     ∷ after 0 (0 ∷ 0 ∷ 0 ∷ 0 ∷ 0 ∷ 0 ∷ 0 ∷ 0 ∷ 0 ∷ 0 ∷ 0 ∷ 0 ∷ 0 ∷ 0 ∷ 0 ∷ 0 ∷ 0 ∷ 0 ∷ 0 ∷ 2 ∷ 0 ∷ 0 ∷ 0 ∷ 0 ∷ 0 ∷ 1 ∷ 0 ∷ 0 ∷ 0 ∷ 0 ∷ 0 ∷ 0 ∷ 0 ∷ 0 ∷ 0 ∷ 2 ∷ 0 ∷ 0 ∷ 0 ∷ 0 ∷ 0 ∷ 2 ∷ 0 ∷ 2 ∷ 0 ∷ 0 ∷ 0 ∷ 2 ∷ 0 ∷ []) ((pos 0) ∷ (pos 1) ∷ (pos 2) ∷ (pos 3) ∷ (pos 4) ∷ (pos 5) ∷ (pos 10) ∷ (pos 7) ∷ (pos 8) ∷ (pos 9) ∷ (pos 6) ∷ (pos 11) ∷ (pos 12) ∷ (pos 13) ∷ (pos 14) ∷ (pos 15) ∷ []) false
     ∷ []
 
+-- the least and the largest code: `0,,0/4294967295,,4294967295`
+-- Refuses: cells kept in 32 bits; ends kept in 32 bits, on fresh boards or in joined chains; ends held at the least of 32 bits; codes told
+-- apart by 31 bits; a code of 32 bits that is no clue in the degree; the largest code taken for a blank pad below a corner
+abbrev Sequence-11 : Type 0
+Sequence-11 =
+    from-new 2 3 ((pos 0) ∷ blank-cell ∷ (pos 0) ∷ (pos 4294967295) ∷ blank-cell ∷ (pos 4294967295) ∷ [])
+    (checkpoint-call ∷ (decide-call 0 1 1) ∷ undo-call ∷ (decide-call 1 2 1) ∷ (decide-call 0 1 2) ∷ undo-call ∷ [])
+    ≡ after 0 (0 ∷ 0 ∷ 0 ∷ 0 ∷ 0 ∷ 0 ∷ 0 ∷ 0 ∷ 0 ∷ 0 ∷ 0 ∷ 0 ∷ 0 ∷ 0 ∷ 0 ∷ []) ((negsuc 1) ∷ (pos 1) ∷ (negsuc 1) ∷ (negsuc 4294967296) ∷ (pos 4) ∷ (negsuc 4294967296) ∷ []) false
+    ∷ after 0 (0 ∷ 0 ∷ 0 ∷ 0 ∷ 0 ∷ 0 ∷ 0 ∷ 0 ∷ 0 ∷ 0 ∷ 0 ∷ 0 ∷ 0 ∷ 0 ∷ 0 ∷ []) ((negsuc 1) ∷ (pos 1) ∷ (negsuc 1) ∷ (negsuc 4294967296) ∷ (pos 4) ∷ (negsuc 4294967296) ∷ []) false
+    ∷ after 0 (0 ∷ 1 ∷ 0 ∷ 1 ∷ 0 ∷ 2 ∷ 0 ∷ 2 ∷ 0 ∷ 2 ∷ 0 ∷ 1 ∷ 0 ∷ 1 ∷ 0 ∷ []) ((negsuc 0) ∷ (negsuc 0) ∷ (negsuc 0) ∷ (negsuc 0) ∷ (negsuc 0) ∷ (negsuc 0) ∷ []) false
+    ∷ after 0 (0 ∷ 0 ∷ 0 ∷ 0 ∷ 0 ∷ 0 ∷ 0 ∷ 0 ∷ 0 ∷ 0 ∷ 0 ∷ 0 ∷ 0 ∷ 0 ∷ 0 ∷ []) ((negsuc 1) ∷ (pos 1) ∷ (negsuc 1) ∷ (negsuc 4294967296) ∷ (pos 4) ∷ (negsuc 4294967296) ∷ []) false
+    ∷ after 0 (0 ∷ 0 ∷ 0 ∷ 0 ∷ 0 ∷ 0 ∷ 0 ∷ 1 ∷ 0 ∷ 0 ∷ 0 ∷ 0 ∷ 0 ∷ 0 ∷ 0 ∷ []) ((negsuc 1) ∷ (pos 4) ∷ (negsuc 1) ∷ (negsuc 4294967296) ∷ (pos 1) ∷ (negsuc 4294967296) ∷ []) false
+    ∷ after 1 (0 ∷ 2 ∷ 0 ∷ 0 ∷ 0 ∷ 2 ∷ 0 ∷ 1 ∷ 0 ∷ 0 ∷ 0 ∷ 0 ∷ 0 ∷ 0 ∷ 0 ∷ []) ((negsuc 1) ∷ (pos 4) ∷ (negsuc 1) ∷ (negsuc 4294967296) ∷ (pos 1) ∷ (negsuc 4294967296) ∷ []) true
+    ∷ after 0 (0 ∷ 0 ∷ 0 ∷ 0 ∷ 0 ∷ 0 ∷ 0 ∷ 0 ∷ 0 ∷ 0 ∷ 0 ∷ 0 ∷ 0 ∷ 0 ∷ 0 ∷ []) ((negsuc 1) ∷ (pos 1) ∷ (negsuc 1) ∷ (negsuc 4294967296) ∷ (pos 4) ∷ (negsuc 4294967296) ∷ []) false
+    ∷ []
+
 -- all of them, by computation
-pub hole-sequences :
+pub second-sequences :
     Sequence-1 × Sequence-2 × Sequence-3 × Sequence-4 × Sequence-5 × Sequence-6 × Sequence-7 × Sequence-8 × Sequence-9 × Sequence-10
+    × Sequence-11
 unfolding do-call seen replay shown new grid-refusal is-size is-cell first-bad-cell fresh-board edge-at decide-edge read-edge add-checkpoint undo grid-of cell-of field tabulate place-at parity fresh prepared shut-at shut bare end-number decide check after-store cannot-join unjoinable join-ends check-items settled decide-first degree undecideds lines keep-aparts around do-item do-items shape-items barred joined-ends put-end put-end-at set-flag set-edge enough
-hole-sequences = (refl, refl, refl, refl, refl, refl, refl, refl, refl, refl)
+second-sequences = (refl, refl, refl, refl, refl, refl, refl, refl, refl, refl, refl)
 
 -- SEARCHES: layouts, visited, fewest and codes
 -- every edge is decided with the holes: the search starts in the last row: `5,#/5,#`
@@ -200,7 +217,7 @@ abbrev Clear-with-limit-0 : Type 0
 Clear-with-limit-0 = solve 2 2 ((pos 5) ∷ hole-cell ∷ (pos 5) ∷ hole-cell ∷ []) 0 (replicate 9 7)
     ≡ record { number = 0; index = 0; outcome = 1; layouts = 0; visited = 0; fewest-lines = 481; buffer = replicate 9 7 }
 
-pub hole-searches :
+pub second-searches :
     Decided-with-the-holes × Later-start × Corner-over-a-hole × Two-layouts × Flagged × Flagged-with-limit-0 × Clear-with-limit-0
 unfolding known solve concat grid-refusal is-size is-cell first-bad-cell has-record record-length record-at grid-of cell-of codes drawing-of field record-lines tabulate place-at parity scan search search-from fewest backtrack try degree-so-far next-pad board-record fresh prepared shut-at shut bare end-number decide check after-store cannot-join unjoinable join-ends check-items settled decide-first degree undecideds lines keep-aparts around do-item do-items shape-items barred joined-ends put-end put-end-at set-flag set-edge enough
-hole-searches = (refl, refl, refl, refl, refl, refl, refl)
+second-searches = (refl, refl, refl, refl, refl, refl, refl)
