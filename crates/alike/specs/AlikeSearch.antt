@@ -1,6 +1,6 @@
 -- The search of a grid depends on its codes only by which pads carry equal codes: on alike grids it is the same list of events, the visited
 -- boards and the layouts with their records in their order. Then `solve` answers the same for both, with every byte of the buffer. It rests
--- on AlikeBoards.antt and on the model's Search.antt.
+-- on AlikeStates.antt and on the model's Search.antt.
 use Prim.Native.Nat.{ℕ, zero, suc, _+_, _-_}
 use mathlib.Core.Path.{_≡_, refl, ap}
 use mathlib.Core.Bool.{Bool, true, false, _&&_, _||_}
@@ -15,7 +15,7 @@ use Rattle.model.specs.Board.{EdgeState, State, isUndecided, line-or-none, has-
 use Rattle.model.specs.Search.{Event, visit, layout, board-record, next-pad, degree-so-far, try, backtrack, search-from, search, solve}
 use Rattle.model.specs.RefusalLaws.{accepted-is-not-refused}
 use Rattle.alike.specs.Alike.{Alike, same-clues, recoded, of-one-size}
-use Rattle.alike.specs.AlikeBoards.{AlikeStates, edge-same, decide-alike, fresh-alike}
+use Rattle.alike.specs.AlikeStates.{AlikeStates, edge-same, decide-alike, fresh-alike}
 
 module _ (g : Grid) (cell : ℕ → Cell) (alike : Alike g (recoded g cell)) where
   abbrev h : Grid

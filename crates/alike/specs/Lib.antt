@@ -1,5 +1,8 @@
--- A search depends on the codes of a grid only by which pads carry equal codes.
+-- The router depends on the codes of a grid only by which pads carry equal codes: its search, the board calls and the judge of a drawing.
 pub mod Alike
-pub mod AlikeBoards
+pub mod AlikeEnds
+pub mod AlikeStates
 pub mod AlikeSearch
+pub mod AlikeCalls
+pub mod AlikeJudge
 pub mod Lowered

@@ -1,6 +1,6 @@
 -- Every accepted grid has an alike one with small codes: each code is lowered to the index of the first pad that carries it, and codes are
--- equal after that exactly where they were before. A grid has at most 256 pads, so every code is then below 256, and `solve` answers the
--- same. It rests on AlikeSearch.antt.
+-- equal after that exactly where they were before. A grid has at most 256 pads, so every code is then below 256, and `solve`, the
+-- board calls and `judge` answer the same. It rests on AlikeSearch.antt, AlikeCalls.antt and AlikeJudge.antt.
 use Prim.Native.Nat.{ℕ, zero, suc, _*_, _≤_, _<_}
 use mathlib.Core.Path.{_≡_, refl, sym, _∙_, ap}
 use mathlib.Core.Logic.{inl, inr}
@@ -19,8 +19,12 @@ use Rattle.rules.specs.Places.{zero≢one}
 use Rattle.model.specs.Choice.{if_then_else_}
 use Rattle.model.specs.Board.{isBlank, isHole}
 use Rattle.model.specs.Search.{solve}
+use Rattle.model.specs.Calls.{new}
+use Rattle.model.specs.Judge.{judge}
 use Rattle.alike.specs.Alike.{Alike}
 use Rattle.alike.specs.AlikeSearch.{solve-alike}
+use Rattle.alike.specs.AlikeCalls.{AlikeAnswers, new-alike}
+use Rattle.alike.specs.AlikeJudge.{judge-alike}
 
 -- does the cell carry this code?
 abbrev pub carries : ℕ → ℤ → Bool
@@ -142,6 +146,14 @@ module _ (cells : List ℤ) where
           in-range v (inr (inl e)) = rw e (inr (inl refl))
           in-range v (inr (inr (code, e, below))) = let s = small v code e in rw e (inr (inr (first-pad code cells, refl, omega arith)))
 
-      -- and SOLVE answers the same
+      -- SOLVE answers the same,
       pub solve-lowered : (limit : ℕ) (buffer : List ℕ) → solve height width cells limit buffer ≡ solve height width (lowered cells) limit buffer
       solve-lowered limit buffer = solve-alike height width cells (lowered cells) accepted lowered-accepted lowered-alike limit buffer
+
+      -- a NEW BOARD is alike, and with it every answer of the calls on it (AlikeCalls.antt),
+      pub new-lowered : AlikeAnswers (new height width cells) (new height width (lowered cells))
+      new-lowered = new-alike height width cells (lowered cells) accepted lowered-accepted lowered-alike
+
+      -- and JUDGE answers the same
+      pub judge-lowered : (bytes : List ℕ) → judge height width cells bytes ≡ judge height width (lowered cells) bytes
+      judge-lowered bytes = judge-alike height width cells (lowered cells) accepted lowered-accepted lowered-alike bytes

@@ -1,1 +1,1 @@
-// A search depends on the codes of a grid only by which pads carry equal codes: theory only, in specs/.
+// The router depends on the codes of a grid only by which pads carry equal codes: theory only, in specs/.

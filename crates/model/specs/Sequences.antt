@@ -263,7 +263,7 @@ Sequence-16 =
     ∷ after 1 (0 ∷ 1 ∷ 0 ∷ 1 ∷ 0 ∷ 1 ∷ 0 ∷ 1 ∷ 0 ∷ 1 ∷ 0 ∷ 2 ∷ 0 ∷ 2 ∷ 0 ∷ 2 ∷ 0 ∷ 1 ∷ 0 ∷ 2 ∷ 0 ∷ 1 ∷ 0 ∷ 1 ∷ 0 ∷ 2 ∷ 0 ∷ 1 ∷ 0 ∷ 2 ∷ 0 ∷ 2 ∷ 0 ∷ 1 ∷ 0 ∷ 1 ∷ 0 ∷ 2 ∷ 0 ∷ 1 ∷ 0 ∷ 2 ∷ 0 ∷ 2 ∷ 0 ∷ 1 ∷ 0 ∷ 2 ∷ 0 ∷ 2 ∷ 0 ∷ 1 ∷ 0 ∷ 1 ∷ 0 ∷ 1 ∷ 0 ∷ 1 ∷ 0 ∷ 1 ∷ 0 ∷ 2 ∷ 0 ∷ []) ((negsuc 0) ∷ (negsuc 0) ∷ (negsuc 0) ∷ (negsuc 0) ∷ (negsuc 0) ∷ (negsuc 0) ∷ (pos 19) ∷ (negsuc 0) ∷ (negsuc 0) ∷ (negsuc 0) ∷ (negsuc 0) ∷ (negsuc 3) ∷ (negsuc 0) ∷ (negsuc 0) ∷ (negsuc 0) ∷ (negsuc 0) ∷ (negsuc 0) ∷ (negsuc 0) ∷ (negsuc 0) ∷ (pos 6) ∷ []) true
     ∷ []
 
--- the least and the largest code
+-- the least code and the largest that the Rust can be asked about
 -- Refuses: (d) undo that forgets the flag; undo that forgets the ends; (h) no flag test after a pad check; the second pad checked before
 -- the first; different clue ends not kept apart; equal clue ends kept apart too
 abbrev Sequence-17 : Type 0

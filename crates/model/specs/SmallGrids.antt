@@ -1,4 +1,4 @@
--- The search against the rules on two dozen small grids, with holes and without, by computation: all drawings are enumerated in ascending
+-- The search against the rules on small grids, with holes and wide codes and without, by computation: all drawings are enumerated in ascending
 -- order of their codes, those that keep the rules of a listed layout are picked out by a test, and the search must list exactly these. The
 -- test is written from document 01's section on layouts and knows nothing of boards and ends: it counts lines and labels chains.
 use Prim.Native.Nat.{ℕ, zero, suc, _+_, _-_, _%_, _/_}
@@ -128,7 +128,7 @@ pub record SmallGrids : Type 0 where
   pub pair-3-2 : Agree 3 2 (pos 7 ∷ o ∷ o ∷ o ∷ o ∷ pos 7 ∷ [])
   pub four-3-2 : Agree 3 2 (pos 1 ∷ pos 1 ∷ o ∷ o ∷ pos 1 ∷ pos 1 ∷ [])
   pub turned-3-2 : Agree 3 2 (o ∷ pos 0 ∷ pos 0 ∷ pos 3 ∷ pos 3 ∷ o ∷ [])
-  -- codes that 32 bits do not hold: equal ones are joined, and none with the code that is left of it in 31 bits, or with its neighbour
+  -- codes that 31 bits do not hold: equal ones are joined, and none is joined to what 31 bits hold of it, or to the next code
   pub wide-pair-2-2 : Agree 2 2 (pos 4294967295 ∷ o ∷ o ∷ pos 4294967295 ∷ [])
   pub wide-and-low-2-3 : Agree 2 3 (pos 3100000012 ∷ pos 952516364 ∷ o ∷ pos 3100000012 ∷ pos 952516364 ∷ o ∷ [])
   pub wide-beside-0-2-2 : Agree 2 2 (pos 0 ∷ pos 2147483648 ∷ pos 2147483648 ∷ pos 0 ∷ [])

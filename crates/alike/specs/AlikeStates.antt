@@ -1,41 +1,36 @@
 -- On alike grids the boards are alike: decisions and pad checks take alike states to alike states, and the fresh boards are alike. Every
--- function of Board.antt has one law here, alike in, alike out. It rests on Alike.antt and on the model's Board.antt.
+-- function of Board.antt has one law here, alike in, alike out. It rests on AlikeEnds.antt and on the model's Board.antt.
 use Prim.Native.Nat.{ℕ, zero, suc, _+_}
 use mathlib.Core.Path.{_≡_, refl, sym, ap}
-use mathlib.Core.Bool.{Bool, true, false, _&&_, _||_, not, true≢false, false≢true}
+use mathlib.Core.Bool.{Bool, true, false, _&&_, _||_, not}
 use mathlib.Core.List.{List, [], _∷_, _++_}
 use lib.Dec.{eqb, ltb, leb}
-use Rattle.rules.specs.Grid.{Edge, right, down, first, second, Cell, blank, clue, hole, Grid, pads}
+use Rattle.rules.specs.Grid.{Edge, right, down, first, second, Cell, clue, Grid, pads}
 use Rattle.rules.specs.Drawing.{Side, on-left, on-right}
-use Rattle.model.specs.JoinedEnds.{End, through, at-pad, at-clue, bare-end, unjoinable, pick-end, put-end, put-end-at, joined-ends}
+use Rattle.model.specs.JoinedEnds.{End}
 use Rattle.model.specs.Board.{EdgeState, undecided, line, none, isLine, isUndecided, sameState, sameEdge, State, set-edge, set-flag, Item, detour, corner, bar, check-pad, keep-apart, settle, isBlank, isHole, detours, when, check-end, other-clue, lines, undecideds, Decide, Check, decide-first, line-or-none, keep-aparts, has-left, has-right, has-down, has-up, on-board, has-side, diagonal, barred, shape-items, around, degree, settled, do-item, do-items, check-items, cannot-join, join-ends, after-store, decide, check, enough, bare, shut, shut-at, prepared, fresh}
 use Rattle.alike.specs.Alike.{Alike, same-clues, recoded, of-one-size}
-
--- ALIKE ENDS: both are through, both at the same pad, or both at clues whose codes one pad carries in the two grids
-pub data AlikeEnds (g h : Grid) : End → End → Type 0 where
-  both-through : AlikeEnds g h through through
-  both-at-pad : (v : ℕ) → AlikeEnds g h (at-pad v) (at-pad v)
-  both-at-clue : {c d : ℕ} (v : ℕ) → g .cell v ≡ clue c → h .cell v ≡ clue d → AlikeEnds g h (at-clue c) (at-clue d)
+use Rattle.alike.specs.AlikeEnds.{AlikeEnds, both-through, both-at-pad, both-at-clue, AlikeEverywhere, joined-alike, unjoinable-alike, bare-end-alike}
 
 -- ALIKE STATES: the same edges, the same flag, alike ends at every pad
 pub record AlikeStates (g h : Grid) (S T : State) : Type 0 where
   pub same-edges : S .edge ≡ T .edge
-  pub alike-ends : (v : ℕ) → AlikeEnds g h (S .end v) (T .end v)
+  pub alike-ends : AlikeEverywhere g h (S .end) (T .end)
   pub same-flag : S .flag ≡ T .flag
 
 -- what an item leaves: alike states, and the calls both end there or both go on
 abbrev AlikeDone : Grid → Grid → State × Bool → State × Bool → Type 0
 AlikeDone g h p q = AlikeStates g h (p .0) (q .0) × (p .1 ≡ q .1)
 
--- the decisions and checks of two grids take alike states to alike states
-record AlikeCalls (g h : Grid) (dec dec′ : Decide) (chk chk′ : Check) : Type 0 where
+-- the decisions and checks of two grids keep states alike
+record KeepAlike (g h : Grid) (dec dec′ : Decide) (chk chk′ : Check) : Type 0 where
   decisions : {S T : State} (e : Edge) (m : EdgeState) → AlikeStates g h S T → AlikeStates g h (dec e m S) (dec′ e m T)
   checks : {S T : State} (v : ℕ) → AlikeStates g h S T → AlikeStates g h (chk v S) (chk′ v T)
 
--- two lists of items, related one by one
-data OneByOne (Related : Item → Item → Type 0) : List Item → List Item → Type 0 where
+-- ONE BY ONE: two lists of one length, each element related to the one at its place
+pub data OneByOne {A : Type 0} (Related : A → A → Type 0) : List A → List A → Type 0 where
   no-more : OneByOne Related [] []
-  one-more : {a b : Item} {is js : List Item} → Related a b → OneByOne Related is js → OneByOne Related (a ∷ is) (b ∷ js)
+  one-more : {a b : A} {more others : List A} → Related a b → OneByOne Related more others → OneByOne Related (a ∷ more) (b ∷ others)
 
 -- what is counted by the edges alone
 module _ {g h : Grid} {S T : State} (r : AlikeStates g h S T) where
@@ -61,38 +56,6 @@ module _ (g : Grid) (cell : ℕ → Cell) (alike : Alike g (recoded g cell)) whe
 
   abbrev States : State → State → Type 0
   States S T = AlikeStates g h S T
-
-  -- ENDS
-  pick-alike : {X Y A B : End} (b : Bool) → Ends X Y → Ends A B → Ends (pick-end b X A) (pick-end b Y B)
-  pick-alike true x a = x
-  pick-alike false x a = a
-
-  abbrev AllEnds : (ℕ → End) → (ℕ → End) → Type 0
-  AllEnds A B = (v : ℕ) → Ends (A v) (B v)
-
-  put-alike : {A B : ℕ → End} (v : ℕ) {X Y : End} → AllEnds A B → Ends X Y → AllEnds (put-end A v X) (put-end B v Y)
-  unfolding put-end
-  put-alike v all x u = pick-alike (eqb u v) x (all u)
-
-  put-at-alike : {A B : ℕ → End} {P Q X Y : End} → AllEnds A B → Ends P Q → Ends X Y → AllEnds (put-end-at A P X) (put-end-at B Q Y)
-  unfolding put-end-at
-  put-at-alike all both-through x = all
-  put-at-alike all (both-at-pad v) x = put-alike v all x
-  put-at-alike all (both-at-clue v p q) x = all
-
-  joined-alike : {A B : ℕ → End} (u v : ℕ) {P Q X Y : End} → AllEnds A B → Ends P Q → Ends X Y → AllEnds (joined-ends A u v P X) (joined-ends B u v Q Y)
-  unfolding joined-ends
-  joined-alike u v all p x = put-at-alike (put-at-alike (put-alike v (put-alike u all both-through) both-through) p x) x p
-
-  unjoinable-alike : {A B C D : End} → Ends A C → Ends B D → (v : ℕ) → unjoinable C D v ≡ unjoinable A B v
-  unfolding unjoinable
-  unjoinable-alike both-through b v = refl
-  unjoinable-alike (both-at-pad u) both-through v = refl
-  unjoinable-alike (both-at-pad u) (both-at-pad w) v = refl
-  unjoinable-alike (both-at-pad u) (both-at-clue w p q) v = refl
-  unjoinable-alike (both-at-clue u m n) both-through v = refl
-  unjoinable-alike (both-at-clue u m n) (both-at-pad w) v = refl
-  unjoinable-alike (both-at-clue u m n) (both-at-clue w p q) v = ap (λ b. not b || false) (sym (alike .equal-codes u w _ _ _ _ m p n q))
 
   other-clue-alike : {A B : End} (v c d : ℕ) → g .cell v ≡ clue c → cell v ≡ clue d → Ends A B → other-clue d B ≡ other-clue c A
   other-clue-alike v c d m n both-through = refl
@@ -122,7 +85,7 @@ module _ (g : Grid) (cell : ℕ → Cell) (alike : Alike g (recoded g cell)) whe
 
   cannot-join-alike : {S T : State} (e : Edge) → States S T → cannot-join h e T ≡ cannot-join g e S
   unfolding cannot-join
-  cannot-join-alike e r = unjoinable-alike (r .alike-ends (first e)) (r .alike-ends (second (g .width) e)) (second (g .width) e)
+  cannot-join-alike e r = unjoinable-alike alike (r .alike-ends (first e)) (r .alike-ends (second (g .width) e)) (second (g .width) e)
 
   barred-alike : (side : Side) (n v : ℕ) → barred h side n v ≡ barred g side n v
   unfolding barred
@@ -135,7 +98,7 @@ module _ (g : Grid) (cell : ℕ → Cell) (alike : Alike g (recoded g cell)) whe
   degree-alike r v = rw (← same-clues alike v, lines-same r (around g v)) refl
 
   -- ITEMS, by what the decisions and checks below them do
-  module _ {dec dec′ : Decide} {chk chk′ : Check} (calls : AlikeCalls g h dec dec′ chk chk′) where
+  module _ {dec dec′ : Decide} {chk chk′ : Check} (calls : KeepAlike g h dec dec′ chk chk′) where
     abbrev AlikeItem : Item → Item → Type 0
     AlikeItem a b = (S T : State) → States S T → AlikeDone g h (do-item g dec chk a S) (do-item h dec′ chk′ b T)
 
@@ -217,10 +180,10 @@ module _ (g : Grid) (cell : ℕ → Cell) (alike : Alike g (recoded g cell)) whe
     items-alike : {is js : List Item} → AlikeItems is js → (S T : State) → States S T → States (do-items g dec chk is S) (do-items h dec′ chk′ js T)
     unfolding do-items
     items-alike no-more S T r = r
-    items-alike (one-more {a} {b} {is} {js} x rest) S T r = go (do-item g dec chk a S .1) refl (items-alike rest _ _ (x S T r .0))
+    items-alike (one-more {a} {b} {more} {others} x rest) S T r = go (do-item g dec chk a S .1) refl (items-alike rest _ _ (x S T r .0))
       where
-        go : (t : Bool) → do-item g dec chk a S .1 ≡ t → States (do-items g dec chk is (do-item g dec chk a S .0)) (do-items h dec′ chk′ js (do-item h dec′ chk′ b T .0))
-            → States (do-items g dec chk (a ∷ is) S) (do-items h dec′ chk′ (b ∷ js) T)
+        go : (t : Bool) → do-item g dec chk a S .1 ≡ t → States (do-items g dec chk more (do-item g dec chk a S .0)) (do-items h dec′ chk′ others (do-item h dec′ chk′ b T .0))
+            → States (do-items g dec chk (a ∷ more) S) (do-items h dec′ chk′ (b ∷ others) T)
         go true k later = rw (← x S T r .1, k, do-items) (x S T r .0)
         go false k later = rw (← x S T r .1, k, do-items) later
 
@@ -276,12 +239,12 @@ module _ (g : Grid) (cell : ℕ → Cell) (alike : Alike g (recoded g cell)) whe
             _ _ (join-alike e r))
 
   -- THE INDUCTION over the bound on the nesting
-  calls-alike : (f : ℕ) → AlikeCalls g h (λ e m S. decide g f e m S) (λ e m S. decide h f e m S) (λ v S. check g f v S) (λ v S. check h f v S)
+  calls-alike : (f : ℕ) → KeepAlike g h (λ e m S. decide g f e m S) (λ e m S. decide h f e m S) (λ v S. check g f v S) (λ v S. check h f v S)
   unfolding decide
   calls-alike zero = record { decisions = λ e m r. flag-alike r; checks = λ v r. flag-alike r }
   calls-alike (suc f) = record { decisions = λ e m r. decided (calls-alike f) e m _ _ r; checks = λ v r. items-alike (calls-alike f) (check-items-alike (calls-alike f) v (r .alike-ends v)) _ _ r }
     where
-      decided : AlikeCalls g h (λ e m S. decide g f e m S) (λ e m S. decide h f e m S) (λ v S. check g f v S) (λ v S. check h f v S)
+      decided : KeepAlike g h (λ e m S. decide g f e m S) (λ e m S. decide h f e m S) (λ v S. check g f v S) (λ v S. check h f v S)
           → (e : Edge) (m : EdgeState) (S T : State) → States S T → States (decide g (suc f) e m S) (decide h (suc f) e m T)
       decided calls e m S T r = go (on-board g e) refl (isUndecided (S .edge e)) refl (sameState (S .edge e) m) refl
         where
@@ -292,23 +255,9 @@ module _ (g : Grid) (cell : ℕ → Cell) (alike : Alike g (recoded g cell)) whe
           go true on false k false w = rw (on, edge-same r e, k, decide) (rw (edge-same r e, w) (flag-alike r))
 
   -- THE FRESH BOARD
-  bare-end-alike : (v : ℕ) → Ends (bare-end v (g .cell v)) (bare-end v (cell v))
-  bare-end-alike v = go (g .cell v) refl (cell v) refl (alike .same-blanks v) (alike .same-holes v)
-    where
-      go : (C : Cell) → g .cell v ≡ C → (D : Cell) → cell v ≡ D → isBlank C ≡ isBlank D → isHole C ≡ isHole D → Ends (bare-end v C) (bare-end v D)
-      go blank p blank q same-blank same-hole = both-at-pad v
-      go blank p (clue d) q same-blank same-hole = absurd (true≢false same-blank)
-      go blank p hole q same-blank same-hole = both-at-pad v
-      go (clue c) p blank q same-blank same-hole = absurd (false≢true same-blank)
-      go (clue c) p (clue d) q same-blank same-hole = both-at-clue v p q
-      go (clue c) p hole q same-blank same-hole = absurd (false≢true same-hole)
-      go hole p blank q same-blank same-hole = both-at-pad v
-      go hole p (clue d) q same-blank same-hole = absurd (true≢false same-hole)
-      go hole p hole q same-blank same-hole = both-at-pad v
-
   bare-alike : States (bare g) (bare h)
   unfolding bare
-  bare-alike = record { same-edges = refl; alike-ends = bare-end-alike; same-flag = refl }
+  bare-alike = record { same-edges = refl; alike-ends = bare-end-alike alike; same-flag = refl }
 
   shut-alike : (l : List (Edge × ℕ)) (S T : State) → States S T → States (shut g l S) (shut h l T)
   unfolding shut enough
