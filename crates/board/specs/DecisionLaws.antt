@@ -93,7 +93,7 @@ module _ (b : Board) (B : model.Board) (held : Held b B) (y x : ℕ) where
 
 -- THE FRESH BOARD
 pub fresh-held : (g : Grid) (edges : List ℕ) (ends : List ℤ) (kind : List ℕ) (count : ℕ) (log : List ℤ) (marks : List ℕ)
-    → FreshBoard g edges ends kind count → length log ≡ 2048 → length marks ≡ 256
+    → FreshBoard g edges ends kind count → length log ≡ 1440 → length marks ≡ 256
     → Held (record { edges = edges; ends = ends; log = log; kind = kind; count = count; fresh = count; marks = marks; standing = 0 }) (model.fresh-board g)
 unfolding model.fresh-board standing-marks
 fresh-held g edges ends kind count log marks new long many = record {

@@ -54,21 +54,21 @@ module _ (width : ℕ) (s t : Arrays) (since : Since width s t) (mark : ℕ) (lo
   since-before = record { more = 0; longer = omega arith; kept = λ i k. since .kept i (omega arith); back = same-before }
 
 -- WHAT IS TRUE OF EVERY BOARD'S ARRAYS asks of the log only its length and its first entries
-entry-kept : (told : Grid) (log others : List ℤ) (k : ℕ) → ((i : ℕ) → i < 4 * k + 3 → getD others i (pos 0) ≡ getD log i (pos 0)) → Entry told log k → Entry told others k
+entry-kept : (told : Grid) (log others : List ℤ) (k : ℕ) → ((i : ℕ) → i < 3 * k + 3 → getD others i (pos 0) ≡ getD log i (pos 0)) → Entry told log k → Entry told others k
 entry-kept told log others k kept entry = record {
-  number = rw (kept (4 * k) (omega arith)) (entry .number);
-  on = rw (kept (4 * k) (omega arith)) (entry .on);
-  first = rw (kept (4 * k + 1) (omega arith)) (entry .first);
-  second = rw (kept (4 * k + 1) (omega arith), kept (4 * k + 2) (omega arith)) (entry .second);
+  number = rw (kept (3 * k) (omega arith)) (entry .number);
+  on = rw (kept (3 * k) (omega arith)) (entry .on);
+  first = rw (kept (3 * k + 1) (omega arith)) (entry .first);
+  second = rw (kept (3 * k + 1) (omega arith), kept (3 * k + 2) (omega arith)) (entry .second);
 }
 
-ready-log : (told : Grid) (s : Arrays) (log : List ℤ) → length log ≡ 2048 → ((i : ℕ) → i < 4 * logged s → getD log i (pos 0) ≡ getD (s .log) i (pos 0))
+ready-log : (told : Grid) (s : Arrays) (log : List ℤ) → length log ≡ 1440 → ((i : ℕ) → i < 3 * logged s → getD log i (pos 0) ≡ getD (s .log) i (pos 0))
     → Ready told s → Ready told (record { edges = s .edges; ends = s .ends; log = log; count = s .count })
 ready-log told s log long kept ready = relogged told s log (s .count) ready long (ready .mode) (omega arith)
     (λ k below. entry-kept told (s .log) log k (λ i low. kept i (omega arith)) (ready .entries k below))
 
 module _ (told g : Grid) where
-  ready-before : (s t : Arrays) → Since (told .width) s t → length (t .log) ≡ 2048 → (mark : ℕ) → mark % 1024 ≤ logged s
+  ready-before : (s t : Arrays) → Since (told .width) s t → length (t .log) ≡ 1440 → (mark : ℕ) → mark % 1024 ≤ logged s
       → Ready told (back-to (told .width) s mark) → Ready told (back-to (told .width) t mark)
   unfolding back-to
   ready-before s t since long mark low ready =
@@ -80,7 +80,7 @@ module _ (told g : Grid) where
   view-before s t since mark low = rw (same-before (told .width) s t since mark low) refl
 
   -- THE PAST STAYS: what is decided later is undone first
-  pub past-since : {start : ℕ} → start % 1024 ≡ 0 → (s t : Arrays) {marks : List ℕ} {states : List State} → Since (told .width) s t → length (t .log) ≡ 2048
+  pub past-since : {start : ℕ} → start % 1024 ≡ 0 → (s t : Arrays) {marks : List ℕ} {states : List State} → Since (told .width) s t → length (t .log) ≡ 1440
       → Past told g start s marks states → Past told g start t marks states
   unfolding back-to
   past-since {start} empty s t since long (begun ready shows) = begun (ready-before s t since long start (omega arith) ready) (view-before s t since start (omega arith) ∙ shows)

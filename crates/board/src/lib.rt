@@ -28,7 +28,7 @@ const MOST_CHECKPOINTS: usize = 256;
 pub struct Board {
     edges: [u8; 1024],
     ends: [i64; 512],
-    log: [i64; 2048],
+    log: [i64; 1440],
     kind: [u8; 1024],
     count: usize,
     fresh: usize,
@@ -71,7 +71,7 @@ fn pads_at(kind: &[u8; 1024], y: usize, x: usize) -> Pads
 fn decide_pads(
     edges: &mut [u8; 1024],
     ends: &mut [i64; 512],
-    log: &mut [i64; 2048],
+    log: &mut [i64; 1440],
     kind: &[u8; 1024],
     pads: Pads,
     line: bool,
@@ -94,10 +94,10 @@ fn flag_number(count: usize) -> usize
     if count < FLAGGED { 0 } else { 1 }
 }
 
-fn no_entries() -> [i64; 2048]
-    ensures { λ r. ⌜ length r ≡ 2048 ⌝ }
+fn no_entries() -> [i64; 1440]
+    ensures { λ r. ⌜ length r ≡ 1440 ⌝ }
 {
-    [0; 2048]
+    [0; 1440]
 }
 
 fn no_bytes() -> [u8; 961]

@@ -26,7 +26,7 @@ use Rattle.boardbare.specs.Room.{room}
 pub record BareBoard (g : Grid) (edges : List ℕ) (ends : List ℤ) (kind : List ℕ) : Type 0 where
   pub kinds : Kinds kind
   pub told : Shows g kind
-  pub ready : (log : List ℤ) → length log ≡ 2048 → Ready (grid-in kind) (record { edges = edges; ends = ends; log = log; count = 0 })
+  pub ready : (log : List ℤ) → length log ≡ 1440 → Ready (grid-in kind) (record { edges = edges; ends = ends; log = log; count = 0 })
   pub shows : (log : List ℤ) → view (record { edges = edges; ends = ends; log = log; count = 0 }) ≡ bare g
 
 -- the cells of an accepted grid are in range
@@ -165,7 +165,7 @@ module _ (height width : ℕ) (cells : List ℤ) (ok : Accepted height width cel
     abbrev the-arrays : List ℤ → Arrays
     the-arrays log = record { edges = edges; ends = ends; log = log; count = 0 }
 
-    ready-told : (log : List ℤ) → length log ≡ 2048 → Ready (plain the-grid) (the-arrays log)
+    ready-told : (log : List ℤ) → length log ≡ 1440 → Ready (plain the-grid) (the-arrays log)
     unfolding plain grid-of
     ready-told log long = record {
       edges-long = filled-edges .as-long;

@@ -25,7 +25,7 @@ restarted count = pick (ltb count 1024) 0 2048
 pub record FreshBoard (g : Grid) (edges : List ℕ) (ends : List ℤ) (kind : List ℕ) (count : ℕ) : Type 0 where
   pub kinds : Kinds kind
   pub told : Shows g kind
-  pub ready : (log : List ℤ) → length log ≡ 2048 → Ready (grid-in kind) (record { edges = edges; ends = ends; log = log; count = count })
+  pub ready : (log : List ℤ) → length log ≡ 1440 → Ready (grid-in kind) (record { edges = edges; ends = ends; log = log; count = count })
   pub shows : (log : List ℤ) → view (record { edges = edges; ends = ends; log = log; count = count }) ≡ fresh g
   pub no-entries : count % 1024 ≡ 0
 
@@ -51,7 +51,7 @@ module _ (g : Grid) (s : Arrays) (log : List ℤ) where
   unfolding view
   view-anew = λ i. record { edge = view s .edge; end = view s .end; flag = restart (s .count) .same-flag i }
 
-  ready-anew : Ready g s → length log ≡ 2048 → Ready g anew
+  ready-anew : Ready g s → length log ≡ 1440 → Ready g anew
   ready-anew ready long = let r = restart (s .count) in
       relogged g s log (restarted (s .count)) ready long (r .in-mode) (omega (arith, r .empty)) (λ k below. absurd (omega (arith, r .empty)))
 

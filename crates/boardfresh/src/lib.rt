@@ -33,7 +33,7 @@ fn is_hole(kind: &[u8; 1024], v: usize) -> bool
 fn shut_edge(
     edges: &mut [u8; 1024],
     ends: &mut [i64; 512],
-    log: &mut [i64; 2048],
+    log: &mut [i64; 1440],
     kind: &[u8; 1024],
     slot: usize,
     count: usize,
@@ -52,7 +52,7 @@ fn shut_edge(
 fn shut_pad(
     edges: &mut [u8; 1024],
     ends: &mut [i64; 512],
-    log: &mut [i64; 2048],
+    log: &mut [i64; 1440],
     kind: &[u8; 1024],
     v: usize,
     count: usize,
@@ -75,7 +75,7 @@ fn shut_pad(
 fn shut_holes(
     edges: &mut [u8; 1024],
     ends: &mut [i64; 512],
-    log: &mut [i64; 2048],
+    log: &mut [i64; 1440],
     kind: &[u8; 1024],
 ) -> usize
     requires { ⌜ Kinds (now kind) × Ready (grid-in (now kind)) (record { edges = now edges; ends = now ends; log = now log; count = 0 }) ⌝ }
@@ -119,7 +119,7 @@ pub fn fresh_board(height: usize, width: usize, cells: &[i64]) -> Fresh
     let mut edges = bare.edges;
     let mut ends = bare.ends;
     let kind = bare.kind;
-    let mut log = [0i64; 2048];
+    let mut log = [0i64; 1440];
     let count = shut_holes(&mut edges, &mut ends, &mut log, &kind);
     Fresh {
         edges,

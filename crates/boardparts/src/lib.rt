@@ -202,22 +202,22 @@ pub fn cannot_join(ends: &[i64; 512], v: usize, q: usize) -> bool
 }
 
 // Stores the state of an edge, and an entry of the log for it.
-pub fn store(edges: &mut [u8; 1024], log: &mut [i64; 2048], slot: usize, state: u8, count: usize)
+pub fn store(edges: &mut [u8; 1024], log: &mut [i64; 1440], slot: usize, state: u8, count: usize)
     requires { ⌜ (slot < 1024) × (count % 1024 < 480) ⌝ }
     ensures { λ _. ⌜ (now (edges .exit) ≡ set (now (edges .entry)) slot state) × (now (log .exit) ≡ log-stored (now (log .entry)) (count % 1024) slot) ⌝ }
 {
-    let k = 4 * (count % FLAGGED);
+    let k = 3 * (count % FLAGGED);
     edges[slot] = state;
     log[k] = slot as i64;
     log[k + 1] = -1;
 }
 
 // Stores an entry of the log for a line that joins the chains of pads v and q.
-fn log_line(ends: &[i64; 512], log: &mut [i64; 2048], slot: usize, v: usize, q: usize, count: usize)
+fn log_line(ends: &[i64; 512], log: &mut [i64; 1440], slot: usize, v: usize, q: usize, count: usize)
     requires { ⌜ (slot < 1024) × (v < 512) × (q < 512) × (count % 1024 < 480) × (length (now ends) ≡ 512) ⌝ }
     ensures { λ _. ⌜ now (log .exit) ≡ log-joined (now (log .entry)) (count % 1024) slot (getD (now (ends .entry)) v (pos v)) (getD (now (ends .entry)) q (pos q)) ⌝ }
 {
-    let k = 4 * (count % FLAGGED);
+    let k = 3 * (count % FLAGGED);
     log[k] = slot as i64;
     log[k + 1] = ends[v];
     log[k + 2] = ends[q];
@@ -253,7 +253,7 @@ pub fn join_ends(ends: &mut [i64; 512], v: usize, q: usize)
 pub fn begin_line(
     edges: &mut [u8; 1024],
     ends: &mut [i64; 512],
-    log: &mut [i64; 2048],
+    log: &mut [i64; 1440],
     slot: usize,
     v: usize,
     q: usize,

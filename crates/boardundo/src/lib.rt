@@ -12,8 +12,8 @@ use grid::Edge;
 const UNDECIDED: u8 = Edge::UNDECIDED.0;
 
 // The pad that the number at an index of the log names, or 512.
-fn logged_pad(log: &[i64; 2048], i: usize) -> usize
-    requires { ⌜ i < 2048 ⌝ }
+fn logged_pad(log: &[i64; 1440], i: usize) -> usize
+    requires { ⌜ i < 1440 ⌝ }
     ensures { λ r. ⌜ r ≡ pad-number (end-of (getD (now (log .entry)) i (pos 0))) ⌝ }
 {
     let a = log[i];
@@ -24,17 +24,17 @@ fn logged_pad(log: &[i64; 2048], i: usize) -> usize
 }
 
 // Gives back the ends of an entry: those of its pads v and q, and at the pads that these ends name, v and q.
-fn unjoin(ends: &mut [i64; 512], log: &[i64; 2048], k: usize, v: usize, q: usize)
+fn unjoin(ends: &mut [i64; 512], log: &[i64; 1440], k: usize, v: usize, q: usize)
     requires { ⌜ (k < 480) × (v < 512) × (q < 512) × (length (now ends) ≡ 512) ⌝ }
-    ensures { λ _. ⌜ now (ends .exit) ≡ unjoined v q (getD (now (log .entry)) (4 * k + 1) (pos 0)) (getD (now (log .entry)) (4 * k + 2) (pos 0)) (now (ends .entry)) ⌝ }
+    ensures { λ _. ⌜ now (ends .exit) ≡ unjoined v q (getD (now (log .entry)) (3 * k + 1) (pos 0)) (getD (now (log .entry)) (3 * k + 2) (pos 0)) (now (ends .entry)) ⌝ }
 {
-    let a = log[4 * k + 1];
+    let a = log[3 * k + 1];
     if a == -1 {
         return;
     }
-    let b = log[4 * k + 2];
-    let p = logged_pad(log, 4 * k + 1);
-    let o = logged_pad(log, 4 * k + 2);
+    let b = log[3 * k + 2];
+    let p = logged_pad(log, 3 * k + 1);
+    let o = logged_pad(log, 3 * k + 2);
     ends[v] = a;
     ends[q] = b;
     if p < 512 {
@@ -52,18 +52,18 @@ fn unjoin(ends: &mut [i64; 512], log: &[i64; 2048], k: usize, v: usize, q: usize
 }
 
 // The slot of an entry.
-fn logged_slot(log: &[i64; 2048], k: usize) -> usize
-    requires { ⌜ (k < 480) × (getD (now log) (4 * k) (pos 0) ≡ pos (slot-logged (now log) k)) ⌝ }
+fn logged_slot(log: &[i64; 1440], k: usize) -> usize
+    requires { ⌜ (k < 480) × (getD (now log) (3 * k) (pos 0) ≡ pos (slot-logged (now log) k)) ⌝ }
     ensures { λ r. ⌜ r ≡ slot-logged (now (log .entry)) k ⌝ }
 {
-    log[4 * k] as usize
+    log[3 * k] as usize
 }
 
 // Undoes entry k.
 fn undo_one(
     edges: &mut [u8; 1024],
     ends: &mut [i64; 512],
-    log: &[i64; 2048],
+    log: &[i64; 1440],
     kind: &[u8; 1024],
     k: usize,
 )
@@ -81,7 +81,7 @@ fn undo_one(
 pub fn undo(
     edges: &mut [u8; 1024],
     ends: &mut [i64; 512],
-    log: &[i64; 2048],
+    log: &[i64; 1440],
     kind: &[u8; 1024],
     from: usize,
     to: usize,

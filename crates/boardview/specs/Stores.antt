@@ -62,7 +62,7 @@ next-count c h k = (omega arith, omega arith, go (leb 1024 c) refl)
     go false e = lt-leb 1024 (c + 1) (omega (arith, leb-false 1024 c e))
 
 -- THE SAME EDGES AND ENDS with another log and another count, of no more entries
-pub relogged : (g : Grid) (s : Arrays) (log : List ℤ) (c : ℕ) → Ready g s → length log ≡ 2048 → c < 3072 → c % 1024 ≤ logged s
+pub relogged : (g : Grid) (s : Arrays) (log : List ℤ) (c : ℕ) → Ready g s → length log ≡ 1440 → c < 3072 → c % 1024 ≤ logged s
     → ((k : ℕ) → k < c % 1024 → Entry g log k) → Ready g (record { edges = s .edges; ends = s .ends; log = log; count = c })
 relogged g s log c y long mode fewer entries = record {
   edges-long = y .edges-long;
@@ -104,7 +104,7 @@ module _ (g : Grid) (s : Arrays) (e : Edge) (y : Ready g s) (on : on-board g e �
   pub slot-inside : slot e < length (s .edges)
   slot-inside = omega (arith, pads-inside e on .2, y .edges-long)
 
-  pub log-room : 4 * logged s + 3 < length (s .log)
+  pub log-room : 3 * logged s + 2 < length (s .log)
   log-room = omega (arith, some-undecided (s .edges) (slot e) slot-inside z, y .room, y .log-long)
 
   pub few-logged : logged s < 480
@@ -124,11 +124,11 @@ module _ (g : Grid) (s : Arrays) (e : Edge) (y : Ready g s) (on : on-board g e �
   rim-stored b n h off = getD-set-other (s .edges) (slot e) n b 0 (λ q. conflict (edge-on g e ∙ on) (ap (slot-on g) (sym q) ∙ off)) ∙ y .rim n h off
 
   -- the entries of a longer log
-  entry-kept : (log : List ℤ) (n : ℕ) → ((i : ℕ) → i < 4 * logged s → getD log i (pos 0) ≡ getD (s .log) i (pos 0)) → n < logged s → Entry g log n
+  entry-kept : (log : List ℤ) (n : ℕ) → ((i : ℕ) → i < 3 * logged s → getD log i (pos 0) ≡ getD (s .log) i (pos 0)) → n < logged s → Entry g log n
   entry-kept log n h l = let t = y .entries n l in
-      let a : getD log (4 * n) (pos 0) ≡ getD (s .log) (4 * n) (pos 0) = h (4 * n) (omega arith) in
-      let b : getD log (4 * n + 1) (pos 0) ≡ getD (s .log) (4 * n + 1) (pos 0) = h (4 * n + 1) (omega arith) in
-      let d : getD log (4 * n + 2) (pos 0) ≡ getD (s .log) (4 * n + 2) (pos 0) = h (4 * n + 2) (omega arith) in
+      let a : getD log (3 * n) (pos 0) ≡ getD (s .log) (3 * n) (pos 0) = h (3 * n) (omega arith) in
+      let b : getD log (3 * n + 1) (pos 0) ≡ getD (s .log) (3 * n + 1) (pos 0) = h (3 * n + 1) (omega arith) in
+      let d : getD log (3 * n + 2) (pos 0) ≡ getD (s .log) (3 * n + 2) (pos 0) = h (3 * n + 2) (omega arith) in
       record {
         number = a ∙ (t .number ∙ ap (λ (z : ℤ). pos (natAbs z)) (sym a));
         on = ap (λ (z : ℤ). slot-on g (natAbs z)) a ∙ t .on;
@@ -136,8 +136,8 @@ module _ (g : Grid) (s : Arrays) (e : Edge) (y : Ready g s) (on : on-board g e �
         second = λ m x e. t .second (sym (ap (λ (z : ℤ). isThrough (end-of z)) b) ∙ m) x (sym (ap end-of d) ∙ e);
       }
 
-  entry-new : (log : List ℤ) (A B : ℤ) → getD log (4 * logged s) (pos 0) ≡ pos (slot e) → getD log (4 * logged s + 1) (pos 0) ≡ A
-      → ((a : ℕ) → end-of A ≡ at-pad a → a < pads g) → (isThrough (end-of A) ≡ false → (b : ℕ) → end-of (getD log (4 * logged s + 2) (pos 0)) ≡ at-pad b → b < pads g) → Entry g log (logged s)
+  entry-new : (log : List ℤ) (A B : ℤ) → getD log (3 * logged s) (pos 0) ≡ pos (slot e) → getD log (3 * logged s + 1) (pos 0) ≡ A
+      → ((a : ℕ) → end-of A ≡ at-pad a → a < pads g) → (isThrough (end-of A) ≡ false → (b : ℕ) → end-of (getD log (3 * logged s + 2) (pos 0)) ≡ at-pad b → b < pads g) → Entry g log (logged s)
   entry-new log A B p q ha hb = record {
     number = p ∙ ap (λ (z : ℤ). pos (natAbs z)) (sym p);
     on = ap (λ (z : ℤ). slot-on g (natAbs z)) p ∙ (edge-on g e ∙ on);

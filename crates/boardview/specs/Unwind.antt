@@ -29,14 +29,14 @@ unwound-split w log m j (suc i) E = ap (λ (n : ℕ). unwound w log m n E) more
     place : m + (j + i) ≡ m + j + i
     place = omega arith
 
-pub kept-unwound : (w : ℕ) (log log′ : List ℤ) (m j : ℕ) (E : List ℕ × List ℤ) → ((i : ℕ) → i < 4 * (m + j) → getD log′ i (pos 0) ≡ getD log i (pos 0))
+pub kept-unwound : (w : ℕ) (log log′ : List ℤ) (m j : ℕ) (E : List ℕ × List ℤ) → ((i : ℕ) → i < 3 * (m + j) → getD log′ i (pos 0) ≡ getD log i (pos 0))
     → unwound w log′ m j E ≡ unwound w log m j E
 unfolding unwound undone-one
 kept-unwound w log log′ m zero E h = refl
 kept-unwound w log log′ m (suc j) E h = ap (λ (x : List ℕ × List ℤ). unwound w log′ m j x) same ∙ kept-unwound w log log′ m j (undone-one w log (m + j) E) (λ i k. h i (omega arith))
   where
     same : undone-one w log′ (m + j) E ≡ undone-one w log (m + j) E
-    same = rw (h (4 * (m + j)) (omega arith), h (4 * (m + j) + 1) (omega arith), h (4 * (m + j) + 2) (omega arith)) refl
+    same = rw (h (3 * (m + j)) (omega arith), h (3 * (m + j) + 1) (omega arith), h (3 * (m + j) + 2) (omega arith)) refl
 
 -- SINCE
 pub since-still : (w : ℕ) (s : Arrays) (count : ℕ) → count % 1024 ≡ logged s → Since w s (record { edges = s .edges; ends = s .ends; log = s .log; count = count })
@@ -56,10 +56,10 @@ since-then w s s₁ s₂ a b = record {
 
 -- AN ENTRY: its slot, and the two ends
 abbrev pub log-stored : List ℤ → ℕ → ℕ → List ℤ
-log-stored log n s = set (set log (4 * n) (pos s)) (4 * n + 1) (negsuc 0)
+log-stored log n s = set (set log (3 * n) (pos s)) (3 * n + 1) (negsuc 0)
 
 abbrev pub log-joined : List ℤ → ℕ → ℕ → ℤ → ℤ → List ℤ
-log-joined log n s A B = set (set (set log (4 * n) (pos s)) (4 * n + 1) A) (4 * n + 2) B
+log-joined log n s A B = set (set (set log (3 * n) (pos s)) (3 * n + 1) A) (3 * n + 2) B
 
 -- A LINE BEGUN at slot n, between pads v and q: its byte and an entry of the log are stored; the ends of its pads are joined, or, where they
 -- cannot be, the flag is set and the decision has ended.
@@ -70,15 +70,15 @@ pub record LineBegun (s : Arrays) (n v q : ℕ) (s′ : Arrays) : Type 0 where
   pub joins : unjoinable (end-at (s .ends) v) (end-at (s .ends) q) q ≡ false
       → (s′ .ends ≡ joined v q (s .ends)) × (s′ .log ≡ log-joined (s .log) (logged s) n (getD (s .ends) v (pos v)) (getD (s .ends) q (pos q))) × (s′ .count ≡ going (s .count) + 1)
 
-module _ (log : List ℤ) (n s : ℕ) (h : 4 * n + 3 < length log) where
-  pub slot-stored : getD (log-stored log n s) (4 * n) (pos 0) ≡ pos s
-  slot-stored = getD-set-other (set log (4 * n) (pos s)) (4 * n + 1) (4 * n) (negsuc 0) (pos 0) (omega arith) ∙ getD-set-same log (4 * n) (pos s) (pos 0) (omega arith)
+module _ (log : List ℤ) (n s : ℕ) (h : 3 * n + 2 < length log) where
+  pub slot-stored : getD (log-stored log n s) (3 * n) (pos 0) ≡ pos s
+  slot-stored = getD-set-other (set log (3 * n) (pos s)) (3 * n + 1) (3 * n) (negsuc 0) (pos 0) (omega arith) ∙ getD-set-same log (3 * n) (pos s) (pos 0) (omega arith)
 
-  pub mark-stored : getD (log-stored log n s) (4 * n + 1) (pos 0) ≡ negsuc 0
-  mark-stored = getD-set-same (set log (4 * n) (pos s)) (4 * n + 1) (negsuc 0) (pos 0) (omega (arith, length-set log (4 * n) (pos s)))
+  pub mark-stored : getD (log-stored log n s) (3 * n + 1) (pos 0) ≡ negsuc 0
+  mark-stored = getD-set-same (set log (3 * n) (pos s)) (3 * n + 1) (negsuc 0) (pos 0) (omega (arith, length-set log (3 * n) (pos s)))
 
-  pub stored-kept : (i : ℕ) → i < 4 * n → getD (log-stored log n s) i (pos 0) ≡ getD log i (pos 0)
-  stored-kept i k = getD-set-other (set log (4 * n) (pos s)) (4 * n + 1) i (negsuc 0) (pos 0) (omega arith) ∙ getD-set-other log (4 * n) i (pos s) (pos 0) (omega arith)
+  pub stored-kept : (i : ℕ) → i < 3 * n → getD (log-stored log n s) i (pos 0) ≡ getD log i (pos 0)
+  stored-kept i k = getD-set-other (set log (3 * n) (pos s)) (3 * n + 1) i (negsuc 0) (pos 0) (omega arith) ∙ getD-set-other log (3 * n) i (pos s) (pos 0) (omega arith)
 
   -- undoing a stored edge
   edges-back : (b : ℕ) (edges : List ℕ) → getD edges s 0 ≡ 0 → set (set edges s b) s 0 ≡ edges
@@ -89,21 +89,21 @@ module _ (log : List ℤ) (n s : ℕ) (h : 4 * n + 3 < length log) where
   stored-back w b edges ends z = rw (slot-stored, mark-stored) (λ i. (edges-back b edges z i, ends))
 
   module _ (A B : ℤ) where
-    pub slot-joined : getD (log-joined log n s A B) (4 * n) (pos 0) ≡ pos s
-    slot-joined = getD-set-other (set (set log (4 * n) (pos s)) (4 * n + 1) A) (4 * n + 2) (4 * n) B (pos 0) (omega arith)
-        ∙ (getD-set-other (set log (4 * n) (pos s)) (4 * n + 1) (4 * n) A (pos 0) (omega arith) ∙ getD-set-same log (4 * n) (pos s) (pos 0) (omega arith))
+    pub slot-joined : getD (log-joined log n s A B) (3 * n) (pos 0) ≡ pos s
+    slot-joined = getD-set-other (set (set log (3 * n) (pos s)) (3 * n + 1) A) (3 * n + 2) (3 * n) B (pos 0) (omega arith)
+        ∙ (getD-set-other (set log (3 * n) (pos s)) (3 * n + 1) (3 * n) A (pos 0) (omega arith) ∙ getD-set-same log (3 * n) (pos s) (pos 0) (omega arith))
 
-    pub first-joined : getD (log-joined log n s A B) (4 * n + 1) (pos 0) ≡ A
-    first-joined = getD-set-other (set (set log (4 * n) (pos s)) (4 * n + 1) A) (4 * n + 2) (4 * n + 1) B (pos 0) (omega arith)
-        ∙ getD-set-same (set log (4 * n) (pos s)) (4 * n + 1) A (pos 0) (omega (arith, length-set log (4 * n) (pos s)))
+    pub first-joined : getD (log-joined log n s A B) (3 * n + 1) (pos 0) ≡ A
+    first-joined = getD-set-other (set (set log (3 * n) (pos s)) (3 * n + 1) A) (3 * n + 2) (3 * n + 1) B (pos 0) (omega arith)
+        ∙ getD-set-same (set log (3 * n) (pos s)) (3 * n + 1) A (pos 0) (omega (arith, length-set log (3 * n) (pos s)))
 
-    pub second-joined : getD (log-joined log n s A B) (4 * n + 2) (pos 0) ≡ B
-    second-joined = getD-set-same (set (set log (4 * n) (pos s)) (4 * n + 1) A) (4 * n + 2) B (pos 0)
-        (omega (arith, length-set (set log (4 * n) (pos s)) (4 * n + 1) A, length-set log (4 * n) (pos s)))
+    pub second-joined : getD (log-joined log n s A B) (3 * n + 2) (pos 0) ≡ B
+    second-joined = getD-set-same (set (set log (3 * n) (pos s)) (3 * n + 1) A) (3 * n + 2) B (pos 0)
+        (omega (arith, length-set (set log (3 * n) (pos s)) (3 * n + 1) A, length-set log (3 * n) (pos s)))
 
-    pub joined-kept : (i : ℕ) → i < 4 * n → getD (log-joined log n s A B) i (pos 0) ≡ getD log i (pos 0)
-    joined-kept i k = getD-set-other (set (set log (4 * n) (pos s)) (4 * n + 1) A) (4 * n + 2) i B (pos 0) (omega arith)
-        ∙ (getD-set-other (set log (4 * n) (pos s)) (4 * n + 1) i A (pos 0) (omega arith) ∙ getD-set-other log (4 * n) i (pos s) (pos 0) (omega arith))
+    pub joined-kept : (i : ℕ) → i < 3 * n → getD (log-joined log n s A B) i (pos 0) ≡ getD log i (pos 0)
+    joined-kept i k = getD-set-other (set (set log (3 * n) (pos s)) (3 * n + 1) A) (3 * n + 2) i B (pos 0) (omega arith)
+        ∙ (getD-set-other (set log (3 * n) (pos s)) (3 * n + 1) i A (pos 0) (omega arith) ∙ getD-set-other log (3 * n) i (pos s) (pos 0) (omega arith))
 
     -- undoing a joined line
     pub joined-back : (w b : ℕ) (edges : List ℕ) (ends ends′ : List ℤ) → getD edges s 0 ≡ 0 → unjoined (s / 2 - 16) (second-pad w s) A B ends′ ≡ ends
@@ -112,7 +112,7 @@ module _ (log : List ℤ) (n s : ℕ) (h : 4 * n + 3 < length log) where
     joined-back w b edges ends ends′ z e = rw (slot-joined, first-joined, second-joined) (λ i. (edges-back b edges z i, e i))
 
 -- one entry more
-pub since-one : (w : ℕ) (s s′ : Arrays) → logged s′ ≡ logged s + 1 → ((i : ℕ) → i < 4 * logged s → getD (s′ .log) i (pos 0) ≡ getD (s .log) i (pos 0))
+pub since-one : (w : ℕ) (s s′ : Arrays) → logged s′ ≡ logged s + 1 → ((i : ℕ) → i < 3 * logged s → getD (s′ .log) i (pos 0) ≡ getD (s .log) i (pos 0))
     → undone-one w (s′ .log) (logged s) (s′ .edges, s′ .ends) ≡ (s .edges, s .ends) → Since w s s′
 unfolding unwound
 since-one w s s′ h k b = record { more = 1; longer = h; kept = k; back = ap (λ (n : ℕ). undone-one w (s′ .log) n (s′ .edges, s′ .ends)) place ∙ b }
@@ -136,10 +136,10 @@ unfolding undone-one unjoined
 length-undone w log k E = go (isThrough (end-of A))
   where
     A : ℤ
-    A = getD log (4 * k + 1) (pos 0)
+    A = getD log (3 * k + 1) (pos 0)
 
     B : ℤ
-    B = getD log (4 * k + 2) (pos 0)
+    B = getD log (3 * k + 2) (pos 0)
 
     v : ℕ
     v = slot-logged log k / 2 - 16

@@ -154,7 +154,7 @@ unfoldable pub undecided-in : List ℕ → ℕ
 undecided-in [] = 0
 undecided-in (byte ∷ bytes) = pick (eqb byte 0) (suc (undecided-in bytes)) (undecided-in bytes)
 
--- THE LOG has an entry of four numbers for each decided edge: its slot, and the two ends where the line joined two chains; -1 in their
+-- THE LOG has an entry of three numbers for each decided edge: its slot, and the two ends where the line joined two chains; -1 in their
 -- place where it joined none. Undoing an entry: the edge is undecided again; the edge's two pads get back their ends, and the pads that
 -- these ends name (which are the ends of those pads: READY below, paired) get back the edge's pads.
 abbrev pub second-pad : ℕ → ℕ → ℕ
@@ -174,12 +174,12 @@ unfoldable pub unjoined : ℕ → ℕ → ℤ → ℤ → List ℤ → List ℤ
 unjoined v q A B ends = pick (isThrough (end-of A)) ends (put-number (end-of B) (pos q) (put-number (end-of A) (pos v) (set (set ends v A) q B)))
 
 abbrev pub slot-logged : List ℤ → ℕ → ℕ
-slot-logged log k = natAbs (getD log (4 * k) (pos 0))
+slot-logged log k = natAbs (getD log (3 * k) (pos 0))
 
 unfoldable pub undone-one : ℕ → List ℤ → ℕ → List ℕ × List ℤ → List ℕ × List ℤ
 undone-one width log k E = (
   set (E .0) (slot-logged log k) 0,
-  unjoined (slot-logged log k / 2 - 16) (second-pad width (slot-logged log k)) (getD log (4 * k + 1) (pos 0)) (getD log (4 * k + 2) (pos 0)) (E .1),
+  unjoined (slot-logged log k / 2 - 16) (second-pad width (slot-logged log k)) (getD log (3 * k + 1) (pos 0)) (getD log (3 * k + 2) (pos 0)) (E .1),
 )
 
 -- edges and ends after the last `more` entries of a log of length `least + more` are undone
@@ -189,16 +189,16 @@ unwound width log least (suc more) E = unwound width log least more (undone-one 
 
 -- an entry that can be undone: its slot is of an edge of the board, and the pads that its ends name are pads
 pub record Entry (g : Grid) (log : List ℤ) (k : ℕ) : Type 0 where
-  pub number : getD log (4 * k) (pos 0) ≡ pos (slot-logged log k)
+  pub number : getD log (3 * k) (pos 0) ≡ pos (slot-logged log k)
   pub on : slot-on g (slot-logged log k) ≡ true
-  pub first : (a : ℕ) → end-of (getD log (4 * k + 1) (pos 0)) ≡ at-pad a → a < pads g
-  pub second : isThrough (end-of (getD log (4 * k + 1) (pos 0))) ≡ false → (b : ℕ) → end-of (getD log (4 * k + 2) (pos 0)) ≡ at-pad b → b < pads g
+  pub first : (a : ℕ) → end-of (getD log (3 * k + 1) (pos 0)) ≡ at-pad a → a < pads g
+  pub second : isThrough (end-of (getD log (3 * k + 1) (pos 0))) ≡ false → (b : ℕ) → end-of (getD log (3 * k + 2) (pos 0)) ≡ at-pad b → b < pads g
 
 -- READY: what is true of the arrays of every board.
 pub record Ready (g : Grid) (s : Arrays) : Type 0 where
   pub edges-long : length (s .edges) ≡ 1024
   pub ends-long : length (s .ends) ≡ 512
-  pub log-long : length (s .log) ≡ 2048
+  pub log-long : length (s .log) ≡ 1440
   pub least-width : 2 ≤ g .width
   pub largest-width : g .width ≤ 16
   pub few-pads : pads g ≤ 256
@@ -214,7 +214,7 @@ pub record Ready (g : Grid) (s : Arrays) : Type 0 where
 pub record Since (width : ℕ) (s s′ : Arrays) : Type 0 where
   pub more : ℕ
   pub longer : logged s′ ≡ logged s + more
-  pub kept : (i : ℕ) → i < 4 * logged s → getD (s′ .log) i (pos 0) ≡ getD (s .log) i (pos 0)
+  pub kept : (i : ℕ) → i < 3 * logged s → getD (s′ .log) i (pos 0) ≡ getD (s .log) i (pos 0)
   pub back : unwound width (s′ .log) (logged s) more (s′ .edges, s′ .ends) ≡ (s .edges, s .ends)
 
 -- WHAT A DECISION OF ONE EDGE PROMISES.

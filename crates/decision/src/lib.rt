@@ -30,7 +30,7 @@ const NONE: u8 = Edge::NONE.0;
 pub fn decide_none(
     edges: &mut [u8; 1024],
     ends: &mut [i64; 512],
-    log: &mut [i64; 2048],
+    log: &mut [i64; 1440],
     kind: &[u8; 1024],
     slot: usize,
     count: usize,
@@ -56,7 +56,7 @@ pub fn decide_none(
 pub fn decide_line_right(
     edges: &mut [u8; 1024],
     ends: &mut [i64; 512],
-    log: &mut [i64; 2048],
+    log: &mut [i64; 1440],
     kind: &[u8; 1024],
     v: usize,
     count: usize,
@@ -108,7 +108,7 @@ pub fn decide_line_right(
 pub fn decide_line_down(
     edges: &mut [u8; 1024],
     ends: &mut [i64; 512],
-    log: &mut [i64; 2048],
+    log: &mut [i64; 1440],
     kind: &[u8; 1024],
     v: usize,
     count: usize,
@@ -162,7 +162,7 @@ pub fn decide_line_down(
 pub fn detour(
     edges: &mut [u8; 1024],
     ends: &mut [i64; 512],
-    log: &mut [i64; 2048],
+    log: &mut [i64; 1440],
     kind: &[u8; 1024],
     a: usize,
     b: usize,
@@ -189,7 +189,7 @@ pub fn detour(
 pub fn corner_right(
     edges: &mut [u8; 1024],
     ends: &mut [i64; 512],
-    log: &mut [i64; 2048],
+    log: &mut [i64; 1440],
     kind: &[u8; 1024],
     q: usize,
     a: usize,
@@ -219,7 +219,7 @@ pub fn corner_right(
 pub fn corner_left(
     edges: &mut [u8; 1024],
     ends: &mut [i64; 512],
-    log: &mut [i64; 2048],
+    log: &mut [i64; 1440],
     kind: &[u8; 1024],
     q: usize,
     a: usize,
@@ -249,7 +249,7 @@ pub fn corner_left(
 pub fn bar(
     edges: &mut [u8; 1024],
     ends: &mut [i64; 512],
-    log: &mut [i64; 2048],
+    log: &mut [i64; 1440],
     kind: &[u8; 1024],
     v: usize,
     bit: u8,
@@ -272,7 +272,7 @@ pub fn bar(
 pub fn check(
     edges: &mut [u8; 1024],
     ends: &mut [i64; 512],
-    log: &mut [i64; 2048],
+    log: &mut [i64; 1440],
     kind: &[u8; 1024],
     v: usize,
     count: usize,
@@ -319,7 +319,7 @@ pub fn check(
 pub fn decide_right(
     edges: &mut [u8; 1024],
     ends: &mut [i64; 512],
-    log: &mut [i64; 2048],
+    log: &mut [i64; 1440],
     kind: &[u8; 1024],
     v: usize,
     line: bool,
@@ -339,7 +339,7 @@ pub fn decide_right(
 pub fn decide_down(
     edges: &mut [u8; 1024],
     ends: &mut [i64; 512],
-    log: &mut [i64; 2048],
+    log: &mut [i64; 1440],
     kind: &[u8; 1024],
     v: usize,
     line: bool,

@@ -1,6 +1,6 @@
 -- Laws of a cell and of an end as the code reads them, each an i64: when a pad is finished, and when it is a clue or a hole. They rest on
 -- boardview's Signed.antt.
-use Prim.Native.Nat.{ℕ, zero, suc, _-_, _≤_, _<_}
+use Prim.Native.Nat.{ℕ, zero, suc, _-_, _^_, _≤_, _<_}
 use mathlib.Core.Path.{_≡_, refl, ap}
 use mathlib.Core.Bool.{true, false, not, false≢true}
 use mathlib.Core.List.{List}
@@ -63,7 +63,7 @@ module _ (cells ends : List ℤ) (v : ℕ) (inside : v < length cells) (low : v 
       own-end k = rw as-read (go cell (rw (back cell cell-fits) at k) end end-fits h)
         where
           far : (a : ℕ) → SFits w64 (negsuc (suc a)) → eqb (ofZ w64 (negsuc (suc a))) v ≡ false
-          far a fits = ne-eqb (ofZ w64 (negsuc (suc a))) v (λ (e : 18446744073709551616 - suc (suc a) ≡ v). omega (arith, fits .sfits))
+          far a fits = ne-eqb (ofZ w64 (negsuc (suc a))) v (λ (e : 2 ^ 64 - suc (suc a) ≡ v). omega (arith, fits .sfits))
 
           go : (z : ℤ) → leZ (pos 0) z ≡ false → (e : ℤ) → SFits w64 e → (ofZ w64 e ≡ ofZ w64 (negsuc 0) → ⊥) → eqb (ofZ w64 e) v ≡ finished (cell-of z) v (end-of e)
           go (pos n) k e f h = conflict (le-leb 0 n (omega arith)) k
@@ -87,4 +87,4 @@ module _ (cells : List ℤ) (v : ℕ) where
       go : (z : ℤ) → SFits w64 z → not (eqb (ofZ w64 z) (ofZ w64 (negsuc 0))) ≡ not-blank (cell-of z)
       go (pos n) f = ap not (ne-eqb n (ofZ w64 (negsuc 0)) (λ e. omega (arith, f .sfits)))
       go (negsuc zero) f = refl
-      go (negsuc (suc n)) f = ap not (ne-eqb (ofZ w64 (negsuc (suc n))) (ofZ w64 (negsuc 0)) (λ (e : 18446744073709551616 - suc (suc n) ≡ ofZ w64 (negsuc 0)). omega arith))
+      go (negsuc (suc n)) f = ap not (ne-eqb (ofZ w64 (negsuc (suc n))) (ofZ w64 (negsuc 0)) (λ (e : 2 ^ 64 - suc (suc n) ≡ ofZ w64 (negsuc 0)). omega arith))

@@ -47,9 +47,9 @@ view-restored s s′ count r = rw (r .edges-back, r .ends-back, count) refl
 -- an entry of the log is as it was
 entry-restored : (g : Grid) (s s′ : Arrays) (k : ℕ) → Restored s s′ → k < logged s → Entry g (s .log) k → Entry g (s′ .log) k
 entry-restored g s s′ k r below e =
-    let a = r .log-kept (4 * k) (omega arith) in
-    let b = r .log-kept (4 * k + 1) (omega arith) in
-    let c = r .log-kept (4 * k + 2) (omega arith) in
+    let a = r .log-kept (3 * k) (omega arith) in
+    let b = r .log-kept (3 * k + 1) (omega arith) in
+    let c = r .log-kept (3 * k + 2) (omega arith) in
     record { number = rw a (e .number); on = rw a (e .on); first = rw b (e .first); second = rw (b, c) (e .second) }
 
 pub ready-restored : (g : Grid) (s s′ : Arrays) → s′ .count ≡ s .count → Restored s s′ → Ready g s → Ready g s′

@@ -40,7 +40,7 @@ pub record NextPad (edges : List ℕ) (last from r : ℕ) : Type 0 where
 pub record Restored (s s′ : Arrays) : Type 0 where
   pub edges-back : s′ .edges ≡ s .edges
   pub ends-back : s′ .ends ≡ s .ends
-  pub log-kept : (i : ℕ) → i < 4 * logged s → getD (s′ .log) i (pos 0) ≡ getD (s .log) i (pos 0)
+  pub log-kept : (i : ℕ) → i < 3 * logged s → getD (s′ .log) i (pos 0) ≡ getD (s .log) i (pos 0)
   pub log-long : length (s′ .log) ≡ length (s .log)
 
 -- how far the search has come, as the code keeps it: each layout so far fills one record of the buffer

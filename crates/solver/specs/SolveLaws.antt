@@ -58,7 +58,7 @@ module _ (height width : ℕ) (cells : List ℤ) (t : Tally) (buffer : List ℕ)
     }
 
   -- the flag is set: nothing is searched
-  module _ (long : length log ≡ 2048) where
+  module _ (long : length log ≡ 1440) where
     pub counted-none : 1024 ≤ count → (limit : ℕ) → Counted height width cells limit t buffer t buffer
     unfolding advance
     counted-none set limit = counted limit t buffer refl

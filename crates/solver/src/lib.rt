@@ -17,7 +17,7 @@ use tally::Tally;
 fn take_back(
     edges: &mut [u8; 1024],
     ends: &mut [i64; 512],
-    log: &[i64; 2048],
+    log: &[i64; 1440],
     kind: &[u8; 1024],
     count: usize,
     before: usize,
@@ -33,7 +33,7 @@ fn take_back(
 fn attempt(
     edges: &mut [u8; 1024],
     ends: &mut [i64; 512],
-    log: &mut [i64; 2048],
+    log: &mut [i64; 1440],
     kind: &[u8; 1024],
     limit: u64,
     buffer: &mut [u8],
@@ -81,7 +81,7 @@ fn attempt(
 fn backtrack(
     edges: &mut [u8; 1024],
     ends: &mut [i64; 512],
-    log: &mut [i64; 2048],
+    log: &mut [i64; 1440],
     kind: &[u8; 1024],
     limit: u64,
     buffer: &mut [u8],
@@ -159,7 +159,7 @@ fn search_from(
     let mut edges = fresh.edges;
     let mut ends = fresh.ends;
     let kind = fresh.kind;
-    let mut log = [0i64; 2048];
+    let mut log = [0i64; 1440];
     let first = searchparts::next_pad(&edges, searchparts::first_of_last_row(&kind), 0);
     let mut visited = tally.visited;
     let mut layouts = tally.layouts;

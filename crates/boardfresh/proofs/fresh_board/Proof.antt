@@ -11,7 +11,7 @@ bare-board-requires c κs = search needs
 
 shut-holes-requires : tie.Need-shut-holes-requires
 shut-holes-requires c κs = let bare = c .before .before .before .before .before .before .before .bare-board .ensures in
-    (bare .kinds, bare .ready _ (length-replicate 2048 (pos 0)))
+    (bare .kinds, bare .ready _ (length-replicate 1440 (pos 0)))
 
 restart-requires : tie.Need-restart-requires
 restart-requires c κs = search needs

@@ -17,10 +17,10 @@ element-copy-out-result : tie.Need-element-copy-out-result
 element-copy-out-result c = search needs
 
 cast-result : tie.Need-cast-result
-cast-result c = slot-cast (getD (c .before .args .log .now) (4 * c .before .args .k) (pos 0)) _ (record { sfits = c .result .given }) (c .before .pre .1)
+cast-result c = slot-cast (getD (c .before .args .log .now) (3 * c .before .args .k) (pos 0)) _ (record { sfits = c .result .given }) (c .before .pre .1)
 
 returns : tie.Need-returns
-returns c = slot-read (getD (c .before .args .log .now) (4 * c .before .args .k) (pos 0)) (record { sfits = c .result .given })
+returns c = slot-read (getD (c .before .args .log .now) (3 * c .before .args .k) (pos 0)) (record { sfits = c .result .given })
 
 pub logged-slot-spec : {M : Type 1} → statement M
 logged-slot-spec =

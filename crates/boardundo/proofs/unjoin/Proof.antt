@@ -22,7 +22,7 @@ element-copy-out-a : tie.Need-element-copy-out-a
 element-copy-out-a c = search needs
 
 returns : tie.Need-returns
-returns c = unjoined-0 (c .before .before .args .ends .now) (c .before .before .args .v) (c .before .before .args .q) (getD (c .before .before .args .log .now) (4 * c .before .before .args .k + 1) (pos 0)) (getD (c .before .before .args .log .now) (4 * c .before .before .args .k + 2) (pos 0)) (record { sfits = c .before .a .given }) (c .if1 .taken)
+returns c = unjoined-0 (c .before .before .args .ends .now) (c .before .before .args .v) (c .before .before .args .q) (getD (c .before .before .args .log .now) (3 * c .before .before .args .k + 1) (pos 0)) (getD (c .before .before .args .log .now) (3 * c .before .before .args .k + 2) (pos 0)) (record { sfits = c .before .a .given }) (c .if1 .taken)
 
 mul-b : tie.Need-mul-b
 mul-b c = search needs
@@ -87,12 +87,12 @@ element-set-from-ends-2 c = search needs
 returns-2 : tie.Need-returns-2
 returns-2 c =
     let start = c .before .before .before .before .before .before .before in
-    unjoined-1 (start .args .ends .now) (start .args .v) (start .args .q) _ _ (getD (start .args .log .now) (4 * start .args .k + 1) (pos 0)) (getD (start .args .log .now) (4 * start .args .k + 2) (pos 0)) _ _ _ _ (start .pre .3) (c .before .before .before .logged-pad .ensures) (c .before .before .logged-pad2 .ensures) (back (getD (start .args .log .now) (4 * start .args .k + 1) (pos 0)) (record { sfits = c .before .before .before .before .before .before .a .given })) (back (getD (start .args .log .now) (4 * start .args .k + 2) (pos 0)) (record { sfits = c .before .before .before .before .b .given })) (slot-number (start .args .v) (omega arith)) (slot-number (start .args .q) (omega arith)) (sym (not-passed (getD (start .args .log .now) (4 * start .args .k + 1) (pos 0)) (c .before .before .before .before .before .if1 .left))) (c .before .if2 .taken) (c .if3 .taken)
+    unjoined-1 (start .args .ends .now) (start .args .v) (start .args .q) _ _ (getD (start .args .log .now) (3 * start .args .k + 1) (pos 0)) (getD (start .args .log .now) (3 * start .args .k + 2) (pos 0)) _ _ _ _ (start .pre .3) (c .before .before .before .logged-pad .ensures) (c .before .before .logged-pad2 .ensures) (back (getD (start .args .log .now) (3 * start .args .k + 1) (pos 0)) (record { sfits = c .before .before .before .before .before .before .a .given })) (back (getD (start .args .log .now) (3 * start .args .k + 2) (pos 0)) (record { sfits = c .before .before .before .before .b .given })) (slot-number (start .args .v) (omega arith)) (slot-number (start .args .q) (omega arith)) (sym (not-passed (getD (start .args .log .now) (3 * start .args .k + 1) (pos 0)) (c .before .before .before .before .before .if1 .left))) (c .before .if2 .taken) (c .if3 .taken)
 
 returns-3 : tie.Need-returns-3
 returns-3 c =
     let start = c .before .before .before .before .before .before .before in
-    unjoined-2 (start .args .ends .now) (start .args .v) (start .args .q) _ _ (getD (start .args .log .now) (4 * start .args .k + 1) (pos 0)) (getD (start .args .log .now) (4 * start .args .k + 2) (pos 0)) _ _ _ _ (start .pre .3) (c .before .before .before .logged-pad .ensures) (c .before .before .logged-pad2 .ensures) (back (getD (start .args .log .now) (4 * start .args .k + 1) (pos 0)) (record { sfits = c .before .before .before .before .before .before .a .given })) (back (getD (start .args .log .now) (4 * start .args .k + 2) (pos 0)) (record { sfits = c .before .before .before .before .b .given })) (slot-number (start .args .v) (omega arith)) (slot-number (start .args .q) (omega arith)) (sym (not-passed (getD (start .args .log .now) (4 * start .args .k + 1) (pos 0)) (c .before .before .before .before .before .if1 .left))) (c .before .if2 .taken) (c .if3 .left)
+    unjoined-2 (start .args .ends .now) (start .args .v) (start .args .q) _ _ (getD (start .args .log .now) (3 * start .args .k + 1) (pos 0)) (getD (start .args .log .now) (3 * start .args .k + 2) (pos 0)) _ _ _ _ (start .pre .3) (c .before .before .before .logged-pad .ensures) (c .before .before .logged-pad2 .ensures) (back (getD (start .args .log .now) (3 * start .args .k + 1) (pos 0)) (record { sfits = c .before .before .before .before .before .before .a .given })) (back (getD (start .args .log .now) (3 * start .args .k + 2) (pos 0)) (record { sfits = c .before .before .before .before .b .given })) (slot-number (start .args .v) (omega arith)) (slot-number (start .args .q) (omega arith)) (sym (not-passed (getD (start .args .log .now) (3 * start .args .k + 1) (pos 0)) (c .before .before .before .before .before .if1 .left))) (c .before .if2 .taken) (c .if3 .left)
 
 cast-ends-3 : tie.Need-cast-ends-3
 cast-ends-3 c = search needs
@@ -106,12 +106,12 @@ element-set-from-ends-3 c = search needs
 returns-4 : tie.Need-returns-4
 returns-4 c =
     let start = c .before .before .before .before .before .before .before in
-    unjoined-3 (start .args .ends .now) (start .args .v) (start .args .q) _ _ (getD (start .args .log .now) (4 * start .args .k + 1) (pos 0)) (getD (start .args .log .now) (4 * start .args .k + 2) (pos 0)) _ _ _ _ (start .pre .3) (c .before .before .before .logged-pad .ensures) (c .before .before .logged-pad2 .ensures) (back (getD (start .args .log .now) (4 * start .args .k + 1) (pos 0)) (record { sfits = c .before .before .before .before .before .before .a .given })) (back (getD (start .args .log .now) (4 * start .args .k + 2) (pos 0)) (record { sfits = c .before .before .before .before .b .given })) (slot-number (start .args .v) (omega arith)) (slot-number (start .args .q) (omega arith)) (sym (not-passed (getD (start .args .log .now) (4 * start .args .k + 1) (pos 0)) (c .before .before .before .before .before .if1 .left))) (c .before .if2 .left) (c .if4 .taken)
+    unjoined-3 (start .args .ends .now) (start .args .v) (start .args .q) _ _ (getD (start .args .log .now) (3 * start .args .k + 1) (pos 0)) (getD (start .args .log .now) (3 * start .args .k + 2) (pos 0)) _ _ _ _ (start .pre .3) (c .before .before .before .logged-pad .ensures) (c .before .before .logged-pad2 .ensures) (back (getD (start .args .log .now) (3 * start .args .k + 1) (pos 0)) (record { sfits = c .before .before .before .before .before .before .a .given })) (back (getD (start .args .log .now) (3 * start .args .k + 2) (pos 0)) (record { sfits = c .before .before .before .before .b .given })) (slot-number (start .args .v) (omega arith)) (slot-number (start .args .q) (omega arith)) (sym (not-passed (getD (start .args .log .now) (3 * start .args .k + 1) (pos 0)) (c .before .before .before .before .before .if1 .left))) (c .before .if2 .left) (c .if4 .taken)
 
 returns-5 : tie.Need-returns-5
 returns-5 c =
     let start = c .before .before .before .before .before .before .before in
-    unjoined-4 (start .args .ends .now) (start .args .v) (start .args .q) _ _ (getD (start .args .log .now) (4 * start .args .k + 1) (pos 0)) (getD (start .args .log .now) (4 * start .args .k + 2) (pos 0)) _ _ _ _ (start .pre .3) (c .before .before .before .logged-pad .ensures) (c .before .before .logged-pad2 .ensures) (back (getD (start .args .log .now) (4 * start .args .k + 1) (pos 0)) (record { sfits = c .before .before .before .before .before .before .a .given })) (back (getD (start .args .log .now) (4 * start .args .k + 2) (pos 0)) (record { sfits = c .before .before .before .before .b .given })) (slot-number (start .args .v) (omega arith)) (slot-number (start .args .q) (omega arith)) (sym (not-passed (getD (start .args .log .now) (4 * start .args .k + 1) (pos 0)) (c .before .before .before .before .before .if1 .left))) (c .before .if2 .left) (c .if4 .left)
+    unjoined-4 (start .args .ends .now) (start .args .v) (start .args .q) _ _ (getD (start .args .log .now) (3 * start .args .k + 1) (pos 0)) (getD (start .args .log .now) (3 * start .args .k + 2) (pos 0)) _ _ _ _ (start .pre .3) (c .before .before .before .logged-pad .ensures) (c .before .before .logged-pad2 .ensures) (back (getD (start .args .log .now) (3 * start .args .k + 1) (pos 0)) (record { sfits = c .before .before .before .before .before .before .a .given })) (back (getD (start .args .log .now) (3 * start .args .k + 2) (pos 0)) (record { sfits = c .before .before .before .before .b .given })) (slot-number (start .args .v) (omega arith)) (slot-number (start .args .q) (omega arith)) (sym (not-passed (getD (start .args .log .now) (3 * start .args .k + 1) (pos 0)) (c .before .before .before .before .before .if1 .left))) (c .before .if2 .left) (c .if4 .left)
 
 pub unjoin-spec : {M : Type 1} → statement M
 unjoin-spec =

@@ -12,19 +12,19 @@ fresh-board-requires : tie.Need-fresh-board-requires
 fresh-board-requires c κs = c .before .pre .accepted
 
 returns : tie.Need-returns
-returns c = counted-none _ _ _ _ _ (c .before .before .before .pre) _ _ _ _ (c .before .fresh-board .ensures) (replicate 2048 (pos 0)) (length-replicate 2048 (pos 0)) (omega (arith, c .if1 .taken)) _
+returns c = counted-none _ _ _ _ _ (c .before .before .before .pre) _ _ _ _ (c .before .fresh-board .ensures) (replicate 1440 (pos 0)) (length-replicate 1440 (pos 0)) (omega (arith, c .if1 .taken)) _
 
 first-of-last-row-requires : tie.Need-first-of-last-row-requires
 first-of-last-row-requires c κs = c .before .before .before .before .before .before .fresh-board .ensures .kinds
 
 next-pad-requires : tie.Need-next-pad-requires
 next-pad-requires c κs = let fresh = c .before .before .before .before .before .before .before in
-    scan-fits _ _ _ _ _ (fresh .before .before .pre) _ _ _ _ (fresh .fresh-board .ensures) (replicate 2048 (pos 0)) (length-replicate 2048 (pos 0)) _ (c .first-of-last-row .ensures)
+    scan-fits _ _ _ _ _ (fresh .before .before .pre) _ _ _ _ (fresh .fresh-board .ensures) (replicate 1440 (pos 0)) (length-replicate 1440 (pos 0)) _ (c .first-of-last-row .ensures)
 
 backtrack-requires : tie.Need-backtrack-requires
 backtrack-requires c κs = let found = c .before .before .before .before .before .before .before .before in
     let fresh = found .before .before .before .before .before .before .before .before in
-    begins-there _ _ _ _ _ (fresh .before .before .pre) _ _ _ _ (fresh .fresh-board .ensures) _ (length-replicate 2048 (pos 0))
+    begins-there _ _ _ _ _ (fresh .before .before .pre) _ _ _ _ (fresh .fresh-board .ensures) _ (length-replicate 1440 (pos 0))
     (found .before .before .before .before .before .before .before .if1 .left) _ (found .before .first-of-last-row .ensures) _ (found .next-pad .ensures)
 
 same-length : tie.Need-same-length
@@ -33,7 +33,7 @@ same-length c = search needs
 returns-2 : tie.Need-returns-2
 returns-2 c = let found = c .before .before .before .before .before .before .before .before .before .before .before in
     let fresh = found .before .before .before .before .before .before .before .before in
-    counted-all _ _ _ _ _ (fresh .before .before .pre) _ _ _ _ (fresh .fresh-board .ensures) _ (length-replicate 2048 (pos 0))
+    counted-all _ _ _ _ _ (fresh .before .before .pre) _ _ _ _ (fresh .fresh-board .ensures) _ (length-replicate 1440 (pos 0))
     (found .before .before .before .before .before .before .before .if1 .left) _ (found .before .first-of-last-row .ensures) _ (found .next-pad .ensures) _ _ _ _ _ _ _ (c .before .before .backtrack .ensures)
 
 pub search-from-spec : {M : Type 1} → statement M
