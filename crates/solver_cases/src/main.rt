@@ -58,17 +58,9 @@ fn blank(height: usize, width: usize, count: usize, limit: u64)
     show(r, sum(&buffer));
 }
 
-// Two pairs of codes in opposite corners: they would cross, unless they are one code.
-fn crossed(first: i64, second: i64) {
+// Two pairs of cells in opposite corners: two codes would cross, unless they are one, and two holes shut a code in.
+fn crossed(first: i64, second: i64, limit: u64) {
     let cells = [first, second, second, first];
-    let mut buffer = [7u8; 40];
-    let r = solver::solve(2, 2, &cells, 1000, &mut buffer);
-    show(r, sum(&buffer));
-}
-
-// Two clues of one code, each shut in by the same two holes.
-fn shut_in(limit: u64) {
-    let cells = [5i64, -2, -2, 5];
     let mut buffer = [7u8; 40];
     let r = solver::solve(2, 2, &cells, limit, &mut buffer);
     show(r, sum(&buffer));
@@ -119,12 +111,12 @@ fn codes() {
 }
 
 fn code_pairs() {
-    crossed(3100000012, 3100000012);
-    crossed(0, 2147483648);
-    crossed(4294967295, 2147483647);
-    crossed(4294967294, 4294967295);
-    crossed(4294967295, -1);
-    crossed(4294967294, -2);
+    crossed(3100000012, 3100000012, 1000);
+    crossed(0, 2147483648, 1000);
+    crossed(4294967295, 2147483647, 1000);
+    crossed(4294967294, 4294967295, 1000);
+    crossed(4294967295, -1, 1000);
+    crossed(4294967294, -2, 1000);
 }
 
 fn sizes() {
@@ -138,8 +130,8 @@ fn holes() {
     square(-2, 0, 40);
     square(-2, 1, 40);
     square(-2, 1, 8);
-    shut_in(0);
-    shut_in(1000);
+    crossed(5, -2, 0);
+    crossed(5, -2, 1000);
 }
 
 fn main() {
