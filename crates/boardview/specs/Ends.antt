@@ -14,7 +14,13 @@ use Rattle.model.specs.BoardLaws.{same-pad, is-pad-end, put-same, put-other, pu
 use Rattle.boardview.specs.View.{end-of, end-at, put-number, joined, unjoined}
 use Rattle.model.specs.Lists.{default-free}
 
--- AN END AND ITS NUMBER
+-- AN END AND ITS NUMBER tell each other: -1, the index of a pad, -v - 2 for every code v, and no two ends have one number
+pub end-of-number : (A : End) → end-of (end-number A) ≡ A
+unfolding end-of end-number
+end-of-number through = refl
+end-of-number (at-pad v) = refl
+end-of-number (at-clue code) = refl
+
 pub number-of-end : (z : ℤ) → end-number (end-of z) ≡ z
 unfolding end-of end-number
 number-of-end (pos n) = refl
