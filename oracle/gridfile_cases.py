@@ -9,7 +9,8 @@ It writes the files `stdin` (the grid files, each behind its length in two bytes
 answers). The answers come from `reading` below, a second reader that is built from the documents and not from the program: it
 looks at the whole file, finds for each rule all the bytes at which it applies, and takes the first byte and there the rule
 that is tested first. A refused file is answered by `refused,number,line,field`, an accepted one by the grid as it is written
-back, in shortest digits, and a line `past` for each cell past the last row that is not blank.
+back, which must be the file itself, byte for byte. The program prints a line `past` for each cell past the last row that is not
+blank; none is expected.
 """
 import random
 import sys
@@ -45,8 +46,13 @@ def is_disallowed(file, at):
     return byte not in DIGITS or b"#" in before
 
 
+def is_after_leading_zero(file, at):
+    """Whether the byte at a place is the second digit of a field that starts with 0."""
+    return file[at] in DIGITS and field_text(file, at) == b"0"
+
+
 def reading(file):
-    """(number, line, field, rows): rows of texts where the number is 0."""
+    """(number, line, field), all 0 where the file is accepted."""
     found = []  # (byte, order of the test there, number, line, field)
 
     def applies(at, order, number, field=None):
@@ -63,23 +69,25 @@ def reading(file):
         if is_disallowed(file, i):
             has_digit = any(c in DIGITS for c in field_text(file, i))
             applies(i, 1, 13 if has_digit else 1)
+        if is_after_leading_zero(file, i):
+            applies(i, 2, 15)
         if len(file[max(0, i - 10): i + 1]) == 11 and file[i - 10: i + 1].isdigit():
-            applies(i, 2, 2)
+            applies(i, 3, 2)
     for i in separators:
         text = field_text(file, i)
         if text.isdigit() and int(text) > LARGEST:
-            applies(i, 3, 3)
+            applies(i, 4, 3)
         line, field = place(file, i)
         due = 2 if line == 1 else width
         if due is not None:
             if file[i] == 10 and field < due:
-                applies(i, 4, 4)
+                applies(i, 5, 4)
             if file[i] == 44 and field == due:
-                applies(i, 4, 4)
+                applies(i, 5, 4)
     if line_ends and len(header) == 2:
         for k in (0, 1):
             if (header[k].isdigit() or header[k] == b"") and not is_size(header[k]):
-                applies(line_ends[0], 5, 5, k + 1)
+                applies(line_ends[0], 6, 5, k + 1)
                 break
     if sound and len(line_ends) > height:
         end = line_ends[height] + 1
@@ -88,25 +96,54 @@ def reading(file):
     else:
         applies(len(file), 0, 6)
 
-    if found:
-        _, _, number, line, field = min(found)
-        return number, line, field, None
-    rows = [r.split(b",") for r in file.split(b"\n")[1: height + 1]]
-    return 0, 0, 0, rows
+    return min(found)[2:] if found else (0, 0, 0)
 
 
 def answer(file):
-    number, line, field, rows = reading(file)
-    if number:
-        return b"refused,%d,%d,%d\n" % (number, line, field)
-    text = b"%d,%d\n" % (len(rows), len(rows[0]))
-    for row in rows:
-        text += b",".join(b"%d" % int(f) if f.isdigit() else f for f in row) + b"\n"
-    return text
+    refusal = reading(file)
+    return b"refused,%d,%d,%d\n" % refusal if refusal[0] else file
 
 
 def grid(height, width, cell=b""):
     return b"%d,%d\n" % (height, width) + (b",".join([cell] * width) + b"\n") * height
+
+
+def in_each_field(text):
+    """Six files of 2 by 2 blank pads, a text in one field of each: the header's two, then the rows' four."""
+    for at in range(6):
+        fields = [b"2", b"2", b"", b"", b"", b""]
+        fields[at] = text
+        yield b"%s,%s\n%s,%s\n%s,%s\n" % tuple(fields)
+
+
+def leading_zeros():
+    # 15 and its order among the tests: a leading 0 before digits, before a disallowed byte and before both; fields of two to
+    # twelve digits
+    for text in (b"00", b"01", b"07", b"09", b"0O", b"0#", b"00x", b"007x", b"00#", b"0000000002", b"00000000000",
+                 b"0%d" % LARGEST, b"012345678901x"):
+        yield from in_each_field(text)
+    # a 0 alone, and zeros that do not lead
+    for text in (b"0", b"10", b"100", b"1000000000"):
+        yield from in_each_field(text)
+    # the rear door and the front; a 0 alone and a field behind it that starts with 0, also on the next line
+    yield b"2,2\n07,7\n,\n"
+    yield b"2,2\n7,07\n,\n"
+    yield b"2,2\n7,\n,07\n"
+    yield b"0,0\n"
+    yield b"0,00\n"
+    yield b"2,2\n0,0\n0,0\n"
+    yield b"2,2\n0,00\n,\n"
+    yield b"2,2\n,0\n00,\n"
+    yield b"2,2\n0,10\n,\n"
+    # where the file ends, where a row has too many fields, behind a hole's sign, and after the last row
+    yield b"00"
+    yield b"2,2\n,\n,0"
+    yield b"2,2\n,\n,07"
+    yield b"2,2\n,0,07\n"
+    yield b"2,2\n,07,\n"
+    yield b"2,2\n#07,\n,\n"
+    for rest in (b"0", b"7", b"00", b"07"):
+        yield b"2,2\n,\n,0\n" + rest
 
 
 def cases():
@@ -121,15 +158,12 @@ def cases():
     yield b"2,2\n,1O\n1O,\n"
     yield b"1,2\n,\n"
     # 1 and 13 in each field of the header and the rows: letters for digits, a space, a quote mark and a return before and
-    # after a digit; a letter after a 0, after ten digits and after eleven; a second disallowed byte; a hole, which is alone in
-    # its field, and what may not stand before or after its sign
-    for text in (b"x", b"1x", b"1234567890x", b"12345678901x", b"1O", b"1o", b"O1", b"l0", b"1l", b"O", b"0O", b"007x", b" 5", b"5 ",
-                 b"\"5\"", b"5\"", b"\r", b"5\r", b"9999999999x", b"x1x", b"1 x",
-                 b"#", b"##", b"#5", b"5#", b"0#", b"# ", b" #", b"#\r", b"2#", b"#2", b"1234567890#", b"12345678901#", b"5##"):
-        for place in range(6):
-            fields = [b"2", b"2", b"", b"", b"", b""]
-            fields[place] = text
-            yield b"%s,%s\n%s,%s\n%s,%s\n" % tuple(fields)
+    # after a digit; a letter after ten digits and after eleven; a second disallowed byte; a hole, which is alone in its field,
+    # and what may not stand before or after its sign
+    for text in (b"x", b"1x", b"1234567890x", b"12345678901x", b"1O", b"1o", b"O1", b"l0", b"1l", b"O", b" 5", b"5 ", b"\"5\"",
+                 b"5\"", b"\r", b"5\r", b"9999999999x", b"x1x", b"1 x",
+                 b"#", b"##", b"#5", b"5#", b"# ", b" #", b"#\r", b"2#", b"#2", b"1234567890#", b"12345678901#", b"5##"):
+        yield from in_each_field(text)
     # a disallowed byte where the file ends, and where a row has too few fields or too many
     yield b"x"
     yield b"2x"
@@ -163,11 +197,11 @@ def cases():
     for at in range(len(drilled)):
         for byte in b"#7,\n ":
             yield drilled[:at] + bytes([byte]) + drilled[at + 1:]
-    # 2 and 3: ten and eleven digits, the edges of 31 and 32 bits, the largest code and one more, alone and behind a zero, in the
+    yield from leading_zeros()
+    # 2 and 3: ten and eleven digits, the edges of 31 and 32 bits, the largest code and one more, alone and before a zero, in the
     # first, a middle and the last field
-    for text in (b"0000000002", b"00000000002", b"2147483646", b"2147483647", b"2147483648", b"4294967294", largest, beyond,
-                 b"4294967301", b"9999999999", b"10000000000", b"0" + largest, b"0" + beyond, b"0999999999", b"007", b"0",
-                 b"0000000000"):
+    for text in (b"2147483646", b"2147483647", b"2147483648", b"4294967294", largest, beyond, b"4294967301", b"9999999999",
+                 b"10000000000", largest + b"0", beyond + b"0", b"12345678901", b"99999999999"):
         yield b"%s,2\n,\n,\n" % text
         yield b"2,%s\n,\n,\n" % text
         yield b"2,2\n%s,\n,\n" % text
@@ -201,12 +235,13 @@ def cases():
     for code in (largest, beyond):
         yield b"1,%s\n" % code
         yield b"%s,1\n" % code
-    # the largest grids, ten digits in every field; one byte cut off, one more
-    longest = b"0000000016,0000000016\n" + (b",".join([largest] * 16) + b"\n") * 16
+    # the largest grids, ten digits in every field; one byte cut off, one more; ten digits in the header
+    longest = grid(16, 16, largest)
     yield longest
     yield longest[:-1]
     yield longest + b"0"
     yield grid(16, 16)
+    yield grid(16, 16).replace(b"16,16", b"0000000016,0000000016")
     yield grid(16, 16, b"#")
     yield grid(2, 16, b"7")
     yield grid(16, 2, b"0")
@@ -214,11 +249,12 @@ def cases():
     yield b"1" * 4096
     yield b"," * 4096
     yield b"\n" * 4096
-    # damaged copies of good files
+    # damaged copies of good files, here and there with a leading zero
+    texts = [b"", b"", b"#", b"0", b"7", b"12", largest] * 12 + [b"0009"]
     chance = random.Random(4711)
     for _ in range(600):
         h, w = chance.randint(2, 5), chance.randint(2, 5)
-        fields = lambda: b",".join(chance.choice([b"", b"", b"#", b"0", b"7", b"12", largest, b"0009"]) for _ in range(w))
+        fields = lambda: b",".join(chance.choice(texts) for _ in range(w))
         file = bytearray(b"%d,%d\n" % (h, w) + b"".join(fields() + b"\n" for _ in range(h)))
         for _ in range(chance.choice([0, 1, 1, 1, 2, 3])):
             at = chance.randrange(len(file) + 1)

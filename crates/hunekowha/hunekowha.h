@@ -31,6 +31,8 @@
  *   6  the file ends before its last row does, or goes on after it
  *  13  a byte that is no digit, no comma and no line end, after a digit of its field: a letter typed for a digit, or a `#`, a
  *      space or a return (0D hexadecimal) behind a number
+ *  15  a second digit after a leading 0, in the header too: 07 and 7 would be one number, and a maker means two doors by
+ *      them. 0 alone is floor 0
  * A grid, for a board, a search, a drawing to be judged or writing:
  *   7  a height or width outside 2 to 16
  *   8  the number of cells is not height * width
@@ -54,14 +56,14 @@ extern "C" {
 
 /*
  * Reads a grid file: lines of fields parted by commas, each line ended by 0A; `H,W` first, then H lines of W fields, an
- * empty field for a blank pad, `#` for a hole.
+ * empty field for a blank pad, `#` for a hole, else a number in its shortest digits.
  *
  *   file, file_length      the bytes of the file
  *   answer, answer_length  at least 5 numbers
  *   cells, cells_length    at least 256 numbers
  *
  * Returns 5, or 0 where `answer` or `cells` is too short.
- *   answer[0]  0 for a grid, else the number of the refusal, 1 to 6 or 13
+ *   answer[0]  0 for a grid, else the number of the refusal: 1 to 6, 13 or 15
  *   answer[1]  the line that a refusal names, from 1; 0 for a grid
  *   answer[2]  the field that a refusal names, from 1; 0 for a grid
  *   answer[3]  the height; 0 beside a refusal
@@ -73,9 +75,8 @@ size_t hunekowha_read(const uint8_t *file, size_t file_length, uint64_t *answer,
 
 /*
  * Writes a grid as a grid file: `H,W` first, then H lines of W fields parted by commas, each line ended by 0A; a code in its
- * shortest digits, an empty field for a blank pad, `#` for a hole. Reading the text gives the same grid. Writing what was
- * read gives the file with each field in its shortest digits: the same bytes, where no field of two or more digits begins
- * with 0.
+ * shortest digits, an empty field for a blank pad, `#` for a hole. Reading the text gives the same grid, and writing what
+ * was read gives the file, byte for byte.
  *
  *   height, width          the size of the grid
  *   cells, cells_length    its cells, height * width of them

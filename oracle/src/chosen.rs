@@ -333,21 +333,29 @@ pub fn record_case(random: &mut Random) -> Case {
     }
 }
 
-/// A file of the grid, with leading zeros here and there, and some codes larger.
+/// A file of the grid, some codes larger; in one file of ten some codes are
+/// filled up with zeros.
 fn file_text(random: &mut Random, pads: &Pads) -> Vec<u8> {
-    let zeros = random.choose(&[1, 1, 2, 3, 10]);
+    let digits = if random.chance(10) {
+        random.choose(&[2, 3, 10])
+    } else {
+        1
+    };
     let text = grid_text(&given(pads), |code| match code {
-        code if random.chance(20) => format!("{code:0zeros$}"),
+        code if random.chance(20) => format!("{code:0digits$}"),
         code if random.chance(5) => (code + random.below(1 << 20) as i64).to_string(),
         code => code.to_string(),
     });
     text.into_bytes()
 }
 
-const FIELDS: [&str; 40] = [
+const FIELDS: [&str; 46] = [
     "",
     "0",
+    "00",
     "007",
+    "00x",
+    "00#",
     "x",
     "1O",
     "0O",
@@ -356,6 +364,9 @@ const FIELDS: [&str; 40] = [
     "2",
     "16",
     "17",
+    "10",
+    "100",
+    "1000000000",
     "02",
     "0000000016",
     "00000000002",

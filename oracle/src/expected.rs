@@ -253,28 +253,12 @@ fn write_answer(refusal: (u64, u64), text: &[u8], lent: usize, room: usize) -> A
     answer
 }
 
-/// A field and its end, without the zeros that stand before another digit.
-fn shortest_field(mut field: &[u8]) -> &[u8] {
-    while let [b'0', b'0'..=b'9', ..] = field {
-        field = &field[1..];
-    }
-    field
-}
-
-/// The file with each field in its shortest digits.
-fn shortest_fields(file: &[u8]) -> Vec<u8> {
-    let is_end = |byte: &u8| *byte == b',' || *byte == b'\n';
-    let fields = file.split_inclusive(is_end);
-    fields.flat_map(shortest_field).copied().collect()
-}
-
-/// A grid that was read must be written back as the file's shortest digits,
-/// in a room as long as the file.
+/// A grid that was read must be written back as the file itself, in a room as
+/// long as the file.
 fn expected_file(lent: usize, cells_lent: usize, bytes: &[u8]) -> Answer {
     let mut answer = read_answer(routes::read(bytes), lent, cells_lent);
     if answer.returned > 0 && answer.numbers[0] == 0 {
-        let text = shortest_fields(bytes);
-        answer.back = vec![write_answer((0, 0), &text, 3, bytes.len())];
+        answer.back = vec![write_answer((0, 0), bytes, 3, bytes.len())];
     }
     answer
 }

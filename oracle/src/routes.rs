@@ -7,7 +7,7 @@ use crate::answers::{limited, Pads, Run, BLANK, HOLE, LARGEST_CODE, LINE};
 use crate::grids::{LIMIT, ROOM};
 
 /// The numbers in the order in which they are tested at one byte.
-const TESTED: [usize; 7] = [6, 1, 13, 2, 3, 4, 5];
+const TESTED: [usize; 8] = [6, 1, 13, 15, 2, 3, 4, 5];
 
 /// A refusal and the byte where it applies; ordered by byte, then by the
 /// place of its number among those tested.
@@ -104,7 +104,7 @@ fn size(fields: &[Field]) -> Option<(usize, usize)> {
     Some((good(header[0])? as usize, good(header[1])? as usize))
 }
 
-/// Refusals 1, 13, 2, 3 and 4 of one field, on a line that must have `wanted`
+/// Refusals 1, 13, 15, 2, 3 and 4 of one field, on a line that must have `wanted`
 /// fields.
 fn field_refusals(field: &Field, wanted: usize, ended: bool, found: &mut Vec<Refusal>) {
     let (line, number) = (field.line, field.field);
@@ -112,6 +112,9 @@ fn field_refusals(field: &Field, wanted: usize, ended: bool, found: &mut Vec<Ref
         let after_digit = field.text[..at].iter().any(u8::is_ascii_digit);
         let disallowed = if after_digit { 13 } else { 1 };
         found.push(refusal(field.start + at, disallowed, line, number));
+    }
+    if let [b'0', b'0'..=b'9', ..] = field.text {
+        found.push(refusal(field.start + 1, 15, line, number));
     }
     if field.text.len() > 10 {
         found.push(refusal(field.start + 10, 2, line, number));

@@ -14,7 +14,7 @@ use borrow.Author.Tests.{ltb-true, ltb-false, lt-ltb, le-ltb, ne-eqb, eq-eqb, no
 use Rattle.rules.specs.Grid.{largest-code}
 use Rattle.rules.specs.Tests.{conflict}
 use Rattle.model.specs.Bounds.{most-digits}
-use Rattle.model.specs.GridFile.{is-digit, is-comma, is-line-end, is-hole-sign, disallowed-number}
+use Rattle.model.specs.GridFile.{is-digit, is-comma, is-line-end, is-hole-sign, disallowed-number, is-zero-alone}
 use Rattle.reading.specs.FieldSteps.{digit-bounds}
 use Rattle.gridfile.specs.Fields.{ended-field, field-from, field-at, hole-from, row-field-at}
 use Rattle.gridfile.specs.declared.Field.the-variants.{Value, Refused}
@@ -46,13 +46,17 @@ module _ (bytes : List ℕ) (at digits value : ℕ) where
   unfolding field-from
   field-stops h d = simp (drop-cons bytes at 0 h, d)
 
-  pub field-too-long : at < length bytes → is-digit (getD bytes at 0) ≡ true → digits ≡ 10 → field-from (drop at bytes) at digits value ≡ Refused 2
-  unfolding field-from most-digits
-  field-too-long h d e = simp (drop-cons bytes at 0 h, d, eq-eqb _ _ e)
+  pub field-led-by-0 : at < length bytes → is-digit (getD bytes at 0) ≡ true → is-zero-alone digits value ≡ true → field-from (drop at bytes) at digits value ≡ Refused 15
+  unfolding field-from
+  field-led-by-0 h d z = simp (drop-cons bytes at 0 h, d, z)
 
-  pub field-goes-on : at < length bytes → is-digit (getD bytes at 0) ≡ true → (digits ≡ 10 → ⊥) → field-from (drop at bytes) at digits value ≡ field-from (drop (at + 1) bytes) (at + 1) (digits + 1) (value * 10 + (getD bytes at 0 - 48))
+  pub field-too-long : at < length bytes → is-digit (getD bytes at 0) ≡ true → is-zero-alone digits value ≡ false → digits ≡ 10 → field-from (drop at bytes) at digits value ≡ Refused 2
   unfolding field-from most-digits
-  field-goes-on h d e = rw (drop-cons bytes at 0 h, d, ne-eqb _ _ e, add-one at) refl
+  field-too-long h d z e = simp (drop-cons bytes at 0 h, d, z, eq-eqb _ _ e)
+
+  pub field-goes-on : at < length bytes → is-digit (getD bytes at 0) ≡ true → is-zero-alone digits value ≡ false → (digits ≡ 10 → ⊥) → field-from (drop at bytes) at digits value ≡ field-from (drop (at + 1) bytes) (at + 1) (digits + 1) (value * 10 + (getD bytes at 0 - 48))
+  unfolding field-from most-digits
+  field-goes-on h d z e = rw (drop-cons bytes at 0 h, d, z, ne-eqb _ _ e, add-one at) refl
 
   pub field-unended : length bytes ≤ at → field-from (drop at bytes) at digits value ≡ Refused 6
   unfolding field-from
@@ -117,8 +121,8 @@ module _ (bytes : List ℕ) (from at value : ℕ) (p : Passed bytes from at valu
   pub value-fits : value * 10 + (getD bytes at 0 - 48) < 10000000000
   value-fits = ten-digits _ (at - from + 1) (digit-more value (at - from) _ (p .small) (omega (arith, digit-bounds _ d .1))) (omega (arith, n))
 
-  pub one-passed : Passed bytes from (at + 1) (value * 10 + (getD bytes at 0 - 48))
-  one-passed = record { begun = omega arith; short = omega arith; small = rw longer (digit-more value (at - from) _ (p .small) (omega (arith, digit-bounds _ d .1))); left = rw longer (sym (field-goes-on bytes at (at - from) value h d n) ∙ p .left) }
+  pub one-passed : is-zero-alone (at - from) value ≡ false → Passed bytes from (at + 1) (value * 10 + (getD bytes at 0 - 48))
+  one-passed z = record { begun = omega arith; short = omega arith; small = rw longer (digit-more value (at - from) _ (p .small) (omega (arith, digit-bounds _ d .1))); left = rw longer (sym (field-goes-on bytes at (at - from) value h d z n) ∙ p .left) }
     where
       longer : at + 1 - from ≡ at - from + 1
       longer = omega arith

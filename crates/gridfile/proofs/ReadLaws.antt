@@ -16,8 +16,8 @@ use borrow.Author.Tests.{ltb-false, ne-eqb, eqb-true}
 use Rattle.rules.specs.Grid.{largest-code}
 use Rattle.model.specs.Bounds.{most-digits}
 use Rattle.model.specs.GridFile as model
-use Rattle.model.specs.GridFile.{Standing, is-digit, is-comma, is-line-end, is-hole-sign, begins-hole, is-allowed, disallowed-number, in-header, is-complete, declined, read-from, no-cells}
-use Rattle.reading.specs.FieldSteps.{Part, some-digits, hole-alone, field-start, in-field, field-ending, declined-reading, drop-next, place-inside, byte-there, byte-refused, end-early, still-open, refusal-2, refusal-disallowed, refusal-3, digit-read, hole-read, row-open, header-open}
+use Rattle.model.specs.GridFile.{Standing, is-digit, is-comma, is-line-end, is-hole-sign, begins-hole, is-allowed, disallowed-number, is-zero-alone, in-header, is-complete, declined, read-from, no-cells}
+use Rattle.reading.specs.FieldSteps.{Part, some-digits, hole-alone, field-start, in-field, field-ending, declined-reading, drop-next, place-inside, byte-there, byte-refused, end-early, still-open, refusal-15, refusal-2, refusal-disallowed, refusal-3, digit-read, hole-read, row-open, header-open}
 use Rattle.gridfile.specs.Fields.{ended-field, field-from, field-at, hole-from, row-field-at, field-number, part-of}
 use Rattle.gridfile.specs.declared.Field.{Field}
 use Rattle.gridfile.specs.declared.Field.the-variants.{Value, Refused}
@@ -75,7 +75,7 @@ module _ (s : Standing) (open-yet : is-complete s ≡ false) (bytes : List ℕ) 
     rest-read : (rest : List ℕ) (at value : ℕ) → drop at bytes ≡ rest → from ≤ at → read-from (in-field s (some-digits (at - from) value)) rest ≡ field-read s bytes from false (field-from rest at (at - from) value)
     unfolding declined declined-reading field-read field-from in-field is-allowed
     rest-read [] at value e h = end-early (in-field s (some-digits (at - from) value)) (still-open s open-yet (some-digits (at - from) value))
-    rest-read (byte ∷ rest) at value e h = go (is-digit byte) (eqb (at - from) most-digits) refl refl (rest-read rest (at + 1) (value * 10 + (byte - 48)) (drop-next bytes byte rest at e) (omega arith))
+    rest-read (byte ∷ rest) at value e h = go (is-digit byte) (is-zero-alone (at - from) value) (eqb (at - from) most-digits) refl refl refl (rest-read rest (at + 1) (value * 10 + (byte - 48)) (drop-next bytes byte rest at e) (omega arith))
       where
         here : Standing
         here = in-field s (some-digits (at - from) value)
@@ -83,10 +83,11 @@ module _ (s : Standing) (open-yet : is-complete s ≡ false) (bytes : List ℕ) 
         longer : at + 1 - from ≡ at - from + 1
         longer = omega arith
 
-        go : (d m : Bool) → is-digit byte ≡ d → eqb (at - from) most-digits ≡ m → read-from (in-field s (some-digits (at + 1 - from) (value * 10 + (byte - 48)))) rest ≡ field-read s bytes from false (field-from rest (at + 1) (at + 1 - from) (value * 10 + (byte - 48))) → read-from here (byte ∷ rest) ≡ field-read s bytes from false (field-from (byte ∷ rest) at (at - from) value)
-        go false m d n again = ended-read false (some-digits (at - from) value) byte rest at e refl (λ c l. simp (c, l, d, not-drilled byte rest at value e h)) ∙ simp d
-        go true true d n again = byte-refused here byte rest (refusal-2 s open-yet byte (at - from) value d n) ∙ simp (d, n)
-        go true false d n again = digit-read s open-yet byte rest (at - from) value d n ∙ (rw longer at again) ∙ simp (d, n)
+        go : (d z m : Bool) → is-digit byte ≡ d → is-zero-alone (at - from) value ≡ z → eqb (at - from) most-digits ≡ m → read-from (in-field s (some-digits (at + 1 - from) (value * 10 + (byte - 48)))) rest ≡ field-read s bytes from false (field-from rest (at + 1) (at + 1 - from) (value * 10 + (byte - 48))) → read-from here (byte ∷ rest) ≡ field-read s bytes from false (field-from (byte ∷ rest) at (at - from) value)
+        go false z m d alone n again = ended-read false (some-digits (at - from) value) byte rest at e refl (λ c l. simp (c, l, d, not-drilled byte rest at value e h)) ∙ simp d
+        go true true m d alone n again = byte-refused here byte rest (refusal-15 s open-yet byte (at - from) value d alone) ∙ simp (d, alone)
+        go true false true d alone n again = byte-refused here byte rest (refusal-2 s open-yet byte (at - from) value d alone n) ∙ simp (d, alone, n)
+        go true false false d alone n again = digit-read s open-yet byte rest (at - from) value d alone n ∙ (rw longer at again) ∙ simp (d, alone, n)
 
   -- a field after the sign of a hole
   hole-ended : (rest : List ℕ) (at : ℕ) → drop at bytes ≡ rest → read-from (in-field s hole-alone) rest ≡ field-read s bytes from true (hole-from rest at)
@@ -130,12 +131,13 @@ ended-inside bytes byte rest at digits value v end e h = go (is-comma byte) (is-
 value-inside : (bytes rest : List ℕ) (at digits value v end : ℕ) → drop at bytes ≡ rest → field-from rest at digits value ≡ Value v end → Ended bytes at v end
 unfolding field-from
 value-inside bytes [] at digits value v end e h = different h
-value-inside bytes (byte ∷ rest) at digits value v end e h = go (is-digit byte) (eqb digits most-digits) refl refl (value-inside bytes rest (at + 1) (digits + 1) (value * 10 + (byte - 48)) v end (drop-next bytes byte rest at e))
+value-inside bytes (byte ∷ rest) at digits value v end e h = go (is-digit byte) (is-zero-alone digits value) (eqb digits most-digits) refl refl refl (value-inside bytes rest (at + 1) (digits + 1) (value * 10 + (byte - 48)) v end (drop-next bytes byte rest at e))
   where
-    go : (d m : Bool) → is-digit byte ≡ d → eqb digits most-digits ≡ m → (field-from rest (at + 1) (digits + 1) (value * 10 + (byte - 48)) ≡ Value v end → Ended bytes (at + 1) v end) → Ended bytes at v end
-    go false m p q again = ended-inside bytes byte rest at digits value v end e (simp p at h)
-    go true true p q again = different (simp (p, q) at h)
-    go true false p q again = let r : Ended bytes (at + 1) v end = again (simp (p, q) at h) in record { reached = omega (arith, r .reached); inside = r .inside; sound = r .sound; parted = r .parted }
+    go : (d z m : Bool) → is-digit byte ≡ d → is-zero-alone digits value ≡ z → eqb digits most-digits ≡ m → (field-from rest (at + 1) (digits + 1) (value * 10 + (byte - 48)) ≡ Value v end → Ended bytes (at + 1) v end) → Ended bytes at v end
+    go false z m p k q again = ended-inside bytes byte rest at digits value v end e (simp p at h)
+    go true true m p k q again = different (simp (p, k) at h)
+    go true false true p k q again = different (simp (p, k, q) at h)
+    go true false false p k q again = let r : Ended bytes (at + 1) v end = again (simp (p, k, q) at h) in record { reached = omega (arith, r .reached); inside = r .inside; sound = r .sound; parted = r .parted }
 
 pub value-ended : (bytes : List ℕ) (from value end : ℕ) → field-at bytes from ≡ Value value end → Ended bytes from value end
 unfolding field-at

@@ -1,5 +1,5 @@
 -- What one field of a grid file gives, from its first byte on: its value and the place of the byte that ends it, or the
--- number of its refusal. These are the documents' refusals that a field can have by itself: 1, 13, 2, 3, and 6 where the
+-- number of its refusal. These are the documents' refusals that a field can have by itself: 1, 13, 15, 2, 3, and 6 where the
 -- file ends in it. A field of the header has digits only, a field of a row may be a hole. Assumes nothing.
 use Rattle.model.specs.Choice.{if_then_else_}
 use Prim.Native.Nat.{ℕ, _+_, _*_, _-_}
@@ -9,7 +9,7 @@ use lib.ListN.{getD, drop}
 use lib.Dec.{eqb, ltb}
 use Rattle.rules.specs.Grid.{largest-code}
 use Rattle.model.specs.Bounds.{most-digits}
-use Rattle.model.specs.GridFile.{is-digit, is-comma, is-line-end, is-hole-sign, disallowed-number}
+use Rattle.model.specs.GridFile.{is-digit, is-comma, is-line-end, is-hole-sign, disallowed-number, is-zero-alone}
 use Rattle.reading.specs.FieldSteps.{Part, some-digits, hole-alone}
 use Rattle.gridfile.specs.declared.Field.{Field}
 use Rattle.gridfile.specs.declared.Field.the-variants.{Value, Refused}
@@ -27,6 +27,7 @@ unfoldable pub field-from : List ℕ → ℕ → ℕ → ℕ → Field
 field-from [] at digits value = Refused 6
 field-from (byte ∷ bytes) at digits value =
     if not (is-digit byte) then ended-field byte digits value at
+    else if is-zero-alone digits value then Refused 15
     else if eqb digits most-digits then Refused 2
     else field-from bytes (at + 1) (digits + 1) (value * 10 + (byte - 48))
 

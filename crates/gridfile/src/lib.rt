@@ -8,7 +8,7 @@ ghost use Prim.Native.Nat.{_+_, _-_, _*_, _≤_, _<_};
 ghost use lib.ListN.{length, getD, drop, set};
 ghost use Rattle.rules.specs.Grid.{largest-code};
 ghost use Rattle.model.specs.Bounds.{is-size};
-ghost use Rattle.model.specs.GridFile.{is-digit, is-hole-sign, disallowed-number, no-cells, read-from, read};
+ghost use Rattle.model.specs.GridFile.{is-digit, is-hole-sign, disallowed-number, is-zero-alone, no-cells, read-from, read};
 ghost use Rattle.model.specs.Writing.{cell-text, rows-text, grid-text, write};
 ghost use Rattle.text.specs.Put.{Put};
 ghost use Rattle.reading.specs.FieldSteps.{field-start, cell-of, declined-reading};
@@ -70,6 +70,13 @@ fn disallowed_number(digits: usize) -> u8
     13
 }
 
+// Whether a field that has so many digits of this value is `0` alone, after which no digit may come.
+fn is_zero_alone(digits: usize, value: usize) -> bool
+    ensures { λ r. ⌜ r ≡ is-zero-alone digits value ⌝ }
+{
+    digits == 1 && value == 0
+}
+
 // Whether a hole's sign stands at a place.
 fn is_hole(bytes: &[u8], at: usize) -> bool
     ensures { λ r. ⌜ r ≡ is-hole-sign (getD (now (bytes .entry)) at 0) ⌝ }
@@ -102,6 +109,9 @@ fn field_at(bytes: &[u8], from: usize) -> Field
         let byte = bytes[at];
         if !is_digit(byte) {
             return ended_field(byte, at - from, value, at);
+        }
+        if is_zero_alone(at - from, value) {
+            return Field::Refused(15);
         }
         if at - from == MOST_DIGITS {
             return Field::Refused(2);

@@ -34,6 +34,10 @@ is-hole-sign byte = eqb byte 35
 unfoldable pub disallowed-number : ℕ → ℕ
 disallowed-number digits = if eqb digits 0 then 1 else 13
 
+-- a field that has so many digits of this value is `0` alone: floor 0, after which no digit may come, since 07 and 7 are not one door
+unfoldable pub is-zero-alone : ℕ → ℕ → Bool
+is-zero-alone digits value = eqb digits 1 && eqb value 0
+
 -- a cell is -1 for blank, -2 for a hole, else its code
 unfoldable pub blank : ℤ
 blank = negsuc 0
@@ -75,7 +79,7 @@ fields-due s = if in-header s then 2 else s .width
 unfoldable pub is-complete : Standing → Bool
 is-complete s = not (in-header s) && eqb (s .line) (s .height + 2)
 
--- what the field says if it ends here: `#` for a hole, empty for blank, else its value (leading zeros count for nothing)
+-- what the field says if it ends here: `#` for a hole, empty for blank, else its value
 unfoldable pub field-cell : Standing → ℤ
 field-cell s = if s .drilled then hole else if eqb (s .digits) 0 then blank else pos (s .value)
 
@@ -97,6 +101,7 @@ is-allowed s byte = is-comma byte || is-line-end byte || (is-digit byte && not (
 -- the number that applies at a byte, 0 if none does: the first of these that holds
 --   6 a byte after the last row (tested before 1)
 --   1 a disallowed byte, or 13 if it comes after a digit of its field
+--   15 a second digit after a leading 0
 --   2 an eleventh digit
 --   3 the ended field exceeds the largest code
 --   4 too few fields at a line's end, or a comma after the last
@@ -105,6 +110,7 @@ unfoldable pub refusal : Standing → ℕ → ℕ
 refusal s byte =
     if is-complete s then 6
     else if not (is-allowed s byte) then disallowed-number (s .digits)
+    else if is-digit byte && is-zero-alone (s .digits) (s .value) then 15
     else if is-digit byte && eqb (s .digits) most-digits then 2
     else if not (is-digit byte) && ltb largest-code (s .value) then 3
     else if is-line-end byte && ltb (s .field) (fields-due s) then 4

@@ -9,7 +9,7 @@ use lib.IntN.{ℤ, pos, negsuc}
 use Rattle.model.specs.Bounds.{is-size, most-digits}
 use Rattle.model.specs.Text.{bytes, comma, line-end}
 use Rattle.model.specs.Decimal.{digit-byte, digits-before, decimal}
-use Rattle.model.specs.GridFile.{is-digit, is-comma, is-line-end, is-hole-sign, begins-hole, is-allowed, disallowed-number, blank, hole, no-cells, start, in-header, fields-due, is-complete, field-cell, bad-size, refusal, with-digit, with-hole, begun, after, accepted, declined, read-from, read}
+use Rattle.model.specs.GridFile.{is-digit, is-comma, is-line-end, is-hole-sign, begins-hole, is-allowed, disallowed-number, is-zero-alone, blank, hole, no-cells, start, in-header, fields-due, is-complete, field-cell, bad-size, refusal, with-digit, with-hole, begun, after, accepted, declined, read-from, read}
 use Rattle.rules.specs.Record.{record-lines}
 use Rattle.model.specs.Printed.{line-at, right-line, down-line, code-of-pad, code-digits-from, code-digits, summary-line, layout-line, refusal-line, Found, layout-lines, found-text, reading-text, printed}
 
@@ -54,12 +54,15 @@ Example-read =
     read (bytes "2,2\n5,\n,5\n")
     ≡ record { number = 0; line = 0; field = 0; height = 2; width = 2; cells = pos 5 ∷ blank ∷ blank ∷ pos 5 ∷ replicate 252 blank }
 
--- leading zeros count for nothing: 007 is 7; ten digits are read
-abbrev pub Leading-zeros : Type 0
-Leading-zeros =
-    (cell (bytes "2,2\n007,\n,0000000007\n") 0 ≡ pos 7)
-    × (cell (bytes "2,2\n007,\n,0000000007\n") 3 ≡ pos 7)
-    × (cell (bytes "2,2\n0,\n,\n") 0 ≡ pos 0)
+-- `0` alone is floor 0, in every field too; zeros that do not lead are digits like others
+abbrev pub Zeros-read : Type 0
+Zeros-read =
+    (read (bytes "2,2\n0,\n,0\n")
+    ≡ record { number = 0; line = 0; field = 0; height = 2; width = 2; cells = pos 0 ∷ blank ∷ blank ∷ pos 0 ∷ replicate 252 blank })
+    × (read (bytes "2,2\n0,0\n0,0\n")
+    ≡ record { number = 0; line = 0; field = 0; height = 2; width = 2; cells = pos 0 ∷ pos 0 ∷ pos 0 ∷ pos 0 ∷ replicate 252 blank })
+    × (read (bytes "2,2\n10,100\n2020,1000000000\n")
+    ≡ record { number = 0; line = 0; field = 0; height = 2; width = 2; cells = pos 10 ∷ pos 100 ∷ pos 2020 ∷ pos 1000000000 ∷ replicate 252 blank })
 
 -- codes on both sides of the largest signed number of 32 bits, and the two whose 32 bits would be those of a hole and of a blank pad
 abbrev pub Wide-codes-read : Type 0
@@ -77,7 +80,7 @@ Holes-read =
     × (cell (bytes "2,2\n#,\n,\n") 0 ≡ negsuc 1)
     × (cell (bytes "2,2\n,\n,#\n") 3 ≡ negsuc 1)
 
--- the longest file: ten digits in both fields of the header and in each of 16 rows of 16 fields
+-- the longest file: ten digits in each of 16 rows of 16 fields
 unfoldable pub longest-row : ℕ → List ℕ
 longest-row zero = bytes "4294967295\n"
 longest-row (suc more) = bytes "4294967295," ++ longest-row more
@@ -87,11 +90,11 @@ longest-rows zero = []
 longest-rows (suc more) = longest-row 15 ++ longest-rows more
 
 unfoldable pub longest-file : List ℕ
-longest-file = bytes "0000000016,0000000016\n" ++ longest-rows 16
+longest-file = bytes "16,16\n" ++ longest-rows 16
 
 abbrev pub Longest-read : Type 0
 Longest-read =
-    (length longest-file ≡ 2838)
+    (length longest-file ≡ 2822)
     × (read longest-file
     ≡ record { number = 0; line = 0; field = 0; height = 16; width = 16; cells = replicate 256 (pos 4294967295) })
 
@@ -131,12 +134,29 @@ Refused-13 =
     × (answer (bytes "2,2\n0#,\n,\n") ≡ names 13 2 1)
     × (answer (bytes "2,2\n,\n,1234567890#\n") ≡ names 13 3 2)
 
+-- 15: a second digit after a leading 0: in the header, in a row, in the last field; a file that has 07 for the rear door and 7 for the
+-- front; a second 0 too; also where an eleventh digit, the end of the file, a letter or a hole's sign comes later
+abbrev pub Refused-15 : Type 0
+Refused-15 =
+    (answer (bytes "02,2\n") ≡ names 15 1 1)
+    × (answer (bytes "2,02\n") ≡ names 15 1 2)
+    × (answer (bytes "2,0000000002\n") ≡ names 15 1 2)
+    × (answer (bytes "2,2\n07,\n,7\n") ≡ names 15 2 1)
+    × (answer (bytes "2,2\n7,\n,07\n") ≡ names 15 3 2)
+    × (answer (bytes "2,2\n00,\n,\n") ≡ names 15 2 1)
+    × (answer (bytes "2,2\n0,00\n,\n") ≡ names 15 2 2)
+    × (answer (bytes "2,2\n00000000000,\n,\n") ≡ names 15 2 1)
+    × (answer (bytes "2,2\n,\n,05") ≡ names 15 3 2)
+    × (answer (bytes "2,2\n00x,\n,\n") ≡ names 15 2 1)
+    × (answer (bytes "2,2\n07#,\n,\n") ≡ names 15 2 1)
+    × (answer (replicate 4096 48) ≡ names 15 1 1)
+
 -- 2: an eleventh digit, also where a letter comes after it
 abbrev pub Refused-2 : Type 0
 Refused-2 =
-    (answer (bytes "2,00000000002\n") ≡ names 2 1 2)
+    (answer (bytes "2,10000000002\n") ≡ names 2 1 2)
     × (answer (bytes "12345678901x,2\n") ≡ names 2 1 1)
-    × (answer (bytes "2,2\n00000000005,\n,\n") ≡ names 2 2 1)
+    × (answer (bytes "2,2\n10000000000,\n,\n") ≡ names 2 2 1)
     × (answer (bytes "2,2\n12345678901x,\n,\n") ≡ names 2 2 1)
     × (answer (replicate 4096 49) ≡ names 2 1 1)
 
@@ -160,10 +180,11 @@ Refused-4 =
     × (answer (bytes "2,2\n#\n,\n") ≡ names 4 2 1)
     × (answer (bytes "2,2\n#,#,\n") ≡ names 4 2 2)
 
--- 5: H or W empty or outside 2..16, the first bad one
+-- 5: H or W empty or outside 2..16, 0 too, the first bad one
 abbrev pub Refused-5 : Type 0
 Refused-5 =
     (answer (bytes ",2\n") ≡ names 5 1 1)
+    × (answer (bytes "0,2\n") ≡ names 5 1 1)
     × (answer (bytes "2,\n") ≡ names 5 1 2)
     × (answer (bytes "2,1\n") ≡ names 5 1 2)
     × (answer (bytes "17,17\n") ≡ names 5 1 1)
@@ -180,6 +201,8 @@ Refused-6 =
     × (answer (bytes "2,2\n5,\n,5\nx") ≡ names 6 4 1)
     × (answer (bytes "2,2\n#") ≡ names 6 2 1)
     × (answer (bytes "2,2\n,\n,#") ≡ names 6 3 2)
+    × (answer (bytes "2,2\n,\n,0") ≡ names 6 3 2)
+    × (answer (bytes "2,2\n,\n,0\n00") ≡ names 6 4 1)
     × (answer (bytes "2,2\n,\n,#\n#") ≡ names 6 4 1)
 
 -- a declined grid is 0, 0, all blank
@@ -189,9 +212,9 @@ Declined-read =
     ≡ record { number = 6; line = 3; field = 2; height = 0; width = 0; cells = replicate 256 blank }
 
 pub known-files :
-    K10 × K11 × K12 × Example-read × Leading-zeros × Wide-codes-read × Holes-read × Longest-read
-    × Refused-1 × Refused-13 × Refused-2 × Refused-3 × Refused-4 × Refused-5 × Refused-6 × Declined-read
-unfolding is-size most-digits bytes is-digit is-comma is-line-end is-hole-sign begins-hole is-allowed disallowed-number blank hole no-cells start in-header fields-due is-complete field-cell bad-size refusal with-digit with-hole begun after accepted declined read-from read answer cell longest-row longest-rows longest-file
+    K10 × K11 × K12 × Example-read × Zeros-read × Wide-codes-read × Holes-read × Longest-read
+    × Refused-1 × Refused-13 × Refused-15 × Refused-2 × Refused-3 × Refused-4 × Refused-5 × Refused-6 × Declined-read
+unfolding is-size most-digits bytes is-digit is-comma is-line-end is-hole-sign begins-hole is-allowed disallowed-number is-zero-alone blank hole no-cells start in-header fields-due is-complete field-cell bad-size refusal with-digit with-hole begun after accepted declined read-from read answer cell longest-row longest-rows longest-file
 known-files = (
   (refl, refl, refl),
   refl,
@@ -203,11 +226,12 @@ known-files = (
   (refl, refl),
   (refl, refl, refl, refl, refl, refl, refl, refl, refl, refl, refl, refl),
   (refl, refl, refl, refl, refl, refl, refl, refl, refl, refl, refl, refl),
+  (refl, refl, refl, refl, refl, refl, refl, refl, refl, refl, refl, refl),
   (refl, refl, refl, refl, refl),
   (refl, refl, refl, refl, refl),
   (refl, refl, refl, refl, refl, refl, refl),
-  (refl, refl, refl, refl, refl),
-  (refl, refl, refl, refl, refl, refl, refl, refl, refl),
+  (refl, refl, refl, refl, refl, refl),
+  (refl, refl, refl, refl, refl, refl, refl, refl, refl, refl, refl),
   refl,
 )
 
@@ -244,5 +268,5 @@ Decimals =
     × (decimal 18446744073709551615 ≡ bytes "18446744073709551615")
 
 pub known-texts : Example-printed × Refused-printed × Decimals
-unfolding example-found is-size most-digits bytes is-digit is-comma is-line-end is-hole-sign begins-hole is-allowed disallowed-number blank hole no-cells start in-header fields-due is-complete field-cell bad-size refusal with-digit with-hole begun after accepted declined read-from read record-lines digit-byte digits-before decimal line-at right-line down-line code-of-pad code-digits-from code-digits comma line-end summary-line layout-line refusal-line layout-lines found-text reading-text printed
+unfolding example-found is-size most-digits bytes is-digit is-comma is-line-end is-hole-sign begins-hole is-allowed disallowed-number is-zero-alone blank hole no-cells start in-header fields-due is-complete field-cell bad-size refusal with-digit with-hole begun after accepted declined read-from read record-lines digit-byte digits-before decimal line-at right-line down-line code-of-pad code-digits-from code-digits comma line-end summary-line layout-line refusal-line layout-lines found-text reading-text printed
 known-texts = (refl, (refl, refl), (refl, refl, refl, refl, refl, refl))

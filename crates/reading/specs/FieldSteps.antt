@@ -16,7 +16,7 @@ use borrow.Author.Tests.{leb-true, lt-ltb, le-ltb, ne-eqb, eq-eqb, eqb-true}
 use Rattle.rules.specs.Grid.{largest-code}
 use Rattle.rules.specs.Tests.{both, either}
 use Rattle.model.specs.Bounds.{is-size, most-digits}
-use Rattle.model.specs.GridFile.{Standing, Reading, is-digit, is-comma, is-line-end, is-hole-sign, begins-hole, is-allowed, disallowed-number, blank, hole, no-cells, is-complete, in-header, fields-due, field-cell, bad-size, refusal, with-digit, with-hole, begun, after, accepted, declined, read-from}
+use Rattle.model.specs.GridFile.{Standing, Reading, is-digit, is-comma, is-line-end, is-hole-sign, begins-hole, is-allowed, disallowed-number, is-zero-alone, blank, hole, no-cells, is-complete, in-header, fields-due, field-cell, bad-size, refusal, with-digit, with-hole, begun, after, accepted, declined, read-from}
 
 -- ## Where the reading stands
 
@@ -143,18 +143,23 @@ module _ (s : Standing) (open-yet : is-complete s ≡ false) where
   still-open part = open-yet
 
   module _ (byte digits value : ℕ) (d : is-digit byte ≡ true) where
-    pub refusal-2 : eqb digits most-digits ≡ true → refusal (in-field s (some-digits digits value)) byte ≡ 2
+    pub refusal-15 : is-zero-alone digits value ≡ true → refusal (in-field s (some-digits digits value)) byte ≡ 15
     unfolding refusal is-allowed in-field
-    refusal-2 e = simp (still-open (some-digits digits value), d, e, no-comma byte d, no-line-end byte d)
+    refusal-15 z = simp (still-open (some-digits digits value), d, z, no-comma byte d, no-line-end byte d)
 
-    pub digit-accepted : eqb digits most-digits ≡ false → refusal (in-field s (some-digits digits value)) byte ≡ 0
-    unfolding refusal is-allowed in-field
-    digit-accepted e = simp (still-open (some-digits digits value), d, e, no-comma byte d, no-line-end byte d)
+    module _ (more : is-zero-alone digits value ≡ false) where
+      pub refusal-2 : eqb digits most-digits ≡ true → refusal (in-field s (some-digits digits value)) byte ≡ 2
+      unfolding refusal is-allowed in-field
+      refusal-2 e = simp (still-open (some-digits digits value), d, more, e, no-comma byte d, no-line-end byte d)
+
+      pub digit-accepted : eqb digits most-digits ≡ false → refusal (in-field s (some-digits digits value)) byte ≡ 0
+      unfolding refusal is-allowed in-field
+      digit-accepted e = simp (still-open (some-digits digits value), d, more, e, no-comma byte d, no-line-end byte d)
 
   -- a digit more
-  pub digit-read : (byte : ℕ) (bytes : List ℕ) (digits value : ℕ) → is-digit byte ≡ true → eqb digits most-digits ≡ false → read-from (in-field s (some-digits digits value)) (byte ∷ bytes) ≡ read-from (in-field s (some-digits (digits + 1) (value * 10 + (byte - 48)))) bytes
+  pub digit-read : (byte : ℕ) (bytes : List ℕ) (digits value : ℕ) → is-digit byte ≡ true → is-zero-alone digits value ≡ false → eqb digits most-digits ≡ false → read-from (in-field s (some-digits digits value)) (byte ∷ bytes) ≡ read-from (in-field s (some-digits (digits + 1) (value * 10 + (byte - 48)))) bytes
   unfolding after with-digit in-field
-  digit-read byte bytes digits value d e = byte-accepted (in-field s (some-digits digits value)) byte bytes (digit-accepted byte digits value d e) ∙ simp d
+  digit-read byte bytes digits value d more e = byte-accepted (in-field s (some-digits digits value)) byte bytes (digit-accepted byte digits value d more e) ∙ simp d
 
   -- the sign of a hole, at the start of a field of a row
   pub hole-read : (bytes : List ℕ) → in-header s ≡ false → read-from (in-field s (some-digits 0 0)) (35 ∷ bytes) ≡ read-from (in-field s hole-alone) bytes

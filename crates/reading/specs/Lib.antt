@@ -1,10 +1,9 @@
--- Laws of reading a grid file: what every reading gives, that no accepted file is long, and what is told of a disallowed byte; and of
--- writing one: reading what is written gives the grid, writing what is read gives the file in shortest digits.
+-- Laws of reading a grid file: what every reading gives, that the first 4,096 bytes decide it, and of which byte 1, 13 and 15 are told;
+-- and of writing one: reading what is written gives the grid, writing what is read gives the file.
 pub mod FieldSteps
 pub mod ReadingLaws
 pub mod LongFiles
-pub mod DisallowedBytes
-pub mod ShortestDigits
+pub mod FirstFault
 pub mod ReadBack
 pub mod WrittenBack
 pub mod WriteRead

@@ -1,5 +1,5 @@
--- No accepted file is longer than 2,838 bytes, and the first 4,096 bytes of any input decide what is read. A number of bytes that can
--- still be accepted falls with every accepted byte.
+-- The first 4,096 bytes of any input decide what is read: a number of bytes that can still be accepted falls with every accepted byte,
+-- and is 2,838 at the start.
 use Rattle.model.specs.Choice.{if_then_else_}
 use mathlib.Core.Path.{_≡_, refl, ap}
 use mathlib.Core.Bool.{Bool, true, false, _&&_}
@@ -7,12 +7,12 @@ use mathlib.Core.List.{List, [], _∷_}
 use Prim.Native.Nat.{ℕ, zero, suc, _+_, _*_, _-_, _≤_, _<_}
 use native.Mathlib.Nat.{mul-le-mul, not-suc-le-zero}
 use native.Mathlib.Omega.{arith}
-use lib.ListN.{length, take}
+use lib.ListN.{take}
 use lib.Seq.{take-nil}
 use lib.Dec.{eqb, ltb}
 use borrow.Author.Tests.{eqb-false, ne-eqb}
 use Rattle.rules.specs.Grid.{Size}
-use Rattle.model.specs.GridFile.{Standing, is-digit, is-comma, is-hole-sign, start, in-header, fields-due, is-complete, bad-size, refusal, with-digit, with-hole, begun, after, declined, read-from, read}
+use Rattle.model.specs.GridFile.{Standing, is-digit, is-comma, is-hole-sign, start, in-header, fields-due, is-complete, bad-size, refusal, with-digit, with-hole, begun, after, read-from, read}
 use Rattle.reading.specs.FieldSteps.{Part, in-field}
 use Rattle.reading.specs.ReadingLaws.{Passed, byte-passed, Kind, a-digit, a-hole-sign, a-comma, a-line-end, kind-of, Sound, start-sound, after-sound, begun-row, begun-header, due-row, due-header, sizes-found, two-fields, second-line}
 
@@ -124,7 +124,7 @@ module _ (s : Standing) (sound : Sound s) where
       by-line false h t yes-part no-part = no-part h
 
       go : Kind s byte → bytes-left (after s byte) < bytes-left s
-      go (a-digit d undrilled n) = rw d (digit-less byte (p .unfinished) undrilled n)
+      go (a-digit d undrilled z n) = rw d (digit-less byte (p .unfinished) undrilled n)
       go (a-hole-sign e in-row first undrilled) = rw e (hole-less (p .unfinished) undrilled first)
       go (a-comma e v n) = rw e (by-line (in-header s) refl _ (λ h. header-comma-less h n) (λ h. row-comma-less h (p .unfinished) n))
       go (a-line-end e v due b) = rw e (by-line (in-header s) refl _ (λ h. header-end-less h due b) (λ h. row-end-less h (p .unfinished) due))
@@ -142,21 +142,7 @@ cut-from s (byte ∷ bytes) (suc n) sound h = go (refusal s byte) refl (λ t k. 
     go zero r again = rw (r, read-from) (again (after-sound s sound byte r) (omega (arith, one-less s sound byte r)))
     go (suc m) r again = rw (r, read-from) refl
 
-short-from : (s : Standing) (bytes : List ℕ) → Sound s → read-from s bytes .number ≡ 0 → length bytes ≤ bytes-left s
-unfolding read-from declined
-short-from s [] sound h = omega arith
-short-from s (byte ∷ bytes) sound h = go (refusal s byte) refl (λ t k. short-from (after s byte) bytes t k)
-  where
-    go : (m : ℕ) → refusal s byte ≡ m → (Sound (after s byte) → read-from (after s byte) bytes .number ≡ 0 → length bytes ≤ bytes-left (after s byte)) → suc (length bytes) ≤ bytes-left s
-    go zero r again = omega (arith, one-less s sound byte r, again (after-sound s sound byte r) (rw (r, read-from) at h))
-    go (suc m) r again = let k : suc m ≡ 0 = rw (r, read-from) at h in absurd (omega arith)
-
 -- the first 4,096 bytes suffice
 pub first-bytes-suffice : (bytes : List ℕ) → read (take 4096 bytes) ≡ read bytes
 unfolding read bytes-left field-bytes-left start in-header
 first-bytes-suffice bytes = cut-from start bytes 4096 start-sound (omega arith)
-
--- no valid file is longer than 2,838
-pub longest-accepted : (bytes : List ℕ) → read bytes .number ≡ 0 → length bytes ≤ 2838
-unfolding read bytes-left field-bytes-left start in-header
-longest-accepted bytes h = short-from start bytes start-sound h

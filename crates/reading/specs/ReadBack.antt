@@ -1,7 +1,7 @@
 -- Reading what was written gives the grid: for every accepted grid its text is an accepted file, and its reading is H, W, the cells, and
 -- blank past them. The text is read field by field: digits back to their number, each pad's field back to its cell.
 use mathlib.Core.Path.{_≡_, refl, sym, ap, _∙_}
-use mathlib.Core.Bool.{Bool, true, false}
+use mathlib.Core.Bool.{Bool, true, false, and-false}
 use mathlib.Core.List.{List, [], _∷_, _++_, append-assoc}
 use mathlib.Core.Logic.{inl, inr}
 use Prim.Native.Nat.{ℕ, zero, suc, _+_, _*_, _-_, _/_, _%_, _^_, _≤_, _<_}
@@ -19,7 +19,7 @@ use Rattle.model.specs.Bounds.{most-digits}
 use Rattle.model.specs.RefusalLaws.{test-of-size}
 use Rattle.model.specs.Decimal.{digit-byte, decimal}
 use Rattle.model.specs.DecimalLaws.{decimal-short, decimal-long, decimal-length, decimal-some}
-use Rattle.model.specs.GridFile.{Standing, Reading, is-digit, blank, hole, no-cells, start, in-header, is-complete, accepted, read-from, read}
+use Rattle.model.specs.GridFile.{Standing, Reading, is-digit, is-zero-alone, blank, hole, no-cells, start, in-header, is-complete, accepted, read-from, read}
 use Rattle.model.specs.Writing.{cell-text, rows-text, grid-text}
 use Rattle.reading.specs.FieldSteps.{Part, some-digits, hole-alone, field-start, in-field, cell-of, end-complete, digit-read, hole-read, row-open, row-ends, row-goes-on, header-goes-on, header-ends, header-open}
 
@@ -29,17 +29,23 @@ digit-is-digit : (digit : ℕ) → digit < 10 → is-digit (digit-byte digit) �
 unfolding is-digit digit-byte
 digit-is-digit digit h = rw (le-leb 48 (48 + digit) (omega arith), le-leb (48 + digit) 57 (omega arith))
 
+-- a field with a value is not `0`
+not-alone : (digits value : ℕ) → 1 ≤ value → is-zero-alone digits value ≡ false
+unfolding is-zero-alone
+not-alone digits value some = rw (ne-eqb value 0 (λ (e : value ≡ 0). omega arith)) (and-false (eqb digits 1))
+
 module _ (s : Standing) (open-yet : is-complete s ≡ false) where
   -- one digit more, as the byte that is written for it
-  one-digit : (digits value digit : ℕ) (rest : List ℕ) → digit < 10 → digits < 10 → read-from (in-field s (some-digits digits value)) (digit-byte digit ∷ rest) ≡ read-from (in-field s (some-digits (digits + 1) (value * 10 + digit))) rest
+  one-digit : (digits value digit : ℕ) (rest : List ℕ) → digit < 10 → is-zero-alone digits value ≡ false → digits < 10 → read-from (in-field s (some-digits digits value)) (digit-byte digit ∷ rest) ≡ read-from (in-field s (some-digits (digits + 1) (value * 10 + digit))) rest
   unfolding most-digits digit-byte
-  one-digit digits value digit rest h few = digit-read s open-yet (digit-byte digit) rest digits value (digit-is-digit digit h) (ne-eqb digits 10 (λ (e : digits ≡ 10). omega arith)) ∙ ap (λ (n : ℕ). read-from (in-field s (some-digits (digits + 1) (value * 10 + n))) rest) back
+  one-digit digits value digit rest h more few = digit-read s open-yet (digit-byte digit) rest digits value (digit-is-digit digit h) more (ne-eqb digits 10 (λ (e : digits ≡ 10). omega arith)) ∙ ap (λ (n : ℕ). read-from (in-field s (some-digits (digits + 1) (value * 10 + n))) rest) back
     where
       back : 48 + digit - 48 ≡ digit
       back = omega arith
 
   short-read : (number : ℕ) (rest : List ℕ) → number < 10 → read-from (in-field s (some-digits 0 0)) (decimal number ++ rest) ≡ read-from (in-field s (some-digits (length (decimal number)) number)) rest
-  short-read number rest h = rw (decimal-short number h) (one-digit 0 0 number rest h (omega arith) ∙ ap (λ (n : ℕ). read-from (in-field s (some-digits 1 n)) rest) (zero-add number))
+  unfolding is-zero-alone
+  short-read number rest h = rw (decimal-short number h) (one-digit 0 0 number rest h refl (omega arith) ∙ ap (λ (n : ℕ). read-from (in-field s (some-digits 1 n)) rest) (zero-add number))
 
   -- the digits of a number are read back to it
   digits-read : (more number : ℕ) (rest : List ℕ) → number < 10 ^ suc more → more < 10 → read-from (in-field s (some-digits 0 0)) (decimal number ++ rest) ≡ read-from (in-field s (some-digits (length (decimal number)) number)) rest
@@ -55,7 +61,7 @@ module _ (s : Standing) (open-yet : is-complete s ≡ false) where
           ap (λ (l : List ℕ). read-from (in-field s (some-digits 0 0)) (l ++ rest)) (decimal-long number big)
           ∙ ap (read-from (in-field s (some-digits 0 0))) (append-snoc (decimal (number / 10)) (digit-byte (number % 10)) rest)
           ∙ again below
-          ∙ one-digit (length (decimal (number / 10))) (number / 10) (number % 10) rest (omega arith) (omega arith)
+          ∙ one-digit (length (decimal (number / 10))) (number / 10) (number % 10) rest (omega arith) (not-alone _ (number / 10) (omega arith)) (omega arith)
           ∙ ap (λ (n : ℕ). read-from (in-field s (some-digits n (number / 10 * 10 + number % 10))) rest) (sym (longer big))
           ∙ ap (λ (n : ℕ). read-from (in-field s (some-digits (length (decimal number)) n)) rest) whole
         where

@@ -1,7 +1,7 @@
 -- What is known of every reading of a grid file: 256 cells; sizes and cells in range where it is accepted. These are the laws by
 -- which a program hands what it read to a search. They follow a standing that is sound from byte to byte.
 use Rattle.model.specs.Choice.{if_then_else_}
-use mathlib.Core.Path.{_≡_, refl, _∙_}
+use mathlib.Core.Path.{_≡_, refl, sym, _∙_}
 use mathlib.Core.Bool.{Bool, true, false, not, _&&_, true≢false}
 use mathlib.Core.List.{List, [], _∷_}
 use mathlib.Core.Logic.{inl, inr}
@@ -12,54 +12,68 @@ use lib.ListN.{length, getD, set, take, length-set, length-replicate, replicate}
 use lib.Seq.{getD-take, length-take-le}
 use lib.IntN.{ℤ, pos}
 use lib.Dec.{eqb, ltb}
-use borrow.Author.Tests.{ltb-false, eqb-true, eqb-false, not-true, not-false, ne-eqb}
+use borrow.Author.Tests.{ltb-false, eqb-true, eqb-false, not-true, ne-eqb}
 use Rattle.rules.specs.Grid.{Size, largest-code, blank-cell, CellInRange, Accepted}
 use Rattle.rules.specs.Tests.{both, conflict}
 use Rattle.model.specs.Bounds.{is-size, most-digits}
 use Rattle.model.specs.RefusalLaws.{size-of-test}
-use Rattle.model.specs.GridFile.{Standing, Reading, is-digit, is-comma, is-line-end, is-hole-sign, begins-hole, is-allowed, disallowed-number, blank, hole, no-cells, start, in-header, fields-due, is-complete, field-cell, bad-size, refusal, with-digit, with-hole, begun, after, accepted, declined, read-from, read}
+use Rattle.model.specs.GridFile.{Standing, Reading, is-digit, is-comma, is-line-end, is-hole-sign, begins-hole, is-allowed, disallowed-number, is-zero-alone, blank, hole, no-cells, start, in-header, fields-due, is-complete, field-cell, bad-size, refusal, with-digit, with-hole, begun, after, accepted, declined, read-from, read}
 
--- ## What an accepted byte says
-
--- a test that would have given a number has failed
-passed : (test : Bool) (number rest : ℕ) → 1 ≤ number → (if test then number else rest) ≡ 0 → (test ≡ false) × (rest ≡ 0)
-passed true number rest some h = absurd (omega arith)
-passed false number rest some h = (refl, h)
-
--- a disallowed byte has a number
-disallowed-some : (digits : ℕ) → 1 ≤ disallowed-number digits
-unfolding disallowed-number
-disallowed-some digits = go (eqb digits 0)
-  where
-    go : (first : Bool) → 1 ≤ (if first then 1 else 13)
-    go true = omega arith
-    go false = omega arith
+-- ## What the number at a byte says
 
 -- each test of `refusal` has failed
 pub record Passed (s : Standing) (byte : ℕ) : Type 0 where
   pub unfinished : is-complete s ≡ false
-  pub allowed : not (is-allowed s byte) ≡ false
+  pub allowed : is-allowed s byte ≡ true
+  pub no-leading-zero : is-digit byte && is-zero-alone (s .digits) (s .value) ≡ false
   pub ten-digits : is-digit byte && eqb (s .digits) most-digits ≡ false
   pub in-range : not (is-digit byte) && ltb largest-code (s .value) ≡ false
   pub enough-fields : is-line-end byte && ltb (s .field) (fields-due s) ≡ false
   pub no-more-fields : is-comma byte && eqb (s .field) (fields-due s) ≡ false
   pub sizes : is-line-end byte && in-header s && ltb 0 (bad-size s) ≡ false
 
-pub byte-passed : (s : Standing) (byte : ℕ) → refusal s byte ≡ 0 → Passed s byte
+-- which test gave the number: none; that of 6; that of a disallowed byte; that of a leading 0; or one that comes after these
+pub data Told (s : Standing) (byte number : ℕ) : Type 0 where
+  told-none : number ≡ 0 → Passed s byte → Told s byte number
+  told-6 : number ≡ 6 → Told s byte number
+  told-disallowed : number ≡ disallowed-number (s .digits) → is-allowed s byte ≡ false → Told s byte number
+  told-15 : number ≡ 15 → is-allowed s byte ≡ true → is-digit byte && is-zero-alone (s .digits) (s .value) ≡ true → Told s byte number
+  told-later : 2 ≤ number → number ≤ 5 → is-allowed s byte ≡ true → is-digit byte && is-zero-alone (s .digits) (s .value) ≡ false → Told s byte number
+
+pub told : (s : Standing) (byte : ℕ) → Told s byte (refusal s byte)
 unfolding refusal
-byte-passed s byte h =
-    let (p6, r6) = passed (is-complete s) 6 _ (omega arith) h in
-    let (p1, r1) = passed (not (is-allowed s byte)) (disallowed-number (s .digits)) _ (disallowed-some (s .digits)) r6 in
-    let (p2, r2) = passed (is-digit byte && eqb (s .digits) most-digits) 2 _ (omega arith) r1 in
-    let (p3, r3) = passed (not (is-digit byte) && ltb largest-code (s .value)) 3 _ (omega arith) r2 in
-    let (p4, r4) = passed (is-line-end byte && ltb (s .field) (fields-due s)) 4 _ (omega arith) r3 in
-    let (p4′, r4′) = passed (is-comma byte && eqb (s .field) (fields-due s)) 4 _ (omega arith) r4 in
-    let (p5, r5) = passed (is-line-end byte && in-header s && ltb 0 (bad-size s)) 5 _ (omega arith) r4′ in
-    record { unfinished = p6; allowed = p1; ten-digits = p2; in-range = p3; enough-fields = p4; no-more-fields = p4′; sizes = p5 }
+told s byte = go (is-complete s) (is-allowed s byte) _ _ _ _ _ _ refl refl refl refl refl refl refl refl
+  where
+    go : (t6 a t15 t2 t3 t4 t4′ t5 : Bool) → is-complete s ≡ t6 → is-allowed s byte ≡ a → is-digit byte && is-zero-alone (s .digits) (s .value) ≡ t15
+        → is-digit byte && eqb (s .digits) most-digits ≡ t2 → not (is-digit byte) && ltb largest-code (s .value) ≡ t3 → is-line-end byte && ltb (s .field) (fields-due s) ≡ t4
+        → is-comma byte && eqb (s .field) (fields-due s) ≡ t4′ → is-line-end byte && in-header s && ltb 0 (bad-size s) ≡ t5
+        → Told s byte (if t6 then 6 else if not a then disallowed-number (s .digits) else if t15 then 15 else if t2 then 2 else if t3 then 3 else if t4 then 4 else if t4′ then 4 else if t5 then 5 else 0)
+    go true a t15 t2 t3 t4 t4′ t5 p6 p1 p15 p2 p3 p4 p4′ p5 = told-6 refl
+    go false false t15 t2 t3 t4 t4′ t5 p6 p1 p15 p2 p3 p4 p4′ p5 = told-disallowed refl p1
+    go false true true t2 t3 t4 t4′ t5 p6 p1 p15 p2 p3 p4 p4′ p5 = told-15 refl p1 p15
+    go false true false true t3 t4 t4′ t5 p6 p1 p15 p2 p3 p4 p4′ p5 = told-later (omega arith) (omega arith) p1 p15
+    go false true false false true t4 t4′ t5 p6 p1 p15 p2 p3 p4 p4′ p5 = told-later (omega arith) (omega arith) p1 p15
+    go false true false false false true t4′ t5 p6 p1 p15 p2 p3 p4 p4′ p5 = told-later (omega arith) (omega arith) p1 p15
+    go false true false false false false true t5 p6 p1 p15 p2 p3 p4 p4′ p5 = told-later (omega arith) (omega arith) p1 p15
+    go false true false false false false false true p6 p1 p15 p2 p3 p4 p4′ p5 = told-later (omega arith) (omega arith) p1 p15
+    go false true false false false false false false p6 p1 p15 p2 p3 p4 p4′ p5 =
+        told-none refl (record { unfinished = p6; allowed = p1; no-leading-zero = p15; ten-digits = p2; in-range = p3; enough-fields = p4; no-more-fields = p4′; sizes = p5 })
+
+pub byte-passed : (s : Standing) (byte : ℕ) → refusal s byte ≡ 0 → Passed s byte
+unfolding disallowed-number
+byte-passed s byte accepted = go (told s byte) (eqb (s .digits) 0) refl
+  where
+    go : Told s byte (refusal s byte) → (first : Bool) → eqb (s .digits) 0 ≡ first → Passed s byte
+    go (told-none e p) first f = p
+    go (told-6 e) first f = absurd (omega (arith, e, accepted))
+    go (told-disallowed e a) true f = let k : refusal s byte ≡ 1 = rw f at e in absurd (omega (arith, k, accepted))
+    go (told-disallowed e a) false f = let k : refusal s byte ≡ 13 = rw f at e in absurd (omega (arith, k, accepted))
+    go (told-15 e a z) first f = absurd (omega (arith, e, accepted))
+    go (told-later low high a z) first f = absurd (omega (arith, low, accepted))
 
 -- the four kinds of accepted bytes
 pub data Kind (s : Standing) (byte : ℕ) : Type 0 where
-  a-digit : is-digit byte ≡ true → s .drilled ≡ false → (s .digits ≡ 10 → ⊥) → Kind s byte
+  a-digit : is-digit byte ≡ true → s .drilled ≡ false → (s .digits ≡ 1 → s .value ≡ 0 → ⊥) → (s .digits ≡ 10 → ⊥) → Kind s byte
   a-hole-sign : byte ≡ 35 → in-header s ≡ false → s .digits ≡ 0 → s .drilled ≡ false → Kind s byte
   a-comma : byte ≡ 44 → s .value ≤ largest-code → (s .field ≡ fields-due s → ⊥) → Kind s byte
   a-line-end : byte ≡ 10 → s .value ≤ largest-code → fields-due s ≤ s .field → in-header s && ltb 0 (bad-size s) ≡ false → Kind s byte
@@ -77,21 +91,24 @@ module _ (s : Standing) where
   hole-sign-kind : Passed s 35 → (in-header s ≡ false) × (s .digits ≡ 0) × (s .drilled ≡ false)
   unfolding is-digit is-comma is-line-end is-hole-sign is-allowed begins-hole
   hole-sign-kind p =
-      let (begins, undrilled) = both (not (in-header s) && eqb (s .digits) 0) (not (s .drilled)) (not-false _ (p .allowed)) in
+      let (begins, undrilled) = both (not (in-header s) && eqb (s .digits) 0) (not (s .drilled)) (p .allowed) in
       let (in-row, first) = both (not (in-header s)) (eqb (s .digits) 0) begins in
       (not-true _ in-row, eqb-true _ _ first, not-true _ undrilled)
 
 pub kind-of : (s : Standing) (byte : ℕ) → Passed s byte → Kind s byte
-unfolding is-comma is-line-end is-hole-sign begins-hole is-allowed most-digits
+unfolding is-comma is-line-end is-hole-sign begins-hole is-allowed most-digits is-zero-alone
 kind-of s byte p = go (is-comma byte) (is-line-end byte) (is-hole-sign byte) (is-digit byte) (s .drilled) refl refl refl refl refl
   where
+    more : is-zero-alone (s .digits) (s .value) ≡ false → s .digits ≡ 1 → s .value ≡ 0 → ⊥
+    more z one nought = true≢false (rw (one, nought) at z)
+
     go : (c l h d r : Bool) → is-comma byte ≡ c → is-line-end byte ≡ l → is-hole-sign byte ≡ h → is-digit byte ≡ d → s .drilled ≡ r → Kind s byte
     go true l h d r ec el eh ed er = let e = eqb-true byte 44 ec in let (small, more) = comma-kind s (rw e at p) in a-comma e small more
     go false true h d r ec el eh ed er = let e = eqb-true byte 10 el in let (small, whole, sizes) = line-end-kind s (rw e at p) in a-line-end e small whole sizes
     go false false true d r ec el eh ed er = let e = eqb-true byte 35 eh in let (in-row, first, undrilled) = hole-sign-kind s (rw e at p) in a-hole-sign e in-row first undrilled
-    go false false false true false ec el eh ed er = a-digit ed er (eqb-false (s .digits) 10 (rw ed at (p .ten-digits)))
-    go false false false true true ec el eh ed er = absurd (true≢false (rw (ec, el, eh, ed, er) at (p .allowed)))
-    go false false false false r ec el eh ed er = absurd (true≢false (rw (ec, el, eh, ed) at (p .allowed)))
+    go false false false true false ec el eh ed er = a-digit ed er (more (rw ed at (p .no-leading-zero))) (eqb-false (s .digits) 10 (rw ed at (p .ten-digits)))
+    go false false false true true ec el eh ed er = absurd (true≢false (sym (rw (ec, el, eh, ed, er) at (p .allowed))))
+    go false false false false r ec el eh ed er = absurd (true≢false (sym (rw (ec, el, eh, ed) at (p .allowed))))
 
 -- ## A sound standing
 
@@ -102,6 +119,9 @@ pub record Sound (s : Standing) : Type 0 where
   pub field-from-1 : 1 ≤ s .field
   pub field-due : s .field ≤ fields-due s
   pub digits-due : s .digits ≤ 10
+  -- a field with no digits has no value, and of those with digits only `0` has none
+  pub no-value : s .digits ≡ 0 → s .value ≡ 0
+  pub no-leading-zero : s .value ≡ 0 → s .digits ≤ 1
   pub sizes-in-range : in-header s ≡ false → Size (s .height) × Size (s .width) × (s .line ≤ s .height + 2)
 
 -- a cell that is stored in range keeps all in range
@@ -136,15 +156,17 @@ start-sound =
       field-from-1 = omega arith;
       field-due = omega arith;
       digits-due = omega arith;
+      no-value = λ z. refl;
+      no-leading-zero = λ z. omega arith;
       sizes-in-range = λ (h : eqb 1 1 ≡ false). absurd (true≢false h);
     }
 
 module _ (s : Standing) (sound : Sound s) where
   -- further in the same field
-  further : (digits value : ℕ) (drilled : Bool) → digits ≤ 10
+  further : (digits value : ℕ) (drilled : Bool) → digits ≤ 10 → (digits ≡ 0 → value ≡ 0) → (value ≡ 0 → digits ≤ 1)
       → Sound (record { line = s .line; field = s .field; digits = digits; value = value; drilled = drilled; height = s .height; width = s .width; cells = s .cells })
   unfolding fields-due in-header
-  further digits value drilled few =
+  further digits value drilled few none some =
       record {
         cells-in-range = sound .cells-in-range;
         cell-count = sound .cell-count;
@@ -152,16 +174,24 @@ module _ (s : Standing) (sound : Sound s) where
         field-from-1 = sound .field-from-1;
         field-due = sound .field-due;
         digits-due = few;
+        no-value = none;
+        no-leading-zero = some;
         sizes-in-range = sound .sizes-in-range;
       }
 
-  pub digit-sound : (byte : ℕ) → (s .digits ≡ 10 → ⊥) → Sound (with-digit s byte)
+  pub digit-sound : (byte : ℕ) → (s .digits ≡ 1 → s .value ≡ 0 → ⊥) → (s .digits ≡ 10 → ⊥) → Sound (with-digit s byte)
   unfolding with-digit
-  digit-sound byte n = further (s .digits + 1) (s .value * 10 + (byte - 48)) (s .drilled) (omega (arith, sound .digits-due, n))
+  digit-sound byte z n = further (s .digits + 1) (s .value * 10 + (byte - 48)) (s .drilled) (omega (arith, sound .digits-due, n)) (λ (e : s .digits + 1 ≡ 0). absurd (omega arith)) first
+    where
+      first : s .value * 10 + (byte - 48) ≡ 0 → s .digits + 1 ≤ 1
+      first e =
+          let nought : s .value ≡ 0 = omega (arith, e) in
+          let other : (s .digits ≡ 1 → ⊥) = (λ one. z one nought) in
+          omega (arith, sound .no-leading-zero nought, other)
 
   pub hole-sound : Sound (with-hole s)
   unfolding with-hole
-  hole-sound = further (s .digits) (s .value) true (sound .digits-due)
+  hole-sound = further (s .digits) (s .value) true (sound .digits-due) (sound .no-value) (sound .no-leading-zero)
 
   -- the standing at another field, in a row and in the header
   pub begun-row : (line field : ℕ) → in-header s ≡ false → begun s line field ≡ record { line = line; field = field; digits = 0; value = 0; drilled = false; height = s .height; width = s .width; cells = set (s .cells) ((s .line - 2) * s .width + (s .field - 1)) (field-cell s) }
@@ -195,6 +225,8 @@ module _ (s : Standing) (sound : Sound s) where
         field-from-1 = f;
         field-due = rw n w;
         digits-due = omega arith;
+        no-value = λ z. refl;
+        no-leading-zero = λ z. omega arith;
         sizes-in-range = λ (e : eqb line 1 ≡ false). (sound .sizes-in-range h .0, sound .sizes-in-range h .1, l);
       })
 
@@ -216,6 +248,8 @@ module _ (s : Standing) (sound : Sound s) where
         field-from-1 = omega arith;
         field-due = rw h (more (rw h at n));
         digits-due = omega arith;
+        no-value = λ z. refl;
+        no-leading-zero = λ z. omega arith;
         sizes-in-range = λ (e : eqb (s .line) 1 ≡ false). conflict h e;
       })
     where
@@ -259,6 +293,8 @@ module _ (s : Standing) (sound : Sound s) where
         field-from-1 = omega arith;
         field-due = omega (arith, found .1 .0);
         digits-due = omega arith;
+        no-value = λ z. refl;
+        no-leading-zero = λ z. omega arith;
         sizes-in-range = λ e. (found .0, found .1, omega (arith, found .0 .0));
       })
     where
@@ -284,7 +320,7 @@ module _ (s : Standing) (sound : Sound s) where
       p = byte-passed s byte r
 
       go : Kind s byte → Sound (after s byte)
-      go (a-digit d undrilled n) = rw d (digit-sound byte n)
+      go (a-digit d undrilled z n) = rw d (digit-sound byte z n)
       go (a-hole-sign e in-row first undrilled) = rw e hole-sound
       go (a-comma e v n) = rw e (comma-sound v n)
       go (a-line-end e v due b) = rw e (line-end-sound (p .unfinished) v due b)

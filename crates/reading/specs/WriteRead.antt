@@ -1,9 +1,9 @@
--- Writing and reading a grid file, held together: what is written reads back as the grid, and what was read is written as the file in
--- shortest digits; what is written is in shortest digits itself. The statements are about the calls `write` and `read` as the model
--- defines them, for any lent buffer.
+-- Writing and reading a grid file, held together: they undo each other. What is written reads back as the grid, and what was read is
+-- written as the file, byte for byte. The statements are about the calls `write` and `read` as the model defines them, for any lent
+-- buffer.
 use mathlib.Core.Path.{_≡_, refl, sym, ap, _∙_}
 use mathlib.Core.Bool.{Bool, true, false}
-use mathlib.Core.List.{List, _++_}
+use mathlib.Core.List.{List}
 use Prim.Native.Nat.{ℕ, _*_, _-_, _≤_, _<_}
 use native.Mathlib.Nat.{le-trans}
 use native.Mathlib.Omega.{arith}
@@ -18,7 +18,6 @@ use Rattle.model.specs.RefusalLaws.{not-refused, accepted-is-not-refused}
 use Rattle.model.specs.GridFile.{Reading, blank, read}
 use Rattle.model.specs.Writing.{grid-text, turned-away, written, write}
 use Rattle.reading.specs.ReadingLaws.{read-sound}
-use Rattle.reading.specs.ShortestDigits.{in-shortest-digits, LeadingZero, same-bytes, fewer-bytes, no-more-bytes}
 use Rattle.reading.specs.ReadBack.{grid-reading, text-is-read, longest-text}
 use Rattle.reading.specs.WrittenBack.{pads-read, text-is-file}
 
@@ -87,36 +86,55 @@ written-is-read height width cells buffer n =
 
 -- ## Writing what was read
 
-module _ (file : List ℕ) (accepted : read file .number ≡ 0) where
-  -- the file with each field in its shortest digits, where the buffer has room for it; a buffer as long as the file has (`no-more-bytes`)
-  pub read-is-written : (buffer : List ℕ) → length (in-shortest-digits file) ≤ length buffer
-      → write (read file .height) (read file .width) (pads-read (read file)) buffer ≡ written (in-shortest-digits file) buffer
-  read-is-written buffer h =
-      has-room (read file .height) (read file .width) (pads-read (read file)) buffer (read-sound file .in-range accepted) (rw (text-is-file file accepted) h)
-      ∙ ap (λ (text : List ℕ). written text buffer) (text-is-file file accepted)
+-- the file, byte for byte, in every buffer that is as long as the file
+pub read-is-written : (file : List ℕ) → read file .number ≡ 0 → (buffer : List ℕ) → length file ≤ length buffer
+    → write (read file .height) (read file .width) (pads-read (read file)) buffer ≡ written file buffer
+read-is-written file accepted buffer h =
+    has-room (read file .height) (read file .width) (pads-read (read file)) buffer (read-sound file .in-range accepted) (rw (text-is-file file accepted) h)
+    ∙ ap (λ (text : List ℕ). written text buffer) (text-is-file file accepted)
 
-  -- the same bytes exactly where no field of two or more digits begins with 0
-  pub same-file : (LeadingZero false file → ⊥) → (buffer : List ℕ) → length file ≤ length buffer
-      → write (read file .height) (read file .width) (pads-read (read file)) buffer ≡ written file buffer
-  same-file none buffer h = read-is-written buffer (rw (same-bytes file none) h) ∙ ap (λ (text : List ℕ). written text buffer) (same-bytes file none)
+-- no accepted file is longer than the text of a grid
+pub longest-accepted : (file : List ℕ) → read file .number ≡ 0 → length file ≤ 2822
+longest-accepted file accepted = rw (text-is-file file accepted) at (longest-text (read file .height) (read file .width) (pads-read (read file)) (read-sound file .in-range accepted))
 
-  pub shorter-file : LeadingZero false file → (buffer : List ℕ) → length file ≤ length buffer
-      → write (read file .height) (read file .width) (pads-read (read file)) buffer .length < length file
-  unfolding written
-  shorter-file z buffer h = rw (read-is-written buffer (le-trans (no-more-bytes file) h)) (fewer-bytes file z)
+-- ## Each undoes the other
 
--- ## What is written is in shortest digits
+-- a file that is the text of an accepted grid
+pub record TextOfGrid (file : List ℕ) : Type 0 where
+  pub height : ℕ
+  pub width : ℕ
+  pub cells : List ℤ
+  pub in-range : Accepted height width cells
+  pub text : grid-text height width cells ≡ file
 
-module _ (height width : ℕ) (cells : List ℤ) (a : Accepted height width cells) where
-  pub text-is-shortest : in-shortest-digits (grid-text height width cells) ≡ grid-text height width cells
-  text-is-shortest = sym (text-is-file (grid-text height width cells) (ap (λ (r : Reading). r .number) reads)) ∙ ap (λ (r : Reading). grid-text (r .height) (r .width) (pads-read r)) reads ∙ ap (grid-text height width) its-cells
+-- the accepted files are exactly these
+pub accepted-is-text : (file : List ℕ) → read file .number ≡ 0 → TextOfGrid file
+accepted-is-text file accepted =
+    record {
+      height = read file .height;
+      width = read file .width;
+      cells = pads-read (read file);
+      in-range = read-sound file .in-range accepted;
+      text = text-is-file file accepted;
+    }
+
+pub text-is-accepted : (file : List ℕ) → TextOfGrid file → read file .number ≡ 0
+text-is-accepted file t = rw (← t .text) (ap (λ (r : Reading). r .number) (text-is-read (t .height) (t .width) (t .cells) (t .in-range)))
+
+-- two accepted files with the same reading are the same file: 07 and 7 are never both read as 7
+pub one-file-a-grid : (file other : List ℕ) → read file .number ≡ 0 → read file ≡ read other → file ≡ other
+one-file-a-grid file other accepted same =
+    sym (text-is-file file accepted)
+    ∙ ap (λ (r : Reading). grid-text (r .height) (r .width) (pads-read r)) same
+    ∙ text-is-file other (rw same at accepted)
+
+-- two accepted grids with the same text are the same grid
+module _ (height width : ℕ) (cells : List ℤ) (in-range : Accepted height width cells) (height′ width′ : ℕ) (cells′ : List ℤ) (in-range′ : Accepted height′ width′ cells′) where
+  pub one-grid-a-text : grid-text height width cells ≡ grid-text height′ width′ cells′ → (height ≡ height′) × (width ≡ width′) × (cells ≡ cells′)
+  one-grid-a-text same = (ap (λ (r : Reading). r .height) readings, ap (λ (r : Reading). r .width) readings, sym (pads height width cells in-range) ∙ ap pads-read readings ∙ pads height′ width′ cells′ in-range′)
     where
-      reads : read (grid-text height width cells) ≡ grid-reading height width cells
-      reads = text-is-read height width cells a
+      readings : grid-reading height width cells ≡ grid-reading height′ width′ cells′
+      readings = sym (text-is-read height width cells in-range) ∙ ap read same ∙ text-is-read height′ width′ cells′ in-range′
 
-      its-cells : take (height * width) (cells ++ replicate (256 - length cells) blank) ≡ cells
-      its-cells = take-at cells (replicate (256 - length cells) blank) (height * width) (a .one-cell-a-pad)
-
-  -- no field of two or more digits begins with 0
-  pub no-leading-zero : LeadingZero false (grid-text height width cells) → ⊥
-  no-leading-zero z = omega (arith, fewer-bytes (grid-text height width cells) z, ap (λ (l : List ℕ). length l) text-is-shortest)
+      pads : (h w : ℕ) (c : List ℤ) → Accepted h w c → pads-read (grid-reading h w c) ≡ c
+      pads h w c a = take-at c (replicate (256 - length c) blank) (h * w) (a .one-cell-a-pad)

@@ -1,1 +1,1 @@
-// Laws of reading a grid file, about the model alone: everything stands in specs/.
+// Laws of reading and writing a grid file, about the model alone: everything stands in specs/.

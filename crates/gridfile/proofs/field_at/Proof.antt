@@ -1,7 +1,7 @@
 -- `gridfile::field_at` meets its contract. The loop keeps `Passed`: what is left of the field gives the field's answer.
 -- Assumes nothing.
 use Rattle.reading.specs.FieldSteps.{digit-bounds}
-use Rattle.gridfile.proofs.FieldLaws.{Passed, none-passed, one-passed, value-fits, a-digit, not-digit, field-stops, field-too-long, field-unended}
+use Rattle.gridfile.proofs.FieldLaws.{Passed, none-passed, one-passed, value-fits, a-digit, not-digit, field-stops, field-led-by-0, field-too-long, field-unended}
 use Prim.Native.Nat.{_-_}
 use mathlib.Core.Path.{sym, _∙_}
 use lib.ListN.{length}
@@ -33,23 +33,32 @@ ended-field-requires c κs = tt
 returns : tie.Need-returns Inv-loop μ-loop
 returns c = (c .ended-field .ensures) ∙ sym (field-stops _ _ _ _ (c .before .before .before .before .loop-test .taken) (not-digit _ (c .before .before .is-digit .ensures) (c .before .if1 .taken))) ∙ (c .before .before .before .before .before .loop .inv .left)
 
-sub-if2 : tie.Need-sub-if2 Inv-loop μ-loop
-sub-if2 c = omega arith
+sub-is-zero-alone : tie.Need-sub-is-zero-alone Inv-loop μ-loop
+sub-is-zero-alone c = omega arith
+
+is-zero-alone-requires : tie.Need-is-zero-alone-requires Inv-loop μ-loop
+is-zero-alone-requires c κs = tt
 
 returns-2 : tie.Need-returns-2 Inv-loop μ-loop
-returns-2 c = sym (field-too-long _ _ _ _ (c .before .before .before .before .loop-test .taken) (a-digit _ (c .before .before .is-digit .ensures) (c .before .if1 .left)) (c .if2 .taken)) ∙ (c .before .before .before .before .before .loop .inv .left)
+returns-2 c = sym (field-led-by-0 _ _ _ _ (c .before .before .before .before .before .loop-test .taken) (a-digit _ (c .before .before .before .is-digit .ensures) (c .before .before .if1 .left)) (sym (c .before .is-zero-alone .ensures) ∙ c .if2 .taken)) ∙ (c .before .before .before .before .before .before .loop .inv .left)
+
+sub-if3 : tie.Need-sub-if3 Inv-loop μ-loop
+sub-if3 c = omega arith
+
+returns-3 : tie.Need-returns-3 Inv-loop μ-loop
+returns-3 c = sym (field-too-long _ _ _ _ (c .before .before .before .before .before .before .loop-test .taken) (a-digit _ (c .before .before .before .before .is-digit .ensures) (c .before .before .before .if1 .left)) (sym (c .before .before .is-zero-alone .ensures) ∙ c .before .if2 .left) (c .if3 .taken)) ∙ (c .before .before .before .before .before .before .before .loop .inv .left)
 
 mul-value : tie.Need-mul-value Inv-loop μ-loop
-mul-value c = omega (arith, value-fits _ _ _ _ (c .before .before .before .before .before .loop .inv) (c .before .before .before .before .loop-test .taken) (a-digit _ (c .before .before .is-digit .ensures) (c .before .if1 .left)) (c .if2 .left))
+mul-value c = omega (arith, value-fits _ _ _ _ (c .before .before .before .before .before .before .before .loop .inv) (c .before .before .before .before .before .before .loop-test .taken) (a-digit _ (c .before .before .before .before .is-digit .ensures) (c .before .before .before .if1 .left)) (c .if3 .left))
 
 sub-value : tie.Need-sub-value Inv-loop μ-loop
-sub-value c = digit-bounds _ (a-digit _ (c .before .before .is-digit .ensures) (c .before .if1 .left)) .0
+sub-value c = digit-bounds _ (a-digit _ (c .before .before .before .before .is-digit .ensures) (c .before .before .before .if1 .left)) .0
 
 cast-value : tie.Need-cast-value Inv-loop μ-loop
-cast-value c = omega (arith, digit-bounds _ (a-digit _ (c .before .before .is-digit .ensures) (c .before .if1 .left)) .1)
+cast-value c = omega (arith, digit-bounds _ (a-digit _ (c .before .before .before .before .is-digit .ensures) (c .before .before .before .if1 .left)) .1)
 
 add-value : tie.Need-add-value Inv-loop μ-loop
-add-value c = omega (arith, value-fits _ _ _ _ (c .before .before .before .before .before .loop .inv) (c .before .before .before .before .loop-test .taken) (a-digit _ (c .before .before .is-digit .ensures) (c .before .if1 .left)) (c .if2 .left))
+add-value c = omega (arith, value-fits _ _ _ _ (c .before .before .before .before .before .before .before .loop .inv) (c .before .before .before .before .before .before .loop-test .taken) (a-digit _ (c .before .before .before .before .is-digit .ensures) (c .before .before .before .if1 .left)) (c .if3 .left))
 
 add-at : tie.Need-add-at Inv-loop μ-loop
 add-at c = omega arith
@@ -58,10 +67,10 @@ loop-less : tie.Need-loop-less Inv-loop μ-loop
 loop-less c = omega arith
 
 loop-again : tie.Need-loop-again Inv-loop μ-loop
-loop-again c = one-passed _ _ _ _ (c .before .before .before .before .before .loop .inv) (c .before .before .before .before .loop-test .taken) (a-digit _ (c .before .before .is-digit .ensures) (c .before .if1 .left)) (c .if2 .left)
+loop-again c = one-passed _ _ _ _ (c .before .before .before .before .before .before .before .loop .inv) (c .before .before .before .before .before .before .loop-test .taken) (a-digit _ (c .before .before .before .before .is-digit .ensures) (c .before .before .before .if1 .left)) (c .if3 .left) (sym (c .before .before .is-zero-alone .ensures) ∙ c .before .if2 .left)
 
-returns-3 : tie.Need-returns-3 Inv-loop μ-loop
-returns-3 c = sym (field-unended _ _ _ _ (c .loop-test .left)) ∙ c .before .loop .inv .left
+returns-4 : tie.Need-returns-4 Inv-loop μ-loop
+returns-4 c = sym (field-unended _ _ _ _ (c .loop-test .left)) ∙ c .before .loop .inv .left
 
 pub field-at-spec : {M : Type 1} → statement M
 field-at-spec =
@@ -75,8 +84,11 @@ field-at-spec =
     sub-ended-field
     ended-field-requires
     returns
-    sub-if2
+    sub-is-zero-alone
+    is-zero-alone-requires
     returns-2
+    sub-if3
+    returns-3
     mul-value
     sub-value
     cast-value
@@ -84,4 +96,4 @@ field-at-spec =
     add-at
     loop-less
     loop-again
-    returns-3)
+    returns-4)
