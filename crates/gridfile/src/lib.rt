@@ -70,7 +70,7 @@ fn disallowed_number(digits: usize) -> u8
     13
 }
 
-// Whether a field that has so many digits of this value is `0` alone, after which no digit may come.
+// Whether a field of so many digits with this value is `0` alone, after which no digit may come.
 fn is_zero_alone(digits: usize, value: usize) -> bool
     ensures { λ r. ⌜ r ≡ is-zero-alone digits value ⌝ }
 {

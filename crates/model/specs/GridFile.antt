@@ -34,7 +34,7 @@ is-hole-sign byte = eqb byte 35
 unfoldable pub disallowed-number : ℕ → ℕ
 disallowed-number digits = if eqb digits 0 then 1 else 13
 
--- a field that has so many digits of this value is `0` alone: floor 0, after which no digit may come, since 07 and 7 are not one door
+-- whether a field of so many digits with this value is `0` alone: it is floor 0, and no digit may come after it, since 07 and 7 are two doors
 unfoldable pub is-zero-alone : ℕ → ℕ → Bool
 is-zero-alone digits value = eqb digits 1 && eqb value 0
 
