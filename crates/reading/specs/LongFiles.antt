@@ -1,5 +1,6 @@
--- The first 4,096 bytes of any input decide what is read: a number of bytes that can still be accepted falls with every accepted byte,
--- and is 2,838 at the start.
+-- The first 4,096 bytes of any input decide what is read: a number of bytes that can still be accepted falls with every accepted byte.
+-- It is 2,838 at the start, which is a rough count: it leaves room for ten digits in both fields of the header. That no accepted file is
+-- longer than 2,822 bytes is said in WriteRead.antt.
 use Rattle.model.specs.Choice.{if_then_else_}
 use mathlib.Core.Path.{_≡_, refl, ap}
 use mathlib.Core.Bool.{Bool, true, false, _&&_}

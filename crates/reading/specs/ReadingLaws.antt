@@ -35,7 +35,7 @@ pub record Passed (s : Standing) (byte : ℕ) : Type 0 where
 -- which test gave the number: none; that of 6; that of a disallowed byte; that of a leading 0; or one that comes after these
 pub data Told (s : Standing) (byte number : ℕ) : Type 0 where
   told-none : number ≡ 0 → Passed s byte → Told s byte number
-  told-6 : number ≡ 6 → Told s byte number
+  told-6 : number ≡ 6 → is-complete s ≡ true → Told s byte number
   told-disallowed : number ≡ disallowed-number (s .digits) → is-allowed s byte ≡ false → Told s byte number
   told-15 : number ≡ 15 → is-allowed s byte ≡ true → is-digit byte && is-zero-alone (s .digits) (s .value) ≡ true → Told s byte number
   told-later : 2 ≤ number → number ≤ 5 → is-allowed s byte ≡ true → is-digit byte && is-zero-alone (s .digits) (s .value) ≡ false → Told s byte number
@@ -48,7 +48,7 @@ told s byte = go (is-complete s) (is-allowed s byte) _ _ _ _ _ _ refl refl refl 
         → is-digit byte && eqb (s .digits) most-digits ≡ t2 → not (is-digit byte) && ltb largest-code (s .value) ≡ t3 → is-line-end byte && ltb (s .field) (fields-due s) ≡ t4
         → is-comma byte && eqb (s .field) (fields-due s) ≡ t4′ → is-line-end byte && in-header s && ltb 0 (bad-size s) ≡ t5
         → Told s byte (if t6 then 6 else if not a then disallowed-number (s .digits) else if t15 then 15 else if t2 then 2 else if t3 then 3 else if t4 then 4 else if t4′ then 4 else if t5 then 5 else 0)
-    go true a t15 t2 t3 t4 t4′ t5 p6 p1 p15 p2 p3 p4 p4′ p5 = told-6 refl
+    go true a t15 t2 t3 t4 t4′ t5 p6 p1 p15 p2 p3 p4 p4′ p5 = told-6 refl p6
     go false false t15 t2 t3 t4 t4′ t5 p6 p1 p15 p2 p3 p4 p4′ p5 = told-disallowed refl p1
     go false true true t2 t3 t4 t4′ t5 p6 p1 p15 p2 p3 p4 p4′ p5 = told-15 refl p1 p15
     go false true false true t3 t4 t4′ t5 p6 p1 p15 p2 p3 p4 p4′ p5 = told-later (omega arith) (omega arith) p1 p15
@@ -65,7 +65,7 @@ byte-passed s byte accepted = go (told s byte) (eqb (s .digits) 0) refl
   where
     go : Told s byte (refusal s byte) → (first : Bool) → eqb (s .digits) 0 ≡ first → Passed s byte
     go (told-none e p) first f = p
-    go (told-6 e) first f = absurd (omega (arith, e, accepted))
+    go (told-6 e c) first f = absurd (omega (arith, e, accepted))
     go (told-disallowed e a) true f = let k : refusal s byte ≡ 1 = rw f at e in absurd (omega (arith, k, accepted))
     go (told-disallowed e a) false f = let k : refusal s byte ≡ 13 = rw f at e in absurd (omega (arith, k, accepted))
     go (told-15 e a z) first f = absurd (omega (arith, e, accepted))
