@@ -85,7 +85,8 @@ pub data Why (file : List ℕ) (place number : ℕ) : Type 0 where
   -- another number: the byte has no fault by itself
   other-fault : place < length file → fault-at file place ≡ 0 → 2 ≤ number → number ≤ 5 → Why file place number
 
--- no byte before that place has a fault; a refusal names the line and the field of that place, but 5 the first bad field of the header
+-- No byte before that place has a fault. A refusal names the line of that place and, unless it is 5, the field; which field of the header 5
+-- names is said by `bad-size` of the model.
 pub record Stops (file : List ℕ) (reading : Reading) : Type 0 where
   pub place : ℕ
   pub none-before : (i : ℕ) → i < place → fault-at file i ≡ 0
@@ -160,8 +161,8 @@ follows-after s line field led before byte sound passes f = go (kind-of s byte (
 
 -- ## The whole file
 
--- the reading has come to a place of a file: it has found no fault, its standing follows the bytes before the place, and from there on it reads what it
--- would have read after them
+-- the reading has come to a place of a file: no byte before it has a fault, the standing says of these bytes what it should, and whatever bytes come
+-- after them are read from this standing
 record Stands (file : List ℕ) (place : ℕ) (s : Standing) : Type 0 where
   sound : Sound s
   within : place ≤ length file

@@ -1,5 +1,5 @@
--- Laws of reading a grid file: what every reading gives, that the first 4,096 bytes decide it, and of which byte 1, 13 and 15 are told;
--- and of writing one: reading what is written gives the grid, writing what is read gives the file.
+-- Laws of reading a grid file: what every reading gives, that the first 4,096 bytes decide it, where it stops and what it names there; and
+-- of writing one: reading what is written gives the grid, writing what is read gives the file.
 pub mod FieldSteps
 pub mod ReadingLaws
 pub mod LongFiles

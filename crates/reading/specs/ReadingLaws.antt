@@ -119,7 +119,7 @@ pub record Sound (s : Standing) : Type 0 where
   pub field-from-1 : 1 ≤ s .field
   pub field-due : s .field ≤ fields-due s
   pub digits-due : s .digits ≤ 10
-  -- a field with no digits has no value, and of those with digits only `0` has none
+  -- a field with no digits has the value 0, and of those with digits only `0` alone has it
   pub no-value : s .digits ≡ 0 → s .value ≡ 0
   pub no-leading-zero : s .value ≡ 0 → s .digits ≤ 1
   pub sizes-in-range : in-header s ≡ false → Size (s .height) × Size (s .width) × (s .line ≤ s .height + 2)

@@ -93,7 +93,7 @@ read-is-written file accepted buffer h =
     has-room (read file .height) (read file .width) (pads-read (read file)) buffer (read-sound file .in-range accepted) (rw (text-is-file file accepted) h)
     ∙ ap (λ (text : List ℕ). written text buffer) (text-is-file file accepted)
 
--- no accepted file is longer than the text of a grid
+-- no accepted file is longer than the longest text of a grid
 pub longest-accepted : (file : List ℕ) → read file .number ≡ 0 → length file ≤ 2822
 longest-accepted file accepted = rw (text-is-file file accepted) at (longest-text (read file .height) (read file .width) (pads-read (read file)) (read-sound file .in-range accepted))
 
