@@ -11,7 +11,7 @@ use Rattle.model.specs.RefusalLaws.{test-of-size}
 use Rattle.model.specs.Text.{bytes, comma, line-end}
 use Rattle.model.specs.Decimal.{decimal}
 use Rattle.model.specs.GridFile.{Reading, read}
-use Rattle.model.specs.Printed.{refusal-line}
+use Rattle.model.specs.Printed.{refusal-line, reading-text}
 use Rattle.model.specs.Judge.{Judged, judge}
 use Rattle.model.specs.JudgeText.{record-of-codes, judged-line, judged-text}
 use Rattle.printed.specs.Written.{Written, text-of-bytes}
@@ -27,11 +27,11 @@ judged-parts said = simp append-assoc
 
 module _ (file : List ℕ) (reading : Reading) (same : reading ≡ read file) where
   pub refused-text : (digits : List ℕ) → (reading .number ≡ 0 → ⊥) → {bytes : List ℕ} {long : ℕ}
-      → Written 54 (refusal-line (reading .number) (reading .line) (reading .field)) bytes long → Written 54 (judged-text digits (read file)) bytes long
-  unfolding judged-text
+      → Written 67 (refusal-line (reading .number) (reading .line) (reading .field)) bytes long → Written 67 (judged-text digits (read file)) bytes long
+  unfolding judged-text reading-text
   refused-text digits refuses {bytes} {long} written = go (reading .number) refl
     where
-      go : (n : ℕ) → reading .number ≡ n → Written 54 (judged-text digits (read file)) bytes long
+      go : (n : ℕ) → reading .number ≡ n → Written 67 (judged-text digits (read file)) bytes long
       go zero e = absurd (refuses e)
       go (suc n) e = rw (← same, e) (rw e at written)
 
@@ -48,6 +48,6 @@ module _ (file : List ℕ) (reading : Reading) (same : reading ≡ read file) wh
     -- the record that is judged is that of the codes
     pub accepted-text : (digits : List ℕ) {laid : List ℕ} {size : ℕ} → Written 961 (record-of-codes (reading .height) (reading .width) digits) laid size
         → {said : Judged} → said ≡ judge (reading .height) (reading .width) (take (reading .height * reading .width) (reading .cells)) (take size laid)
-        → {bytes : List ℕ} {long : ℕ} → Written 54 (judged-line said) bytes long → Written 54 (judged-text digits (read file)) bytes long
-    unfolding judged-text
+        → {bytes : List ℕ} {long : ℕ} → Written 67 (judged-line said) bytes long → Written 67 (judged-text digits (read file)) bytes long
+    unfolding judged-text reading-text
     accepted-text digits coded says written = rw (← same, accepts) (rw (says, text-of-bytes coded) at written)

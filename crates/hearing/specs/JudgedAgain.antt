@@ -2,7 +2,7 @@
 -- their record is the same record; so each layout that it prints is judged 2, with its lines. It rests on the rules' RecordLaws.antt, on the
 -- definitions of what `routes` prints and of what the judge makes of codes, and on what the judge says (crate `ruletest`).
 use Rattle.model.specs.Choice.{if_then_else_}
-use Prim.Native.Nat.{ℕ, zero, suc, _+_, _*_, _-_, _%_, _/_, _≤_, _<_}
+use Prim.Native.Nat.{ℕ, zero, suc, _+_, _*_, _%_, _/_, _≤_, _<_}
 use mathlib.Core.Path.{_≡_, refl, sym, ap, _∙_}
 use mathlib.Core.Bool.{Bool, true, false, _&&_, _||_, not}
 use mathlib.Core.List.{List, _∷_, List·Memᴰ, Memᴰ·append-left}
@@ -22,7 +22,7 @@ use Rattle.rules.specs.Places.{first-inside}
 use Rattle.rules.specs.Tests.{both-on, all-below-so, num-small}
 use Rattle.model.specs.Decimal.{digit-byte}
 use Rattle.model.specs.GridFile.{read}
-use Rattle.model.specs.Printed.{line-at, right-line, down-line, code-of-pad, code-digits-from, code-digits}
+use Rattle.model.specs.Printed.{line-at, right-line, down-line, code-of-pad, code-digits-from, code-digits, reading-text}
 use Rattle.model.specs.Judge.{judge}
 use Rattle.model.specs.JudgeText.{zero-digit, digit-at, code-at, coded, digit-fits, codes-fit, record-of-codes, judged-line, judged-text, judge-text}
 use Rattle.model.specs.Search.{scan, search}
@@ -155,7 +155,7 @@ module _ (file : List ℕ) (accepted : read file .number ≡ 0) where
 
   pub line-judged-again : (D : Drawing) → Placed (grid-of height width cells) D → (bytes : List ℕ) → bytes ≡ record-of (grid-of height width cells) D
       → judged-text (code-digits height width bytes) (read file) ≡ judged-line (judge height width cells bytes)
-  unfolding judged-text grid-of
+  unfolding judged-text reading-text grid-of
   line-judged-again D placed bytes shown =
       rw (accepted, judged-again (grid-of height width cells) (read-sound file .in-range accepted .width-in-range .0) D placed bytes shown) refl
 

@@ -13,14 +13,14 @@ use lib.ListN.{length, take}
 use borrow.Author.Tests.{leb-false, ne-eqb}
 use Rattle.rules.specs.Grid.{Accepted}
 use Rattle.model.specs.GridFile.{Reading, read}
-use Rattle.model.specs.Judge.{judge}
+use Rattle.model.specs.Printed.{reading-text}
 use Rattle.model.specs.JudgeText.{codes-fit, record-of-codes, judged-text, judge-text}
 use Rattle.printed.specs.Written.{Written, text-of-bytes}
 use Rattle.reading.specs.ReadingLaws.{SoundReading, read-sound}
 use Rattle.reading.specs.LongFiles.{first-bytes-suffice}
 
 -- for every file, however long, and all codes
-pub whole-file : (file digits : List ℕ) {bytes : List ℕ} {long : ℕ} → Written 54 (judged-text digits (read file)) bytes long → take long bytes ≡ judge-text digits file
+pub whole-file : (file digits : List ℕ) {bytes : List ℕ} {long : ℕ} → Written 67 (judged-text digits (read file)) bytes long → take long bytes ≡ judge-text digits file
 unfolding judge-text
 whole-file file digits written = text-of-bytes written ∙ ap (judged-text digits) (sym (first-bytes-suffice file))
 
@@ -32,7 +32,7 @@ other-length height width digits other = rw (ne-eqb (length digits) (height * wi
 
 -- more than 256 codes are no more to a grid than none
 too-many : (digits : List ℕ) → 256 < length digits → (reading : Reading) → SoundReading reading → judged-text digits reading ≡ judged-text [] reading
-unfolding judged-text
+unfolding judged-text reading-text
 too-many digits many reading sound = go (reading .number) refl
   where
     go : (n : ℕ) → reading .number ≡ n → judged-text digits reading ≡ judged-text [] reading
@@ -49,7 +49,7 @@ unfoldable pub handed-over : List ℕ → List ℕ
 handed-over argument = if leb (length argument) 4096 then argument else []
 
 -- WHAT `judge` PRINTS, for every argument and every standard input
-pub judge-prints : (argument input : List ℕ) {bytes : List ℕ} {long : ℕ} → Written 54 (judged-text (handed-over argument) (read (take 4096 input))) bytes long
+pub judge-prints : (argument input : List ℕ) {bytes : List ℕ} {long : ℕ} → Written 67 (judged-text (handed-over argument) (read (take 4096 input))) bytes long
     → take long bytes ≡ judge-text argument input
 unfolding judge-text handed-over
 judge-prints argument input written = text-of-bytes written ∙ go (leb (length argument) 4096) refl

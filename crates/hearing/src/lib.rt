@@ -11,7 +11,6 @@ ghost use Rattle.rules.specs.Record.{byte-of, byte-at-place, field};
 ghost use Rattle.rules.specs.RecordLaws.{field-row};
 ghost use Rattle.model.specs.Bounds.{is-size};
 ghost use Rattle.model.specs.GridFile.{read};
-ghost use Rattle.model.specs.Printed.{refusal-line};
 ghost use Rattle.model.specs.JudgeText.{digit-at, code-at, coded, digit-fits, record-of-codes, judged-line, judged-text, codes-fit, coded-bytes, usage-line};
 ghost use Rattle.text.specs.Put.{Put};
 ghost use Rattle.printed.specs.Written.{Written};
@@ -19,6 +18,7 @@ ghost use Rattle.judging.specs.Judging.{judged-says};
 use grid::Edge;
 use grid::Pads;
 use judging::Judged;
+use printed::HeadLine;
 
 const ZERO: u8 = 48;
 
@@ -191,43 +191,25 @@ fn record_of_codes(height: usize, width: usize, digits: &[u8]) -> CodedRecord
     CodedRecord { bytes, length }
 }
 
-// The text that is printed for a file and codes: the line of a refused file, or the verdict and the lines.
-pub struct Judgement {
-    pub bytes: [u8; 54],
-    pub length: usize,
-}
-
-// The line of a refused file.
-fn refused(number: u8, line: usize, field: usize) -> Judgement
-    ensures { λ r. ⌜ Written 54 (refusal-line number line field) (r .bytes) (r .length) ⌝ }
-{
-    let text = printed::refusal_line(number, line as u64, field as u64);
-    let bytes = text.bytes;
-    Judgement {
-        bytes,
-        length: text.length,
-    }
-}
-
 // The verdict and the lines.
-fn judged_line(said: Judged) -> Judgement
-    ensures { λ r. ⌜ Written 54 (judged-line (judged-says said)) (r .bytes) (r .length) ⌝ }
+fn judged_line(said: Judged) -> HeadLine
+    ensures { λ r. ⌜ Written 67 (judged-line (judged-says said)) (r .bytes) (r .length) ⌝ }
 {
-    let mut bytes = [0; 54];
+    let mut bytes = [0; 67];
     let verdict = said.verdict as u64;
     let lines = said.lines as u64;
     let first = text::put_field(&mut bytes, 0, verdict, COMMA);
     let length = text::put_field(&mut bytes, first, lines, LINE_END);
-    Judgement { bytes, length }
+    HeadLine { bytes, length }
 }
 
-// Reads the file, lays the codes out as a record of its grid, and gives the text.
-pub fn judged(file: &[u8], digits: &[u8]) -> Judgement
-    ensures { λ r. ⌜ Written 54 (judged-text (now (digits .entry)) (read (now (file .entry)))) (r .bytes) (r .length) ⌝ }
+// Reads the file, lays the codes out as a record of its grid, and gives the text: the line of a refused file, or the verdict and the lines.
+pub fn judged(file: &[u8], digits: &[u8]) -> HeadLine
+    ensures { λ r. ⌜ Written 67 (judged-text (now (digits .entry)) (read (now (file .entry)))) (r .bytes) (r .length) ⌝ }
 {
     let reading = gridfile::read(file);
     if reading.number != 0 {
-        return refused(reading.number, reading.line, reading.field);
+        return printed::refusal_line(reading.number, reading.line as u64, reading.field as u64);
     }
     let cells = reading.cells;
     let height = reading.height;

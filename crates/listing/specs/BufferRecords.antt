@@ -16,7 +16,7 @@ use Rattle.model.specs.Records.{has-record, record-at}
 use Rattle.model.specs.HasRecord.{HasRecord, what-a-record-has, record-is-there, that-part, this-record, record-here}
 use Rattle.model.specs.Search.{Event, visit, layout, scan, concat}
 use Rattle.model.specs.Printed.{layout-line, layout-lines}
-use Rattle.printed.specs.Written.{layout-text}
+use Rattle.printed.specs.Written.{Written, layout-text}
 use Rattle.searchview.specs.Progress.{Sized}
 use Rattle.listing.specs.Listing.{line-text}
 
@@ -50,10 +50,11 @@ module _ (height width count k : ℕ) (buffer : List ℕ) where
       go true h = what-a-record-has _ _ _ _ _ h
       go false h = absurd (e (rw h refl))
 
-  pub line-by-parts : (part : List ℕ) → part ≡ record-at height width count k buffer → HasRecord height width count k (length buffer)
-      → layout-text height width (k + 1) part ≡ line-text height width count k buffer
+  -- and an array that holds the line of this part holds that of record k
+  pub line-written : {part : List ℕ} → part ≡ record-at height width count k buffer → HasRecord height width count k (length buffer) → {bytes : List ℕ} {long : ℕ}
+      → Written 299 (layout-text height width (k + 1) part) bytes long → Written 299 (line-text height width count k buffer) bytes long
   unfolding layout-text
-  line-by-parts part e t = rw (that-line t, t .tall, t .wide, e) refl
+  line-written e t written = rw (that-line t) (rw (t .tall, t .wide, e) at written)
 
 -- ## Records one after the other
 

@@ -11,7 +11,7 @@ use Rattle.rules.specs.Grid.{grid-of, places}
 use Rattle.model.specs.Search.{scan, search, fewest, concat}
 use Rattle.model.specs.Records.{has-record, record-at}
 use Rattle.model.specs.GridFile.{Reading, read}
-use Rattle.model.specs.Printed.{Found, summary-line, refusal-line, layout-line, reading-text}
+use Rattle.model.specs.Printed.{Found, summary-line, refusal-line, layout-line, found-text, reading-text}
 use Rattle.model.specs.Routes.{routes-limit}
 use Rattle.printed.specs.Written.{Written}
 use Rattle.printed.specs.declared.LayoutLine.{LayoutLine}
@@ -25,13 +25,17 @@ found-within room height width cells =
     let run = scan routes-limit (places height width) 0 room (search (grid-of height width cells)) in
     record { outcome = run .outcome; layouts = length (run .records); visited = run .visited; fewest = fewest (run .records); records = run .records }
 
+-- the text of what it finds
+unfoldable pub text-within : ℕ → ℕ → ℕ → List ℤ → List ℕ
+text-within room height width cells = found-text height width (found-within room height width cells)
+
 -- what the search of the grid of an accepted file finds
 unfoldable pub grid-found : ℕ → Reading → Found
 grid-found room reading = found-within room (reading .height) (reading .width) (take (reading .height * reading .width) (reading .cells))
 
 -- the whole text for a file: `routes-text` of the model for a buffer of any length
 unfoldable pub file-text : ℕ → List ℕ → List ℕ
-file-text room file = reading-text (found-within room) (read file)
+file-text room file = reading-text (text-within room) (read file)
 
 -- ## Its parts
 

@@ -19,7 +19,7 @@ use Rattle.reading.specs.LongFiles.{first-bytes-suffice}
 use Rattle.searchview.specs.Sizes.{search-sized}
 use Rattle.printed.specs.declared.LayoutLine.{LayoutLine}
 use Rattle.listing.specs.declared.Heading.{Heading}
-use Rattle.listing.specs.Listing.{found-within, grid-found, file-text, reading-head, reading-records, put-records, Headed, Lined}
+use Rattle.listing.specs.Listing.{found-within, text-within, grid-found, file-text, reading-head, reading-records, put-records, Headed, Lined}
 use Rattle.listing.specs.BufferRecords.{AllLong, lines-from, lines-there, scan-long}
 
 -- the bytes of so many lines from layout k on, each up to its length
@@ -28,8 +28,8 @@ line-bytes line zero k = []
 line-bytes line (suc more) k = take (line k .length) (line k .bytes) ++ line-bytes line more (k + 1)
 
 -- the model's text is that of a buffer of 61,504 bytes
-room-of-routes : (input : List ℕ) → reading-text (found-within routes-room) (read (take 4096 input)) ≡ routes-text input
-unfolding routes-text printed routes-found found-within
+room-of-routes : (input : List ℕ) → reading-text (text-within routes-room) (read (take 4096 input)) ≡ routes-text input
+unfolding routes-text printed routes-found text-within found-within
 room-of-routes input = refl
 
 -- what head and lines say of a reading
@@ -56,11 +56,11 @@ module _ (room : ℕ) (reading : Reading) (sound : SoundReading reading) (buffer
       all : AllLong (places (reading .height) (reading .width)) (grid-found room reading .records)
       all = scan-long _ _ _ (search-sized (grid-of (reading .height) (reading .width) (take (reading .height * reading .width) (reading .cells)))) 0 room
 
-  pub reading-whole : reading-head room reading ++ lines ≡ reading-text (found-within room) reading
-  unfolding reading-head reading-records reading-text grid-found found-text lines-from
+  pub reading-whole : reading-head room reading ++ lines ≡ reading-text (text-within room) reading
+  unfolding reading-head reading-records reading-text text-within grid-found found-text lines-from
   reading-whole = go (reading .number) refl
     where
-      go : (n : ℕ) → reading .number ≡ n → reading-head room reading ++ lines ≡ reading-text (found-within room) reading
+      go : (n : ℕ) → reading .number ≡ n → reading-head room reading ++ lines ≡ reading-text (text-within room) reading
       go zero e = rw (found-lines e, e) refl
       go (suc n) e = rw e (append-nil _)
 
@@ -84,7 +84,7 @@ module _ (file buffer : List ℕ) (r : Heading) (buffer′ : List ℕ) (headed :
   -- for a buffer of 61,504 bytes: what `routes` prints for a file, however long
   pub whole-file : length buffer ≡ routes-room → all-bytes ≡ routes-text file
   unfolding file-text
-  whole-file room = whole ∙ ap (λ (n : ℕ). file-text n file) room ∙ ap (λ (reading : Reading). reading-text (found-within routes-room) reading) (sym (first-bytes-suffice file)) ∙ room-of-routes file
+  whole-file room = whole ∙ ap (λ (n : ℕ). file-text n file) room ∙ ap (λ (reading : Reading). reading-text (text-within routes-room) reading) (sym (first-bytes-suffice file)) ∙ room-of-routes file
 
 -- WHAT `routes` PRINTS, for every standard input: it hands over the first 4,096 bytes and lends 61,504
 module _ (input buffer : List ℕ) (r : Heading) (buffer′ : List ℕ) (headed : Headed (take 4096 input) buffer r buffer′)

@@ -1,10 +1,6 @@
 // What `routes` prints for a file, in parts that a program writes one after the other: the head, which is the line of a refused file or
 // the summary line, and the line of each layout. specs/Listing.antt says each part, and specs/Whole.antt that together they are the text
 // of the crate `model`. The answer buffer is lent: `head` leaves the records in it, and `line` reads them there.
-ghost use mathlib.Core.Path.{_≡_};
-ghost use mathlib.Core.List.{_++_};
-ghost use lib.ListN.{length};
-ghost use Rattle.printed.specs.Written.{zeros};
 ghost use Rattle.listing.specs.Listing.{Refused, Headed, Lined};
 use printed::LayoutLine;
 
@@ -20,27 +16,14 @@ pub struct Heading {
     pub layouts: usize,
 }
 
-// The line of a refused file in the array that a summary line has.
-fn refusal_bytes(line: [u8; 54]) -> [u8; 67]
-    ensures { λ r. ⌜ (r ≡ line ++ zeros 13) × (length line ≡ 54) ⌝ }
-{
-    let mut bytes = [0; 67];
-    let mut i = 0;
-    while i < 54 {
-        bytes[i] = line[i];
-        i += 1;
-    }
-    bytes
-}
-
 // The head for a refused file.
 fn refused(number: u8, line: usize, field: usize) -> Heading
     ensures { λ r. ⌜ Refused number line field r ⌝ }
 {
     let text = printed::refusal_line(number, line as u64, field as u64);
-    let line_bytes = text.bytes;
+    let bytes = text.bytes;
     Heading {
-        bytes: refusal_bytes(line_bytes),
+        bytes,
         length: text.length,
         height: 0,
         width: 0,

@@ -13,7 +13,7 @@ use Rattle.rules.specs.Tests.{all-below}
 use Rattle.model.specs.Text.{bytes, comma, line-end}
 use Rattle.model.specs.Decimal.{decimal}
 use Rattle.model.specs.GridFile.{Reading, read}
-use Rattle.model.specs.Printed.{refusal-line}
+use Rattle.model.specs.Printed.{reading-text}
 use Rattle.model.specs.Judge.{Judged, judge}
 
 -- THE CODE of a pad by its digit, right + 2 × down: what stands past the digits is none
@@ -55,13 +55,7 @@ judged-line said = decimal (said .verdict) ++ comma ++ decimal (said .lines) ++ 
 -- a refused file prints its line as `routes` does
 unfoldable pub judged-text : List ℕ → Reading → List ℕ
 judged-text digits reading =
-    elim (reading .number) [
-      | zero ↦
-          let height = reading .height in
-          let width = reading .width in
-          judged-line (judge height width (take (height * width) (reading .cells)) (record-of-codes height width digits))
-      | suc n ↦ refusal-line (suc n) (reading .line) (reading .field)
-    ]
+    reading-text (λ height width cells. judged-line (judge height width cells (record-of-codes height width digits))) reading
 
 -- WHAT `judge` PRINTS for its one argument; of the bytes of standard input the first 4,096 are read
 unfoldable pub judge-text : List ℕ → List ℕ → List ℕ

@@ -250,12 +250,12 @@ example-found =
 
 abbrev pub Example-printed : Type 0
 Example-printed =
-    printed (λ height width cells. example-found) (bytes "2,2\n5,\n,5\n") ≡ bytes "1,2,2,0\n1,2,2010\n"
+    printed (λ height width cells. found-text height width example-found) (bytes "2,2\n5,\n,5\n") ≡ bytes "1,2,2,0\n1,2,2010\n"
 
 abbrev pub Refused-printed : Type 0
 Refused-printed =
-    (printed (λ height width cells. example-found) (bytes "2,2\n1O,\n,1O\n") ≡ bytes "refused,13,2,1\n")
-    × (printed (λ height width cells. example-found) (bytes "2,2\n 10,\n,10\n") ≡ bytes "refused,1,2,1\n")
+    (printed (λ height width cells. found-text height width example-found) (bytes "2,2\n1O,\n,1O\n") ≡ bytes "refused,13,2,1\n")
+    × (printed (λ height width cells. found-text height width example-found) (bytes "2,2\n 10,\n,10\n") ≡ bytes "refused,1,2,1\n")
 
 -- numbers in shortest digits, up to the largest of 64 bits
 abbrev pub Decimals : Type 0

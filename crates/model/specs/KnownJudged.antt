@@ -12,7 +12,7 @@ use Rattle.model.specs.Refusals.{is-cell, first-bad-cell, grid-refusal}
 use Rattle.model.specs.Text.{bytes, comma, line-end}
 use Rattle.model.specs.Decimal.{digit-byte, digits-before, decimal}
 use Rattle.model.specs.GridFile.{is-digit, is-comma, is-line-end, is-hole-sign, begins-hole, is-allowed, disallowed-number, is-zero-alone, blank, hole, no-cells, start, in-header, fields-due, is-complete, field-cell, bad-size, refusal, with-digit, with-hole, begun, after, accepted, declined, read-from, read}
-use Rattle.model.specs.Printed.{refusal-line}
+use Rattle.model.specs.Printed.{refusal-line, reading-text}
 use Rattle.model.specs.JoinedEnds.{unjoinable, joined-ends, put-end, put-end-at}
 use Rattle.model.specs.Judge.{Judged, after-line, after-edge, after-place, followed, is-ordinary-record, has-listed-shape, verdict, judge}
 use Rattle.model.specs.JudgeText.{digit-fits, codes-fit, record-of-codes, judged-line, judged-text, judge-text}
@@ -86,7 +86,7 @@ pub record KnownJudged : Type 0 where
   pub refused-file : judge-text (bytes "2010") (bytes "2,2\n1O,\n,5\n") ≡ bytes "refused,13,2,1\n"
 
 pub known-judged : KnownJudged
-unfolding all-below drawing-of field record-lines tabulate place-at parity grid-of cell-of has-corner diagonal not-blank squares-checked corners-checked is-size most-digits is-cell first-bad-cell grid-refusal bytes comma line-end digit-byte digits-before decimal is-digit is-comma is-line-end is-hole-sign begins-hole is-allowed disallowed-number is-zero-alone blank hole no-cells start in-header fields-due is-complete field-cell bad-size refusal with-digit with-hole begun after accepted declined read-from read refusal-line unjoinable joined-ends put-end put-end-at after-line after-edge after-place followed is-ordinary-record has-listed-shape verdict judge digit-fits codes-fit record-of-codes judged-line judged-text judge-text
+unfolding all-below drawing-of field record-lines tabulate place-at parity grid-of cell-of has-corner diagonal not-blank squares-checked corners-checked is-size most-digits is-cell first-bad-cell grid-refusal bytes comma line-end digit-byte digits-before decimal is-digit is-comma is-line-end is-hole-sign begins-hole is-allowed disallowed-number is-zero-alone blank hole no-cells start in-header fields-due is-complete field-cell bad-size refusal with-digit with-hole begun after accepted declined read-from read refusal-line unjoinable joined-ends put-end put-end-at after-line after-edge after-place followed is-ordinary-record has-listed-shape verdict judge digit-fits codes-fit record-of-codes judged-line judged-text judge-text reading-text
 known-judged = record {
   listed = refl;
   ordinary = refl;

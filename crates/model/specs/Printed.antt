@@ -1,5 +1,5 @@
 -- What the program `routes` prints, as bytes: the summary line, a layout's line, the line of a refused file, and the whole of it
--- for a reading and what a search found. Assumes nothing.
+-- for what a search found; and what any program prints for a file that is refused or not. Assumes nothing.
 use Rattle.model.specs.Choice.{if_then_else_}
 use Prim.Native.Nat.{ℕ, zero, suc, _+_, _*_, _/_, _%_}
 use mathlib.Core.List.{List, [], _∷_, _++_}
@@ -79,16 +79,14 @@ found-text height width found =
     summary-line (found .layouts) (found .visited) (found .fewest) (found .outcome)
     ++ layout-lines height width 1 (found .records)
 
--- a refused file prints one line; an accepted one what the search of its H, W and HW cells finds
-unfoldable pub reading-text : (ℕ → ℕ → List ℤ → Found) → Reading → List ℕ
-reading-text search reading =
+-- a refused file prints one line; an accepted one the text of its H, W and HW cells
+unfoldable pub reading-text : (ℕ → ℕ → List ℤ → List ℕ) → Reading → List ℕ
+reading-text text reading =
     elim (reading .number) [
-      | zero ↦
-          found-text (reading .height) (reading .width)
-          (search (reading .height) (reading .width) (take (reading .height * reading .width) (reading .cells)))
+      | zero ↦ text (reading .height) (reading .width) (take (reading .height * reading .width) (reading .cells))
       | suc n ↦ refusal-line (suc n) (reading .line) (reading .field)
     ]
 
--- what `routes` prints for the bytes of standard input: of these the first 4,096 are read
-unfoldable pub printed : (ℕ → ℕ → List ℤ → Found) → List ℕ → List ℕ
-printed search input = reading-text search (read (take 4096 input))
+-- what a program prints for the bytes of standard input: of these the first 4,096 are read
+unfoldable pub printed : (ℕ → ℕ → List ℤ → List ℕ) → List ℕ → List ℕ
+printed text input = reading-text text (read (take 4096 input))

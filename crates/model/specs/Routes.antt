@@ -6,7 +6,7 @@ use lib.ListN.{length}
 use lib.IntN.{ℤ}
 use Rattle.rules.specs.Grid.{grid-of, places}
 use Rattle.model.specs.Search.{scan, search, fewest}
-use Rattle.model.specs.Printed.{Found, printed}
+use Rattle.model.specs.Printed.{Found, found-text, printed}
 
 abbrev pub routes-limit : ℕ
 routes-limit = 1000000
@@ -21,4 +21,4 @@ routes-found height width cells =
     record { outcome = run .outcome; layouts = length (run .records); visited = run .visited; fewest = fewest (run .records); records = run .records }
 
 unfoldable pub routes-text : List ℕ → List ℕ
-routes-text input = printed routes-found input
+routes-text input = printed (λ height width cells. found-text height width (routes-found height width cells)) input

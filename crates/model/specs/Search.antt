@@ -122,11 +122,15 @@ solved run buffer = record {
   buffer = concat (run .records) ++ drop (length (concat (run .records))) buffer;
 }
 
+-- a declined search: nothing was searched, and no byte changes
+abbrev pub declined-search : ℕ → ℕ → List ℕ → Solved
+declined-search number index buffer = record
+    { number = number; index = index; outcome = 0; layouts = 0; visited = 0; fewest-lines = no-fewest; buffer = buffer }
+
 unfoldable pub solve : ℕ → ℕ → List ℤ → ℕ → List ℕ → Solved
 solve height width cells limit buffer =
     let refusal = grid-refusal height width cells in
     elim (eqb (refusal .0) 0) [
       | true ↦ solved (scan limit (places height width) 0 (length buffer) (search (grid-of height width cells))) buffer
-      | false ↦ record
-          { number = refusal .0; index = refusal .1; outcome = 0; layouts = 0; visited = 0; fewest-lines = no-fewest; buffer = buffer }
+      | false ↦ declined-search (refusal .0) (refusal .1) buffer
     ]

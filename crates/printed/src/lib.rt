@@ -1,5 +1,5 @@
-// Writing what `routes` prints: the summary line, a layout's line and the line of a refused file, each into an array that the
-// longest such line fits. What the lines say is in the crate `model`, specs/Printed.antt there.
+// Writing what `routes` prints: the line that begins it, which is the summary line or the line of a refused file, and a layout's line, each
+// into an array that the longest such line fits. What the lines say is in the crate `model`, specs/Printed.antt there.
 ghost use mathlib.Core.Path.{_≡_};
 ghost use mathlib.Core.Bool.{true};
 ghost use Prim.Native.Nat.{_+_, _*_, _-_, _/_, _≤_, _<_};
@@ -20,8 +20,9 @@ const COMMA: u8 = 44;
 
 const LINE_END: u8 = 10;
 
-// Three numbers of up to 20 digits and one of up to 3, each with the byte after it.
-pub struct SummaryLine {
+// The line that begins a printed text, or is all of it. The summary line is the longest: three numbers of up to 20 digits and one of up to 3,
+// each with the byte after it.
+pub struct HeadLine {
     pub bytes: [u8; 67],
     pub length: usize,
 }
@@ -29,12 +30,6 @@ pub struct SummaryLine {
 // Two numbers of up to 20 digits, 256 codes, and the bytes after them.
 pub struct LayoutLine {
     pub bytes: [u8; 299],
-    pub length: usize,
-}
-
-// The word with its comma, one number of up to 3 digits and two of up to 20, each with the byte after it.
-pub struct RefusalLine {
-    pub bytes: [u8; 54],
     pub length: usize,
 }
 
@@ -105,7 +100,7 @@ fn put_codes(out: &mut [u8], at: usize, height: usize, width: usize, layout: &[u
 }
 
 // Layouts, visited, fewest, outcome.
-pub fn summary_line(layouts: u64, visited: u64, fewest: u64, outcome: u8) -> SummaryLine
+pub fn summary_line(layouts: u64, visited: u64, fewest: u64, outcome: u8) -> HeadLine
     ensures { λ r. ⌜ Written 67 (summary-line layouts visited fewest outcome) (r .bytes) (r .length) ⌝ }
 {
     let mut bytes = [0; 67];
@@ -113,19 +108,19 @@ pub fn summary_line(layouts: u64, visited: u64, fewest: u64, outcome: u8) -> Sum
     let second = text::put_field(&mut bytes, first, visited, COMMA);
     let third = text::put_field(&mut bytes, second, fewest, COMMA);
     let length = text::put_field(&mut bytes, third, outcome as u64, LINE_END);
-    SummaryLine { bytes, length }
+    HeadLine { bytes, length }
 }
 
 // The word, number, line, field.
-pub fn refusal_line(number: u8, line: u64, field: u64) -> RefusalLine
-    ensures { λ r. ⌜ Written 54 (refusal-line number line field) (r .bytes) (r .length) ⌝ }
+pub fn refusal_line(number: u8, line: u64, field: u64) -> HeadLine
+    ensures { λ r. ⌜ Written 67 (refusal-line number line field) (r .bytes) (r .length) ⌝ }
 {
-    let mut bytes = [0; 54];
+    let mut bytes = [0; 67];
     let first = text::put_word(&mut bytes, b"refused,");
     let second = text::put_field(&mut bytes, first, number as u64, COMMA);
     let third = text::put_field(&mut bytes, second, line, COMMA);
     let length = text::put_field(&mut bytes, third, field, LINE_END);
-    RefusalLine { bytes, length }
+    HeadLine { bytes, length }
 }
 
 // A layout's number from 1, its lines, its codes; nothing where H or W is out of bounds.

@@ -19,6 +19,10 @@ abbrev pub answer-says : Solved → List ℕ → model.Solved
 answer-says r buffer = record
     { number = r .number; index = r .index; outcome = r .outcome; layouts = r .layouts; visited = r .visited; fewest-lines = r .fewest; buffer = buffer }
 
+-- the answer where nothing was searched
+abbrev pub declined : ℕ → ℕ → Solved
+declined number index = record { number = number; index = index; outcome = 0; layouts = 0; visited = 0; fewest = 481 }
+
 -- the run of the search with no board visited before
 abbrev pub run-of : ℕ → ℕ → List ℤ → ℕ → List ℕ → model.Run
 run-of height width cells limit buffer = model.scan limit (places height width) 0 (length buffer) (model.search (grid-of height width cells))

@@ -25,7 +25,7 @@ use Rattle.searchview.specs.NextPad.{last-below-pads}
 use Rattle.searchview.specs.SameEvents.{shown-searches}
 use Rattle.searchview.specs.SearchLaws.{found-entered, search-flagged, search-clear}
 use Rattle.solver.specs.Promise.{promise}
-use Rattle.solver.specs.Answers.{run-of, Solves, tally-says, Ready, Counted}
+use Rattle.solver.specs.Answers.{declined, run-of, Solves, tally-says, Ready, Counted}
 
 -- with nothing counted an accepted grid is all that is asked
 pub from-empty : (height width : ℕ) (cells : List ℤ) (buffer : List ℕ) → Accepted height width cells → Ready height width cells empty buffer
@@ -94,10 +94,10 @@ module _ (height width : ℕ) (cells : List ℤ) (t : Tally) (buffer : List ℕ)
 module _ (height width : ℕ) (cells : List ℤ) (limit : ℕ) (buffer : List ℕ) where
   -- a refused grid: nothing is searched and no byte changes
   pub solve-refused : (number index : ℕ) → _≡_ {A = ℕ × ℕ} (number, index) (grid-refusal height width cells) → (number ≡ 0 → ⊥)
-      → Solves height width cells limit buffer (record { number = number; index = index; outcome = 0; layouts = 0; visited = 0; fewest = 481 }) buffer
+      → Solves height width cells limit buffer (declined number index) buffer
   unfolding model.solve
   solve-refused number index is bad = record {
-    equal = (λ i. record { number = is i .0; index = is i .1; outcome = 0; layouts = 0; visited = 0; fewest-lines = 481; buffer = buffer })
+    equal = (λ i. model.declined-search (is i .0) (is i .1) buffer)
         ∙ sym (rw (ne-eqb (grid-refusal height width cells .0) 0 not-zero, model.solve) refl);
     of-run = λ e. absurd (not-zero e);
     promise = λ e. absurd (not-zero e);

@@ -138,6 +138,20 @@ pub struct Solved {
     pub fewest: usize,
 }
 
+// What is answered where nothing was searched.
+pub fn declined(number: u8, index: usize) -> Solved
+    ensures { λ r. ⌜ r ≡ answers.declined number index ⌝ }
+{
+    Solved {
+        number,
+        index,
+        outcome: 0,
+        layouts: 0,
+        visited: 0,
+        fewest: 481,
+    }
+}
+
 // Searches a whole grid and counts on from the tally: nothing where the fresh board has its flag set, else from the first pad with its
 // right edge undecided, or in the last row.
 fn search_from(
@@ -217,14 +231,7 @@ pub fn solve(height: usize, width: usize, cells: &[i64], limit: u64, buffer: &mu
     let refusal = grid::grid_refusal(height, width, cells);
     let number = refusal.number;
     if number != 0 {
-        return Solved {
-            number,
-            index: refusal.index,
-            outcome: 0,
-            layouts: 0,
-            visited: 0,
-            fewest: 481,
-        };
+        return declined(number, refusal.index);
     }
     let counted = search(cells, buffer, height, width, limit);
     Solved {

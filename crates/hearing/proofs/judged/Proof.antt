@@ -12,11 +12,11 @@ use Rattle.hearing.proofs.judged.Tie as tie
 read-requires : tie.Need-read-requires
 read-requires c κs = search needs
 
-refused-requires : tie.Need-refused-requires
-refused-requires c κs = search needs
+refusal-line-requires : tie.Need-refusal-line-requires
+refusal-line-requires c κs = search needs
 
 returns : tie.Need-returns
-returns c = refused-text _ _ (c .before .before .before .read .ensures) _ (λ none. omega (arith, c .before .if1 .taken)) (c .refused .ensures)
+returns c = refused-text _ _ (c .before .before .before .read .ensures) _ (λ none. omega (arith, c .before .if1 .taken)) (c .refusal-line .ensures)
 
 mul-pads : tie.Need-mul-pads
 mul-pads c = record { fits = omega (arith, pads-fit _ _ (c .before .before .before .read .ensures)) }
@@ -57,7 +57,7 @@ judged-spec =
     tie.close
     (tie.spec
     read-requires
-    refused-requires
+    refusal-line-requires
     returns
     mul-pads
     record-of-codes-requires

@@ -27,14 +27,14 @@ put-field-requires-2 c κs =
       arith,
       digits-3 _ (known .1 .1 .0),
       digits-20 _ (known .1 .1 .1 .0),
-      filled-room (filled-first 54 21 (c .before .before .put-field .ensures) (field-21 _ _ (omega (arith, known .1 .1 .0, known .1 .1 .1 .0)))) 21 (omega arith),
+      filled-room (filled-first 67 21 (c .before .before .put-field .ensures) (field-21 _ _ (omega (arith, known .1 .1 .0, known .1 .1 .1 .0)))) 21 (omega arith),
     )
 
 returns : tie.Need-returns
 returns c =
     let known = c .before .before .before .before .before .before .struct-known .given in
     filled-written _ (judged-parts _) (omega arith)
-    (filled-more (filled-first 54 21 (c .before .before .before .before .put-field .ensures) (field-21 _ _ (omega (arith, known .1 .1 .0, known .1 .1 .1 .0))))
+    (filled-more (filled-first 67 21 (c .before .before .before .before .put-field .ensures) (field-21 _ _ (omega (arith, known .1 .1 .0, known .1 .1 .1 .0))))
     (c .before .put-field2 .ensures) (field-21 _ _ (omega (arith, known .1 .1 .0, known .1 .1 .1 .0))))
 
 pub judged-line-spec : {M : Type 1} → statement M

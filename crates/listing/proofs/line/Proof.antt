@@ -4,8 +4,7 @@ use native.Mathlib.Omega.{arith}
 use borrow.Author.Needs.{needs}
 use lib.ListN.{length}
 use Rattle.printed.specs.Written.{nothing-written}
-use Rattle.listing.specs.BufferRecords.{no-line, some-line, line-by-parts}
-use Rattle.listing.proofs.TextLaws.{layout-written}
+use Rattle.listing.specs.BufferRecords.{no-line, some-line, line-written}
 use Rattle.listing.proofs.line.Statement.{statement}
 use Rattle.listing.proofs.line.Tie as tie
 
@@ -22,7 +21,9 @@ layout-line-requires : tie.Need-layout-line-requires
 layout-line-requires c κs = search needs
 
 returns-2 : tie.Need-returns-2
-returns-2 c = layout-written (line-by-parts _ _ _ _ _ _ (c .before .before .record-at .ensures) (some-line _ _ _ _ _ (λ e. c .before .if1 .left (ap length (c .before .before .record-at .ensures) ∙ e)))) (c .layout-line .ensures)
+returns-2 c =
+    let same = c .before .before .record-at .ensures in
+    line-written _ _ _ _ _ same (some-line _ _ _ _ _ (λ e. c .before .if1 .left (ap length same ∙ e))) (c .layout-line .ensures)
 
 pub line-spec : {M : Type 1} → statement M
 line-spec =

@@ -10,8 +10,11 @@ use Rattle.solver.proofs.solve.Tie as tie
 grid-refusal-requires : tie.Need-grid-refusal-requires
 grid-refusal-requires c κs = search needs
 
+declined-requires : tie.Need-declined-requires
+declined-requires c κs = search needs
+
 returns : tie.Need-returns
-returns c = solve-refused _ _ _ _ _ _ _ (c .before .grid-refusal .ensures) (c .if1 .taken)
+returns c = rw (c .declined .ensures) (solve-refused _ _ _ _ _ _ _ (c .before .before .grid-refusal .ensures) (c .before .if1 .taken))
 
 search-requires : tie.Need-search-requires
 search-requires c κs = not-refused _ _ _ (sym (ap (λ (p : ℕ × ℕ). p .0) (c .before .before .grid-refusal .ensures)) ∙ c .before .if1 .left)
@@ -24,4 +27,4 @@ returns-2 c = solve-accepted _ _ _ _ _ (sym (ap (λ (p : ℕ × ℕ). p .0) (c .
 
 pub solve-spec : {M : Type 1} → statement M
 solve-spec =
-    tie.close (tie.spec grid-refusal-requires returns search-requires same-length returns-2)
+    tie.close (tie.spec grid-refusal-requires declined-requires returns search-requires same-length returns-2)
