@@ -1,5 +1,5 @@
 -- The search of a grid depends on its codes only by which pads carry equal codes: on alike grids it is the same list of events, the visited
--- boards and the layouts with their records in their order. Then `solve` answers the same for both, with every byte of the buffer. It rests
+-- boards and the layouts with their records in their order. Then `solve` and `common` answer the same for both, with every byte that is lent. It rests
 -- on AlikeStates.antt and on the model's Search.antt.
 use Prim.Native.Nat.{ℕ, zero, suc, _+_, _-_}
 use mathlib.Core.Path.{_≡_, refl, ap}
@@ -13,6 +13,7 @@ use Rattle.rules.specs.Record.{field}
 use Rattle.model.specs.Calls.{state-byte}
 use Rattle.model.specs.Board.{EdgeState, State, isUndecided, line-or-none, has-right, has-down, decide, enough}
 use Rattle.model.specs.Search.{Event, visit, layout, board-record, next-pad, degree-so-far, try, backtrack, search-from, search, solve}
+use Rattle.model.specs.Common.{common}
 use Rattle.model.specs.RefusalLaws.{accepted-is-not-refused}
 use Rattle.alike.specs.Alike.{Alike, same-clues, recoded, of-one-size}
 use Rattle.alike.specs.AlikeStates.{AlikeStates, edge-same, decide-alike, fresh-alike}
@@ -87,3 +88,11 @@ pub solve-alike : (height width : ℕ) (cells others : List ℤ) → Accepted he
 unfolding solve
 solve-alike height width cells others accepted other-accepted alike limit buffer =
     rw (accepted-is-not-refused height width cells accepted, accepted-is-not-refused height width others other-accepted, solve) (rw (search-alike alike) refl)
+
+-- COMMON, at every limit and with every buffer and table
+pub common-alike : (height width : ℕ) (cells others : List ℤ) → Accepted height width cells → Accepted height width others
+    → Alike (grid-of height width cells) (grid-of height width others)
+    → (limit : ℕ) (buffer table : List ℕ) → common height width cells limit buffer table ≡ common height width others limit buffer table
+unfolding common
+common-alike height width cells others accepted other-accepted alike limit buffer table =
+    rw (accepted-is-not-refused height width cells accepted, accepted-is-not-refused height width others other-accepted, common) (rw (search-alike alike) refl)

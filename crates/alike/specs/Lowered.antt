@@ -1,5 +1,5 @@
 -- Every accepted grid has an alike one with small codes: each code is lowered to the index of the first pad that carries it, and codes are
--- equal after that exactly where they were before. A grid has at most 256 pads, so every code is then below 256, and `solve`, the
+-- equal after that exactly where they were before. A grid has at most 256 pads, so every code is then below 256, and `solve`, `common`, the
 -- board calls and `judge` answer the same. It rests on AlikeSearch.antt, AlikeCalls.antt and AlikeJudge.antt.
 use Prim.Native.Nat.{ℕ, zero, suc, _*_, _≤_, _<_}
 use mathlib.Core.Path.{_≡_, refl, sym, _∙_, ap}
@@ -19,10 +19,11 @@ use Rattle.rules.specs.Places.{zero≢one}
 use Rattle.model.specs.Choice.{if_then_else_}
 use Rattle.model.specs.Board.{isBlank, isHole}
 use Rattle.model.specs.Search.{solve}
+use Rattle.model.specs.Common.{common}
 use Rattle.model.specs.Calls.{new}
 use Rattle.model.specs.Judge.{judge}
 use Rattle.alike.specs.Alike.{Alike}
-use Rattle.alike.specs.AlikeSearch.{solve-alike}
+use Rattle.alike.specs.AlikeSearch.{solve-alike, common-alike}
 use Rattle.alike.specs.AlikeCalls.{AlikeAnswers, new-alike}
 use Rattle.alike.specs.AlikeJudge.{judge-alike}
 
@@ -149,6 +150,10 @@ module _ (cells : List ℤ) where
       -- SOLVE answers the same,
       pub solve-lowered : (limit : ℕ) (buffer : List ℕ) → solve height width cells limit buffer ≡ solve height width (lowered cells) limit buffer
       solve-lowered limit buffer = solve-alike height width cells (lowered cells) accepted lowered-accepted lowered-alike limit buffer
+
+      -- so does COMMON,
+      pub common-lowered : (limit : ℕ) (buffer table : List ℕ) → common height width cells limit buffer table ≡ common height width (lowered cells) limit buffer table
+      common-lowered limit buffer table = common-alike height width cells (lowered cells) accepted lowered-accepted lowered-alike limit buffer table
 
       -- a NEW BOARD is alike, and with it every answer of the calls on it (AlikeCalls.antt),
       pub new-lowered : AlikeAnswers (new height width cells) (new height width (lowered cells))

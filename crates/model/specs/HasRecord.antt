@@ -1,18 +1,20 @@
 -- Whether there is a record k in a buffer: what the test of Records.antt asks, as facts; which part of the buffer it is; and that records
 -- which were put into a buffer one after the other are found there again.
-use Prim.Native.Nat.{ℕ, _+_, _*_, _≤_, _<_}
-use mathlib.Core.Path.{_≡_, refl, ap, _∙_}
+use Prim.Native.Nat.{ℕ, suc, _+_, _*_, _≤_, _<_}
+use mathlib.Core.Path.{_≡_, refl, sym, ap, _∙_}
 use mathlib.Core.Bool.{true, _&&_}
-use mathlib.Core.List.{List, _++_}
+use mathlib.Core.List.{List, [], _∷_, _++_, append-assoc, List·Memᴰ, List·Memᴰ·head, List·Memᴰ·tail}
 use native.Mathlib.Omega.{arith}
 use borrow.Author.Tests.{ltb-true, leb-true, lt-ltb, le-leb}
 use lib.Dec.{ltb, leb}
 use lib.ListN.{length, take, drop, length-append}
 use lib.Seq.{take-at, drop-at}
 use Rattle.rules.specs.Grid.{places}
+use Rattle.rules.specs.Record.{tabulate}
 use Rattle.rules.specs.Tests.{both}
 use Rattle.model.specs.Bounds.{is-size}
 use Rattle.model.specs.Records.{record-length, has-record, record-at}
+use Rattle.model.specs.Search.{concat}
 
 module _ (height width count k room : ℕ) where
   -- sound sizes, k below the count, and the record ends in time
@@ -49,3 +51,21 @@ module _ (height width count : ℕ) (tall : is-size height ≡ true) (wide : is-
   pub record-here : record-at height width count k (front ++ (r ++ rest)) ≡ r
   record-here = that-part height width count k (front ++ (r ++ rest)) this-record
       ∙ ap (λ (l : List ℕ). take (places height width) l) (drop-at front (r ++ rest) (k * places height width) at) ∙ take-at r rest (places height width) long
+
+-- so records that were put into a buffer one after the other, each as long as the field has places, are its records from that place on
+module _ (height width count : ℕ) (tall : is-size height ≡ true) (wide : is-size width ≡ true) where
+  abbrev from-record : ℕ → ℕ → List ℕ → List (List ℕ)
+  from-record k more buffer = tabulate (λ j. record-at height width count j buffer) k more
+
+  pub records-there : (records : List (List ℕ)) → ((r : List ℕ) → List·Memᴰ r records → length r ≡ places height width)
+      → (front rest : List ℕ) (k : ℕ) → length front ≡ k * places height width → k + length records ≤ count
+      → tabulate (λ j. record-at height width count j (front ++ (concat records ++ rest))) k (length records) ≡ records
+  unfolding tabulate concat
+  records-there [] long front rest k at few = refl
+  records-there (r ∷ records) long front rest k at few =
+      let its-length = long r (List·Memᴰ·head refl) in
+      ap (from-record k (suc (length records))) (ap (λ (l : List ℕ). front ++ l) (append-assoc r (concat records) rest))
+      ∙ ap (λ (l : List ℕ). l ∷ from-record (k + 1) (length records) (front ++ (r ++ (concat records ++ rest))))
+      (record-here height width count tall wide front r (concat records ++ rest) k at its-length (omega arith))
+      ∙ ap (λ (l : List (List ℕ)). r ∷ l) (ap (from-record (k + 1) (length records)) (sym (append-assoc front r (concat records ++ rest)))
+      ∙ records-there records (λ other m. long other (List·Memᴰ·tail m)) (front ++ r) rest (k + 1) (rw length-append (omega arith)) (omega arith))

@@ -32,3 +32,7 @@ pub mod Judge
 pub mod JudgedGrids
 pub mod JudgeText
 pub mod KnownJudged
+pub mod Common
+pub mod CommonLaws
+pub mod CommonText
+pub mod KnownCommon

@@ -1,5 +1,4 @@
 -- The test of the rules is the rules.
 pub mod Following
 pub mod RuleTest
-pub mod HeldRecords
 pub mod Verdicts

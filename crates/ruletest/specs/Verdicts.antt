@@ -1,33 +1,30 @@
 -- WHAT THE JUDGE SAYS OF A DRAWING, in the words of the rules: 1 or 2 exactly where the record is that of an ordinary drawing of the grid, 2
 -- exactly where it is that of a listed one, and that is exactly where a complete list of `solve` holds it, whoever drew it; the lines are the
--- drawing's. It rests on RuleTest.antt and on what a search promises (crate `promises`).
+-- drawing's. It rests on RuleTest.antt, on exactness (crate `exact`) and on what the buffer of a search holds (crate `promises`).
 use Prim.Native.Nat.{ℕ, _≤_}
-use mathlib.Core.Path.{_≡_, refl, sym, _∙_, ap}
-use mathlib.Core.Logic.{_↔_}
+use mathlib.Core.Path.{_≡_, refl, _∙_, ap}
+use mathlib.Core.Logic.{_↔_, Iff·symm, Iff·trans}
 use mathlib.Core.Bool.{Bool, true, false, _&&_}
-use mathlib.Core.List.{List, [], List·Memᴰ}
+use mathlib.Core.List.{List, List·Memᴰ, Memᴰ·cast}
 use native.Mathlib.Omega.{arith}
 use lib.ListN.{length}
 use lib.IntN.{ℤ}
 use borrow.Author.Tests.{eq-eqb, ne-eqb}
 use lib.Dec.{eqb}
 use Rattle.rules.specs.Grid.{Grid, grid-of, places, Accepted}
-use Rattle.rules.specs.Drawing.{Drawing, drawn, Ordinary, number-of-lines}
-use Rattle.rules.specs.Record.{byte-of, record-of, record-lines, OrdinaryRecord, ListedRecord}
-use Rattle.rules.specs.RecordLaws.{length-field}
+use Rattle.rules.specs.Drawing.{Drawing, Ordinary, number-of-lines}
+use Rattle.rules.specs.Record.{record-of, record-lines, OrdinaryRecord, ListedRecord}
 use Rattle.rules.specs.LineCount.{record-lines-of}
 use Rattle.rules.specs.Tests.{conflict}
 use Rattle.model.specs.Choice.{if_then_else_}
-use Rattle.model.specs.Bounds.{is-size}
 use Rattle.model.specs.Refusals.{grid-refusal}
-use Rattle.model.specs.RefusalLaws.{test-of-size, accepted-is-not-refused}
-use Rattle.model.specs.Search.{Run, scan, search, solved, solve}
+use Rattle.model.specs.RefusalLaws.{accepted-is-not-refused}
+use Rattle.model.specs.Search.{scan, search, solve}
 use Rattle.model.specs.Judge.{Judged, is-ordinary-record, has-listed-shape, verdict, judge}
 use Rattle.propagation.specs.ProperGrid.{Proper, accepted-proper}
-use Rattle.exact.specs.Exact.{solve-is-run}
-use Rattle.promises.specs.Promises.{complete-list, Promised, promised}
+use Rattle.exact.specs.Exact.{exact-run, solve-is-run}
+use Rattle.promises.specs.HeldRecords.{Holds, held-exactly}
 use Rattle.ruletest.specs.RuleTest.{ordinary-exactly, listed-exactly}
-use Rattle.ruletest.specs.HeldRecords.{Holds, is-held, held-is}
 
 -- what is said of a record on an accepted grid
 pub record Says (height width : ℕ) (cells : List ℤ) (bytes : List ℕ) (said : Judged) : Type 1 where
@@ -105,44 +102,12 @@ module _ (height width : ℕ) (cells : List ℤ) (accepted : Accepted height wid
 
   -- a listed record is one of the complete list of `solve`, and none else is
   module _ (limit : ℕ) (buffer : List ℕ) (complete : solve height width cells limit buffer .outcome ≡ 0) where
-    abbrev run : Run
-    run = scan limit (places height width) 0 (length buffer) (search g)
-
-    solves-it : solve height width cells limit buffer ≡ solved run buffer
-    solves-it = solve-is-run height width cells accepted limit buffer
-
-    its-promise : Promised g limit (length buffer) run
-    its-promise = promised height width cells accepted limit (length buffer)
-
-    whole : run .records ≡ complete-list g
-    whole = its-promise .complete (sym (ap (λ s. s .outcome) solves-it) ∙ complete)
-
-    listed-member : (r : List ℕ) → ListedRecord g r ↔ List·Memᴰ r (run .records)
-    listed-member r = (
-      (λ l. rw (whole, l .shown) (its-promise .exactly-the-listed .nothing-lost (l .drawing) (l .listed))),
-      λ m. its-promise .exactly-the-listed .nothing-added r (rw whole at m),
-    )
-
-    long : (r : List ℕ) → List·Memᴰ r (run .records) → length r ≡ places height width
-    unfolding record-of grid-of
-    long r m = let l = listed-member r .1 m in ap length (l .shown) ∙ length-field height width (λ e. byte-of (drawn (l .drawing) e))
-
-    abbrev tall-enough : is-size height ≡ true
-    tall-enough = test-of-size height (accepted .height-in-range)
-
-    abbrev wide-enough : is-size width ≡ true
-    wide-enough = test-of-size width (accepted .width-in-range)
-
-    held : ListedRecord g bytes → Holds height width (solved run buffer) bytes
-    held l = let (k, below, there) = is-held height width (length (run .records)) tall-enough wide-enough (run .records) long [] _ 0 (omega arith) (omega arith) bytes (listed-member bytes .0 l) in
-        record { k = k; below = below; there = there }
-
-    from-held : Holds height width (solved run buffer) bytes → ListedRecord g bytes
-    from-held h = listed-member bytes .1 (rw (sym (h .there))
-        (held-is height width (length (run .records)) tall-enough wide-enough (run .records) long [] _ 0 (omega arith) (omega arith) (h .k) (omega arith) (omega (arith, h .below))))
+    listed-member : ListedRecord g bytes ↔ List·Memᴰ bytes (scan limit (places height width) 0 (length buffer) (search g) .records)
+    listed-member = let all = exact-run height width cells accepted limit (length buffer) .complete (rw (solve-is-run height width cells accepted limit buffer) at complete) in
+        ((λ l. Memᴰ·cast (l .shown) (all .nothing-lost (l .drawing) (l .listed))), all .nothing-added bytes)
 
     pub listed-held : (its-verdict ≡ 2) ↔ Holds height width (solve height width cells limit buffer) bytes
-    listed-held = rw solves-it ((λ h. held (listed-verdict g proper bytes .0 h)), λ h. listed-verdict g proper bytes .1 (from-held h))
+    listed-held = Iff·trans (Iff·trans (listed-verdict g proper bytes) listed-member) (Iff·symm (held-exactly height width cells accepted limit buffer bytes))
 
   -- the lines of its drawing
   drawing-lines : (D : Drawing) → Ordinary g D → bytes ≡ record-of g D → (if eqb its-verdict 0 then 0 else record-lines bytes) ≡ number-of-lines g D
