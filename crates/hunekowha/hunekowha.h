@@ -33,12 +33,13 @@
  *      space or a return (0D hexadecimal) behind a number
  *  15  a second digit after a leading 0, in the header too: 07 and 7 would be one number, and a maker means two doors by
  *      them. 0 alone is floor 0
- * A grid, for a board, a search, a drawing to be judged or writing:
+ * A grid, for a board, a search, the copper common to all layouts, a drawing to be judged or writing:
  *   7  a height or width outside 2 to 16
  *   8  the number of cells is not height * width
  *   9  a cell below -2 or above 4294967295
- * Writing a grid:
- *  14  the buffer is shorter than the text
+ * Writing a grid, and the copper common to all layouts:
+ *  14  the buffer is shorter than the text, or the table shorter than the record of a layout
+ *  16  the list of layouts did not end complete, so there is no table of it
  * A call on a board:
  *  10  no such edge place
  *  11  a state that is neither 1 (line) nor 2 (none)
@@ -115,6 +116,32 @@ size_t hunekowha_write(size_t height, size_t width, const int64_t *cells, size_t
  */
 size_t hunekowha_solve(size_t height, size_t width, const int64_t *cells, size_t cells_length, uint64_t limit,
                        uint8_t *buffer, size_t buffer_length, uint64_t *answer, size_t answer_length);
+
+/*
+ * Lists the layouts of a grid as hunekowha_solve does and, where the list ends complete, fills a table that says which copper
+ * the layouts have in common. The table is laid out as a record, one byte for each place.
+ *
+ *   height, width          the size of the grid
+ *   cells, cells_length    its cells, height * width of them
+ *   limit                  how many boards may be visited
+ *   buffer, buffer_length  where the records of the layouts go, one behind the other, from the start
+ *   table, table_length    where the table goes, from the start: (2 * height - 1) * (2 * width - 1) bytes, at most 961
+ *   answer, answer_length  at least 6 numbers
+ *
+ * Returns 6, or 0 where `answer` is too short.
+ *   answer[0]  0 where the table is filled, else the number of the refusal: 7 to 9 of the grid first; then 14 where `table` is
+ *              too short, before any search; then 16 where the list did not end complete
+ *   answer[1]  the index of the first bad cell beside 9, else 0
+ *   answer[2]  to answer[5]: outcome, layouts, visited and fewest of the search, as of hunekowha_solve; beside 7, 8, 9 and 14
+ *              nothing is searched, and they are 0, 0, 0 and 481
+ * The table: at the place of each edge 1 where every layout has a line there, 2 where none has, 3 where some have and others
+ * have not; 0 at the other places, and everywhere where the list is empty. Beside a refusal no byte of the table is changed.
+ * Its bytes past the places keep their values. The buffer is left as hunekowha_solve leaves it, beside 16 too; beside the
+ * other refusals no byte of it is changed.
+ */
+size_t hunekowha_common(size_t height, size_t width, const int64_t *cells, size_t cells_length, uint64_t limit,
+                        uint8_t *buffer, size_t buffer_length, uint8_t *table, size_t table_length, uint64_t *answer,
+                        size_t answer_length);
 
 /*
  * Finds a record in the buffer that hunekowha_solve has filled.

@@ -16,8 +16,9 @@ use Rattle.model.specs.GridFile.{Reading, read}
 use Rattle.model.specs.Writing.{Writing, write}
 use Rattle.model.specs.Records.{record-length, has-record, record-at}
 use Rattle.model.specs.Judge.{Judged, judge}
-use Rattle.hunekowha.specs.Lent.{written, read-numbers, read-gives, write-numbers, write-gives, record-place, record-gives, judge-numbers, judge-gives, solve-numbers, solve-gives}
+use Rattle.hunekowha.specs.Lent.{written, read-numbers, read-gives, write-numbers, write-gives, record-place, record-gives, judge-numbers, judge-gives, solve-numbers, solve-gives, common-gives}
 use Rattle.model.specs.Search.{Solved, solve}
+use Rattle.model.specs.Common.{Common, common}
 
 -- a copy of a whole list to the front
 pub front : {A : Type 0} (old new : List A) → paste old 0 new (length new) ≡ written new old
@@ -107,3 +108,16 @@ module _ (height width : ℕ) (cells : List ℤ) (limit : ℕ) (buffer answer : 
       → after ≡ paste answer 0 (solve-numbers r) 6 → solve-gives height width cells limit buffer answer ≡ record { returned = 6; buffer = r .buffer; answer = after }
   unfolding solve-gives
   solve-whole long r after same put = rw (le-leb 6 (length answer) long, put, ← same)
+
+-- COMMON
+module _ (height width : ℕ) (cells : List ℤ) (limit : ℕ) (buffer table answer : List ℕ) where
+  pub common-short : length answer < 6
+      → common-gives height width cells limit buffer table answer ≡ record { returned = 0; buffer = buffer; table = table; answer = answer }
+  unfolding common-gives
+  common-short short = rw (lt-leb 6 (length answer) short)
+
+  pub common-whole : 6 ≤ length answer → (r : Common) (after : List ℕ) → r ≡ common height width cells limit buffer table
+      → after ≡ paste answer 0 (solve-numbers (r .searched)) 6
+      → common-gives height width cells limit buffer table answer ≡ record { returned = 6; buffer = r .searched .buffer; table = r .table; answer = after }
+  unfolding common-gives
+  common-whole long r after same put = rw (le-leb 6 (length answer) long, put, ← same)

@@ -12,6 +12,9 @@ use Rattle.model.specs.Writing.{Writing, write}
 use Rattle.model.specs.Records.{record-length, has-record}
 use Rattle.model.specs.Judge.{Judged, judge}
 use Rattle.model.specs.Search.{Solved, solve}
+use Rattle.model.specs.Common.{common}
+use Rattle.solver.specs.declared.Solved.{Solved as Answered}
+use Rattle.solver.specs.Answers.{answer-says}
 
 -- a list whose first elements were overwritten
 abbrev pub written : {A : Type 0} → List A → List A → List A
@@ -88,6 +91,10 @@ pub record SolveGives : Type 0 where
 abbrev pub solve-numbers : Solved → List ℕ
 solve-numbers r = r .number ∷ r .index ∷ r .outcome ∷ r .layouts ∷ r .visited ∷ r .fewest-lines ∷ []
 
+-- the same numbers of what the search answers
+abbrev pub search-numbers : Answered → List ℕ
+search-numbers r = solve-numbers (answer-says r [])
+
 unfoldable pub solve-gives : ℕ → ℕ → List ℤ → ℕ → List ℕ → List ℕ → SolveGives
 solve-gives height width cells limit buffer answer =
     if leb 6 (length answer)
@@ -97,3 +104,21 @@ solve-gives height width cells limit buffer answer =
       answer = written (solve-numbers (solve height width cells limit buffer)) answer;
     }
     else record { returned = 0; buffer = buffer; answer = answer }
+
+-- COMMON: what is returned, the buffer, the table and the numbers after the call
+pub record CommonGives : Type 0 where
+  pub returned : ℕ
+  pub buffer : List ℕ
+  pub table : List ℕ
+  pub answer : List ℕ
+
+unfoldable pub common-gives : ℕ → ℕ → List ℤ → ℕ → List ℕ → List ℕ → List ℕ → CommonGives
+common-gives height width cells limit buffer table answer =
+    if leb 6 (length answer)
+    then record {
+      returned = 6;
+      buffer = common height width cells limit buffer table .searched .buffer;
+      table = common height width cells limit buffer table .table;
+      answer = written (solve-numbers (common height width cells limit buffer table .searched)) answer;
+    }
+    else record { returned = 0; buffer = buffer; table = table; answer = answer }

@@ -1,16 +1,19 @@
-// The router for other languages: reading and writing a grid file, the search, a record's place, a drawing judged, and board calls replayed.
+// The router for other languages: reading and writing a grid file, the search, the copper common to all layouts, a record's place, a drawing
+// judged, and board calls replayed.
 // hunekowha.h beside this folder explains each function, argument and number. Each result, and every lent number and byte after the call, is
 // what specs/Lent.antt says. No function asks anything of its caller beyond what the types say.
 ghost use mathlib.Core.Path.{_≡_};
 ghost use Rattle.model.specs.Calls as model;
 ghost use Rattle.board.specs.Held.{Held, IsBoard, Says};
 ghost use Rattle.hunekowha.specs.Replay.{state-asked, called, block, block-size, all-blocks, Writable, Replayable};
+ghost use Prim.Native.Nat.{_≤_};
 ghost use lib.ListN.{length};
 ghost use lib.Seq.{paste};
 use board::Answer;
 use board::Board;
 use grid::Edge;
-ghost use Rattle.hunekowha.specs.Lent.{read-gives, write-gives, record-gives, judge-gives, solve-gives};
+use solver::Solved;
+ghost use Rattle.hunekowha.specs.Lent.{read-gives, write-gives, record-gives, judge-gives, search-numbers, solve-gives, common-gives};
 ghost use Rattle.hunekowha.specs.Replay.{replay-gives};
 
 // Reads a grid file into five numbers and 256 cells.
@@ -237,6 +240,22 @@ pub extern "C" fn hunekowha_replay(
     count * size
 }
 
+// Writes the six numbers of a search.
+fn put_solved(answer: &mut [u64], solved: Solved)
+    requires { ⌜ 6 ≤ length (now answer) ⌝ }
+    ensures { λ _. ⌜ now (answer .exit) ≡ paste (now (answer .entry)) 0 (search-numbers solved) 6 ⌝ }
+{
+    let numbers = [
+        solved.number as u64,
+        solved.index as u64,
+        solved.outcome as u64,
+        solved.layouts as u64,
+        solved.visited,
+        solved.fewest as u64,
+    ];
+    lend::put_numbers(answer, 0, &numbers);
+}
+
 // Lists the layouts of a grid into the buffer, and writes six numbers.
 #[no_mangle]
 pub extern "C" fn hunekowha_solve(
@@ -253,14 +272,27 @@ pub extern "C" fn hunekowha_solve(
         return 0;
     }
     let solved = solver::solve(height, width, cells, limit, buffer);
-    let numbers = [
-        solved.number as u64,
-        solved.index as u64,
-        solved.outcome as u64,
-        solved.layouts as u64,
-        solved.visited,
-        solved.fewest as u64,
-    ];
-    lend::put_numbers(answer, 0, &numbers);
+    put_solved(answer, solved);
+    6
+}
+
+// The same, and from a complete list fills the table of the copper common to all layouts.
+#[no_mangle]
+pub extern "C" fn hunekowha_common(
+    height: usize,
+    width: usize,
+    cells: &[i64],
+    limit: u64,
+    buffer: &mut [u8],
+    table: &mut [u8],
+    answer: &mut [u64],
+) -> usize
+    ensures { λ r. ⌜ common-gives height width (now (cells .entry)) limit (now (buffer .entry)) (now (table .entry)) (now (answer .entry)) ≡ record { returned = r; buffer = now (buffer .exit); table = now (table .exit); answer = now (answer .exit) } ⌝ }
+{
+    if answer.len() < 6 {
+        return 0;
+    }
+    let solved = copper::common(height, width, cells, limit, buffer, table);
+    put_solved(answer, solved);
     6
 }

@@ -1,6 +1,6 @@
--- `hunekowha_solve` meets its contract: the slice is too short, or the search is run and its numbers are written. Assumes nothing.
-use Rattle.hunekowha.proofs.Short.{solve-short, solve-whole}
+-- `hunekowha_solve` meets its contract: the slice is too short, or the search is run and the numbers are written. Assumes nothing.
 use borrow.Author.Needs.{needs}
+use Rattle.hunekowha.proofs.Short.{solve-short, solve-whole}
 use Rattle.hunekowha.proofs.hunekowha_solve.Statement.{statement}
 use Rattle.hunekowha.proofs.hunekowha_solve.Tie as tie
 
@@ -10,17 +10,8 @@ returns c = solve-short _ _ _ _ _ _ (c .if1 .taken)
 solve-requires : tie.Need-solve-requires
 solve-requires c κs = search needs
 
-cast-t13 : tie.Need-cast-t13
-cast-t13 c = search needs
-
-cast-t15 : tie.Need-cast-t15
-cast-t15 c = search needs
-
-slice-aggregate-put-numbers : tie.Need-slice-aggregate-put-numbers
-slice-aggregate-put-numbers c = search needs
-
-put-numbers-requires : tie.Need-put-numbers-requires
-put-numbers-requires c κs = search needs
+put-solved-requires : tie.Need-put-solved-requires
+put-solved-requires c κs = search needs
 
 same-length : tie.Need-same-length
 same-length c = search needs
@@ -29,18 +20,8 @@ same-length-2 : tie.Need-same-length-2
 same-length-2 c = search needs
 
 returns-2 : tie.Need-returns-2
-returns-2 c = solve-whole _ _ _ _ _ _ (c .before .before .before .before .before .before .before .before .before .before .before .if1 .left) _ _ (c .before .before .before .before .before .before .before .before .before .solve .ensures .equal) (c .before .before .put-numbers .ensures)
+returns-2 c = solve-whole _ _ _ _ _ _ (c .before .before .before .before .before .before .before .before .if1 .left) _ _ (c .before .before .before .before .before .before .solve .ensures .equal) (c .before .before .put-solved .ensures)
 
 pub hunekowha-solve-spec : {M : Type 1} → statement M
 hunekowha-solve-spec =
-    tie.close
-    (tie.spec
-    returns
-    solve-requires
-    cast-t13
-    cast-t15
-    slice-aggregate-put-numbers
-    put-numbers-requires
-    same-length
-    same-length-2
-    returns-2)
+    tie.close (tie.spec returns solve-requires put-solved-requires same-length same-length-2 returns-2)
