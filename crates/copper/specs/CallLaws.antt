@@ -5,12 +5,12 @@ use mathlib.Core.Path.{_≡_, sym, ap, _∙_}
 use mathlib.Core.List.{List, _++_}
 use lib.ListN.{length, replicate, drop}
 use lib.IntN.{ℤ}
-use Rattle.rules.specs.Grid.{grid-of, places}
+use Rattle.rules.specs.Grid.{places}
 use Rattle.rules.specs.Places.{few-places}
 use Rattle.model.specs.Refusals.{grid-refusal}
 use Rattle.model.specs.RefusalLaws.{not-refused}
 use Rattle.model.specs.Search as model
-use Rattle.model.specs.Common.{Common, with-number, common}
+use Rattle.model.specs.Common.{with-number, common}
 use Rattle.model.specs.CommonLaws.{refused-grid, short-table, stopped-list, complete-list}
 use Rattle.solver.specs.declared.Solved.{Solved}
 use Rattle.solver.specs.Answers.{answer-says, declined, run-of, Solves}

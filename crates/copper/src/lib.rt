@@ -3,7 +3,6 @@
 // 1 and none is 2; so the table is all records laid over each other, bit by bit: 1 where every one has a line, 2 where none has, 3 where some
 // have and others not, and 0 where no record has a bit.
 ghost use mathlib.Core.Path.{_≡_};
-ghost use mathlib.Core.Bool.{true};
 ghost use mathlib.Core.List.{_++_};
 ghost use Prim.Native.Nat.{_≤_};
 ghost use lib.ListN.{length, replicate, drop};

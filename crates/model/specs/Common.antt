@@ -1,5 +1,5 @@
 -- The copper common to all wirings: a table, laid out as a record, that says of each edge whether every layout of a complete list has a line
--- there, none has, or some have and others not. Document 02, order 8. It rests on Search.antt and on the rules' Record.antt.
+-- there, none has, or some have and others not. It rests on Search.antt and on the rules' Record.antt.
 use Rattle.model.specs.Choice.{if_then_else_}
 use Prim.Native.Nat.{ℕ}
 use mathlib.Core.Bool.{Bool, true, not, _&&_}

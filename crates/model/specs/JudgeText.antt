@@ -2,7 +2,7 @@
 -- them: one digit from 0 to 3 for each pad in index order. It puts Judge.antt between reading and printing; it rests on GridFile.antt and
 -- Printed.antt.
 use Rattle.model.specs.Choice.{if_then_else_}
-use Prim.Native.Nat.{ℕ, zero, suc, _+_, _*_, _-_, _%_}
+use Prim.Native.Nat.{ℕ, _+_, _*_, _-_, _%_}
 use mathlib.Core.Bool.{Bool, _&&_, _||_, not}
 use mathlib.Core.List.{List, [], _++_}
 use lib.Dec.{eqb, ltb, leb}

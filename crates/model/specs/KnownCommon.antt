@@ -11,11 +11,11 @@ use Rattle.model.specs.Refusals.{is-cell, first-bad-cell, grid-refusal}
 use Rattle.model.specs.Text.{bytes, comma, line-end}
 use Rattle.model.specs.Decimal.{digit-byte, digits-before, decimal}
 use Rattle.model.specs.GridFile.{is-digit, is-comma, is-line-end, is-hole-sign, begins-hole, is-allowed, disallowed-number, is-zero-alone, blank, hole, no-cells, start, in-header, fields-due, is-complete, field-cell, bad-size, refusal, with-digit, with-hole, begun, after, accepted, declined, read-from, read}
-use Rattle.model.specs.Printed.{Found, summary-line, refusal-line, reading-text, printed}
+use Rattle.model.specs.Printed.{summary-line, refusal-line, reading-text, printed}
 use Rattle.model.specs.Routes.{routes-found}
 use Rattle.model.specs.JoinedEnds.{unjoinable, joined-ends, put-end, put-end-at}
 use Rattle.model.specs.Board.{fresh, prepared, shut-at, shut, bare, decide, check, after-store, cannot-join, join-ends, check-items, settled, decide-first, degree, undecideds, lines, keep-aparts, around, do-item, do-items, shape-items, barred, set-flag, set-edge, enough}
-use Rattle.model.specs.Search.{Solved, declined-search, scan, search, search-from, fewest, concat, backtrack, try, degree-so-far, next-pad, board-record}
+use Rattle.model.specs.Search.{declined-search, scan, search, search-from, fewest, concat, backtrack, try, degree-so-far, next-pad, board-record}
 use Rattle.model.specs.Common.{Common, all-have, none-has, common-byte, common-table, common}
 use Rattle.model.specs.CommonText.{row-lines, table-lines, common-found-text, common-text}
 

@@ -1,7 +1,7 @@
 -- The search as a list of events with no limit, and a run with a limit and room as a scan of that list. Document 01, 'The search'.
 -- It rests on Board.antt. What stopping early means is then a matter of scanning a list, and the search itself is one function.
 use Prim.Native.Nat.{ℕ, zero, suc, _+_, _-_}
-use mathlib.Core.Bool.{Bool, true, false, _&&_, _||_, not}
+use mathlib.Core.Bool.{Bool, true, false, _&&_, _||_}
 use mathlib.Core.List.{List, [], _∷_, _++_}
 use lib.Dec.{eqb, ltb, leb}
 use lib.ListN.{length, drop}

@@ -2,7 +2,7 @@
 -- one by one, are the records of the run, whatever limit, buffer and outcome were; so it holds exactly these. It rests on the model's
 -- HasRecord.antt and on what a run is (exact's Exact.antt).
 use Prim.Native.Nat.{ℕ, zero, suc, _+_, _≤_, _<_}
-use mathlib.Core.Path.{_≡_, refl, sym, ap, subst, _∙_}
+use mathlib.Core.Path.{_≡_, sym, ap, subst, _∙_}
 use mathlib.Core.Logic.{⊎-elim, _↔_}
 use mathlib.Core.List.{List, [], List·Memᴰ, List·Memᴰ·cases-cons, List·Memᴰ·head, List·Memᴰ·not-nil, List·Memᴰ·tail, Memᴰ·cast}
 use native.Mathlib.Omega.{arith}

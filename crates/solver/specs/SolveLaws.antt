@@ -1,6 +1,6 @@
 -- From the search over the fresh arrays to the model's run: the kinds tell of the same blank pads, clues and holes, so the events are the
 -- grid's own, and the progress from nothing is the model's result. It rests on the laws of the files beside it.
-use Prim.Native.Nat.{ℕ, _*_, _≤_, _<_}
+use Prim.Native.Nat.{ℕ, _≤_, _<_}
 use mathlib.Core.Path.{_≡_, refl, sym, ap, _∙_, subst}
 use mathlib.Core.List.{List}
 use native.Mathlib.Omega.{arith}
