@@ -7,9 +7,11 @@
 //   file LENT CELLS-LENT HEXADECIMAL
 //   write H,W CELLS LENT ROOM
 //   judge H,W CELLS LENT HEXADECIMAL
+//   common H,W CELLS LENT LIMIT ROOM TABLE FILL
 // CELLS are numbers parted by commas, -1 for blank and -2 for a hole. LENT is
-// the length of the slice that is lent for the answer; `-` stands for an empty
-// list.
+// the length of the slice that is lent for the answer, ROOM that of the buffer
+// and TABLE that of the table; FILL is the number from which come the bytes
+// that stand there before the call. `-` stands for an empty list.
 
 #[derive(Clone, Copy, Debug, PartialEq, Eq)]
 pub enum Asked {
@@ -27,6 +29,23 @@ pub struct Given {
     pub cells: Vec<i64>,
 }
 
+/// A search, with a room for its buffer.
+#[derive(Clone, Debug, PartialEq, Eq)]
+pub struct Search {
+    pub grid: Given,
+    pub lent: usize,
+    pub limit: u64,
+    pub room: usize,
+}
+
+/// A table that is lent beside a search; what stands in it and in the buffer
+/// before the call comes from the number `fill`.
+#[derive(Clone, Copy, Debug, PartialEq, Eq)]
+pub struct Table {
+    pub length: usize,
+    pub fill: u64,
+}
+
 #[derive(Clone, Debug, PartialEq, Eq)]
 pub enum Case {
     Board {
@@ -34,12 +53,7 @@ pub enum Case {
         lent: usize,
         calls: Vec<Asked>,
     },
-    Search {
-        grid: Given,
-        lent: usize,
-        limit: u64,
-        room: usize,
-    },
+    Search(Search),
     Record {
         size: (usize, usize),
         lent: usize,
@@ -62,6 +76,7 @@ pub enum Case {
         lent: usize,
         bytes: Vec<u8>,
     },
+    Common(Search, Table),
 }
 
 fn listed<T: ToString>(items: &[T], between: &str) -> String {
@@ -95,18 +110,20 @@ impl std::fmt::Display for Given {
     }
 }
 
+impl std::fmt::Display for Search {
+    fn fmt(&self, out: &mut std::fmt::Formatter<'_>) -> std::fmt::Result {
+        let (grid, lent) = (&self.grid, self.lent);
+        write!(out, "{grid} {lent} {} {}", self.limit, self.room)
+    }
+}
+
 impl std::fmt::Display for Case {
     fn fmt(&self, out: &mut std::fmt::Formatter<'_>) -> std::fmt::Result {
         match self {
             Case::Board { grid, lent, calls } => {
                 write!(out, "board {grid} {lent} {}", listed(calls, ";"))
             }
-            Case::Search {
-                grid,
-                lent,
-                limit,
-                room,
-            } => write!(out, "search {grid} {lent} {limit} {room}"),
+            Case::Search(search) => write!(out, "search {search}"),
             Case::Record {
                 size: (height, width),
                 lent,
@@ -122,6 +139,9 @@ impl std::fmt::Display for Case {
             Case::Write { grid, lent, room } => write!(out, "write {grid} {lent} {room}"),
             Case::Judge { grid, lent, bytes } => {
                 write!(out, "judge {grid} {lent} {}", hexadecimal(bytes))
+            }
+            Case::Common(search, Table { length, fill }) => {
+                write!(out, "common {search} {length} {fill}")
             }
         }
     }
@@ -169,12 +189,35 @@ fn read_calls(text: &str) -> Vec<Asked> {
     calls.map(read_asked).collect()
 }
 
-pub fn read_case(text: &str) -> Case {
-    let words: Vec<&str> = text.split_whitespace().collect();
-    let grid = || Given {
+fn read_grid(words: &[&str]) -> Given {
+    Given {
         size: read_size(words[1]),
         cells: numbers(words[2]),
-    };
+    }
+}
+
+fn read_search(words: &[&str]) -> Search {
+    Search {
+        grid: read_grid(words),
+        lent: number(words[3]),
+        limit: number(words[4]),
+        room: number(words[5]),
+    }
+}
+
+fn read_record(words: &[&str]) -> Case {
+    Case::Record {
+        size: read_size(words[1]),
+        lent: number(words[2]),
+        count: number(words[3]),
+        k: number(words[4]),
+        room: number(words[5]),
+    }
+}
+
+pub fn read_case(text: &str) -> Case {
+    let words: Vec<&str> = text.split_whitespace().collect();
+    let grid = || read_grid(&words);
     let bytes = |at: usize| {
         words
             .get(at)
@@ -186,19 +229,8 @@ pub fn read_case(text: &str) -> Case {
             lent: number(words[3]),
             calls: read_calls(&words[4..].join(" ")),
         },
-        "search" => Case::Search {
-            grid: grid(),
-            lent: number(words[3]),
-            limit: number(words[4]),
-            room: number(words[5]),
-        },
-        "record" => Case::Record {
-            size: read_size(words[1]),
-            lent: number(words[2]),
-            count: number(words[3]),
-            k: number(words[4]),
-            room: number(words[5]),
-        },
+        "search" => Case::Search(read_search(&words)),
+        "record" => read_record(&words),
         "file" => Case::File {
             lent: number(words[1]),
             cells_lent: number(words[2]),
@@ -214,6 +246,10 @@ pub fn read_case(text: &str) -> Case {
             lent: number(words[3]),
             bytes: bytes(4),
         },
+        "common" => {
+            let (length, fill) = (number(words[6]), number(words[7]));
+            Case::Common(read_search(&words), Table { length, fill })
+        }
         word => panic!("no such case: {word}"),
     }
 }

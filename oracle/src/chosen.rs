@@ -7,7 +7,7 @@
 
 use crate::answers::{Call, Pads, BLANK, HOLE, LARGEST_ASKED, LARGEST_CODE, LINE, NONE};
 use crate::calls::grids_and_calls;
-use crate::cases::{Asked, Case, Given};
+use crate::cases::{Asked, Case, Given, Search};
 use crate::expected::{board_room, grid_text, written_text};
 use crate::random::{any_pads, any_plan, wired_pads, Chooser, Random};
 use crate::sequences::checkpoint_calls;
@@ -292,8 +292,8 @@ pub fn search_pads(random: &mut Random, number: usize) -> Pads {
     pads
 }
 
-pub fn search_case(random: &mut Random, pads: &Pads, limit: u64, room: usize) -> Case {
-    Case::Search {
+pub fn any_search(random: &mut Random, pads: &Pads, limit: u64, room: usize) -> Search {
+    Search {
         grid: given(pads),
         lent: any_lent(random, 6),
         limit,
@@ -301,9 +301,9 @@ pub fn search_case(random: &mut Random, pads: &Pads, limit: u64, room: usize) ->
     }
 }
 
-pub fn declined_search(random: &mut Random) -> Case {
+pub fn declined_search(random: &mut Random) -> Search {
     let limit = random.choose(&[0, 1, 1000, u64::MAX]);
-    Case::Search {
+    Search {
         grid: odd_grid(random),
         lent: any_lent(random, 6),
         limit: limit.min(1000),

@@ -1,24 +1,28 @@
 // Compares the proved library with the reference: board calls, searches,
-// records, files and writes, chosen by a seed, until the time or the counts
-// are reached; and searches of grids with holes, and drawings that are judged,
-// with the rules alone. The first case that differs is made smaller and printed.
+// records, files, writes and tables of common copper, chosen by a seed, until
+// the time or the counts are reached; and searches of grids with holes, and
+// drawings that are judged, with the rules alone. The first case that differs
+// is made smaller and printed.
 
-use crate::answers::{limited, whole, Call, Pads, Run};
-use crate::cases::{read_case, Case};
+use crate::answers::{limited, Call, Pads, Run};
+use crate::cases::{read_case, Case, Search};
 use crate::chosen::{
-    any_lent, board_case, declined_search, file_case, given, known_sequences, record_case,
-    search_case, search_pads, size_of, varied_case, write_case,
+    any_lent, any_search, board_case, declined_search, file_case, given, known_sequences,
+    record_case, search_pads, size_of, varied_case, write_case,
 };
+use crate::common::{common_cases, common_pads, declined_common};
 use crate::drawn::{
     declined_judge, drawn, flip_edge, judge_case, listed, spoil, tiny_pads, tried_pads, turn_one,
     turn_squares,
 };
-use crate::expected::{by_library, expected, is_known, judge_answer, search_answer, Answer};
-use crate::grids::{check_beginning, runs_of};
-use crate::holes::{beginning, every_drawing, small_pads, whole_list};
+use crate::expected::{by_library, expected, is_known, judge_answer, search_answer, Answer, FILL};
+use crate::grids::{check_beginning, ended, runs_of};
+use crate::holes::{beginning, checked_list, every_drawing, small_pads};
 use crate::judged::{found, Found};
 use crate::random::Random;
-use crate::shown::{ShownCalls, ShownHoles, ShownJudged, ShownNumbers, ShownRooms, ShownWide};
+use crate::shown::{
+    ShownCalls, ShownCommon, ShownHoles, ShownJudged, ShownNumbers, ShownRooms, ShownWide,
+};
 use crate::smallest::smallest;
 use std::time::{Duration, Instant};
 
@@ -30,6 +34,9 @@ pub struct Counts {
     pub files: usize,
 }
 
+/// Compares cases of one kind.
+type Compare = fn(&mut Comparison);
+
 /// Each kind of case has numbers of its own, so that a seed gives the same
 /// cases however long the others take.
 struct Comparison {
@@ -39,6 +46,7 @@ struct Comparison {
     shown_rooms: ShownRooms,
     shown_holes: ShownHoles,
     shown_judged: ShownJudged,
+    shown_common: ShownCommon,
     shown_wide: ShownWide,
     boards: Random,
     grid_numbers: Random,
@@ -47,6 +55,7 @@ struct Comparison {
     write_numbers: Random,
     hole_numbers: Random,
     judge_numbers: Random,
+    common_numbers: Random,
     known: Vec<(Pads, Vec<Call>)>,
     done: Counts,
     whole_searches: usize,
@@ -69,6 +78,7 @@ impl Comparison {
             shown_rooms: ShownRooms::default(),
             shown_holes: ShownHoles::default(),
             shown_judged: ShownJudged::default(),
+            shown_common: ShownCommon::default(),
             shown_wide: ShownWide::default(),
             boards: Random::new(seed),
             grid_numbers: Random::new(seed.wrapping_add(1 << 32)),
@@ -77,6 +87,7 @@ impl Comparison {
             write_numbers: Random::new(seed.wrapping_add(4 << 32)),
             hole_numbers: Random::new(seed.wrapping_add(5 << 32)),
             judge_numbers: Random::new(seed.wrapping_add(6 << 32)),
+            common_numbers: Random::new(seed.wrapping_add(7 << 32)),
             known: known_sequences(),
             done: Counts::default(),
             whole_searches: 0,
@@ -93,7 +104,7 @@ impl Comparison {
 
     fn figures(&self) -> String {
         format!(
-            "{:.0} s: {} board calls in {} sequences; {} searches ({} of them whole, against solve), {} visited boards; {} declined searches; {} records; {} files; {} writes; {} records judged",
+            "{:.0} s: {} board calls in {} sequences; {} searches ({} of them whole, against solve), {} visited boards; {} declined searches; {} records; {} files; {} writes; {} records judged; {} calls for common copper",
             self.started.elapsed().as_secs_f64(),
             self.done.calls,
             self.sequences,
@@ -104,7 +115,8 @@ impl Comparison {
             self.records,
             self.done.files,
             self.writes,
-            self.shown_judged.records()
+            self.shown_judged.records(),
+            self.shown_common.calls
         )
     }
 
@@ -116,6 +128,7 @@ impl Comparison {
         println!("{}", self.shown_rooms.figures());
         println!("{}", self.shown_holes.figures());
         self.shown_judged.print();
+        self.shown_common.print();
         println!("{}", self.shown_wide.figures());
     }
 
@@ -155,11 +168,15 @@ impl Comparison {
         }
     }
 
+    /// One search of an accepted grid, where it is known what it gives.
+    fn hold_search(&mut self, search: Search, run: &Run) {
+        let answer = search_answer((0, 0), run, search.lent, vec![FILL; search.room]);
+        self.hold(&Case::Search(search), &answer);
+    }
+
     fn compare_run(&mut self, pads: &Pads, run: &Run, limit: u64, room: usize) {
-        let case = search_case(&mut self.grid_numbers, pads, limit, room);
-        if let Case::Search { lent, .. } = case {
-            self.hold(&case, &search_answer((0, 0), run, lent, room));
-        }
+        let search = any_search(&mut self.grid_numbers, pads, limit, room);
+        self.hold_search(search, run);
         self.done.searches += 1;
         self.visited += run.visited;
     }
@@ -170,14 +187,11 @@ impl Comparison {
         let reasonable = if self.grids % 100 == 0 { 100000 } else { 2000 };
         let pads = search_pads(&mut self.grid_numbers, self.grids);
         self.grids += 1;
-        let probe = limited(&pads, reasonable, usize::MAX);
-        if probe.outcome != 0 {
+        let Some(all) = ended(&pads, reasonable) else {
             let room = self.grid_numbers.below(20000);
             let limit = self.grid_numbers.below(reasonable as usize) as u64;
             return self.compare_run(&pads, &limited(&pads, limit, room), limit, room);
-        }
-        let all = whole(&pads);
-        assert!(probe == all, "backtrack written again differs: {pads:?}");
+        };
         let length = pads.record_length();
         let room = all.bytes.len() + self.grid_numbers.below(2 * length);
         self.compare_run(&pads, &all, all.visited, room);
@@ -190,31 +204,22 @@ impl Comparison {
         }
     }
 
-    /// A small grid, mostly with holes, by the rules alone; where it has none,
-    /// the list by the rules must be that of `solve`.
+    /// A small grid, mostly with holes, by the rules alone.
     fn compare_holes(&mut self) {
         let pads = small_pads(&mut self.hole_numbers);
-        let mut all = whole_list(&pads);
-        if !pads.has_hole() {
-            let list = whole(&pads);
-            assert!(all.bytes == list.bytes, "the rules differ: {pads:?}");
-            all = list;
-        }
+        let all = checked_list(&pads);
         self.shown_holes.count(&pads, &all);
         let kind = self.hole_numbers.below(4);
         let runs = runs_of(&mut self.hole_numbers, &all, pads.record_length(), kind);
         for (limit, room) in runs {
-            let case = search_case(&mut self.hole_numbers, &pads, limit, room);
-            if let Case::Search { lent, .. } = case {
-                let run = beginning(&pads, &all, limit, room);
-                self.hold(&case, &search_answer((0, 0), &run, lent, room));
-            }
+            let search = any_search(&mut self.hole_numbers, &pads, limit, room);
+            self.hold_search(search, &beginning(&pads, &all, limit, room));
             self.shown_holes.searches += 1;
         }
     }
 
     fn compare_declined(&mut self) {
-        let case = declined_search(&mut self.declined);
+        let case = Case::Search(declined_search(&mut self.declined));
         self.hold(&case, &expected(&case));
         self.declined_searches += 1;
         for _ in 0..5 {
@@ -266,12 +271,12 @@ impl Comparison {
             }
         }
         self.shown_judged.tried.count_grid(pads);
-        let case = Case::Search {
+        let case = Case::Search(Search {
             grid: given(pads),
             lent: 6,
             limit: u64::MAX,
             room: list.len(),
-        };
+        });
         let answer = expected(&case);
         let agree = answer.numbers[2] == 0 && answer.bytes == list;
         assert!(agree, "the rules differ: {pads:?}");
@@ -355,8 +360,47 @@ impl Comparison {
         }
     }
 
+    /// One call for common copper.
+    fn compare_table(&mut self, case: &Case, answer: &Answer) {
+        self.hold(case, answer);
+        self.shown_common.count(case, answer);
+    }
+
+    /// The grids of one turn, and one that is mostly declined.
+    fn compare_common(&mut self) {
+        let turn = self.shown_common.turns;
+        self.shown_common.turns += 1;
+        for (pads, boards) in common_pads(&mut self.common_numbers, turn) {
+            self.shown_common.count_grid(&pads);
+            for (case, answer) in common_cases(&mut self.common_numbers, &pads, boards) {
+                self.compare_table(&case, &answer);
+            }
+        }
+        let case = declined_common(&mut self.common_numbers);
+        self.compare_table(&case, &expected(&case));
+    }
+
+    /// The kinds of which more cases are wanted.
+    fn kinds_left(&self, wanted: Counts) -> Vec<Compare> {
+        let (calls, searches, files) = (wanted.calls, wanted.searches, wanted.files);
+        let holes = self.shown_holes.searches;
+        let judged = self.shown_judged.records();
+        let common = self.shown_common.calls;
+        let kinds: [(usize, usize, Compare); 7] = [
+            (self.done.calls, calls, Comparison::compare_board),
+            (self.done.searches, searches, Comparison::compare_search),
+            (self.done.files, files, Comparison::compare_write),
+            (self.done.files, files, Comparison::compare_file),
+            (holes, searches, Comparison::compare_holes),
+            (judged, calls, Comparison::compare_judged),
+            (common, 2 * searches, Comparison::compare_common),
+        ];
+        let left = kinds.into_iter().filter(|(done, wanted, _)| done < wanted);
+        left.map(|(_, _, compare)| compare).collect()
+    }
+
     /// Cases of one kind for a twentieth of a second.
-    fn turn(&mut self, compare: fn(&mut Comparison)) {
+    fn turn(&mut self, compare: Compare) {
         let start = Instant::now();
         while start.elapsed() < Duration::from_millis(50) {
             compare(self);
@@ -392,10 +436,12 @@ fn show_answers(wanted: &Answer, found: &Answer) {
     let numbers = |answer: &Answer| answer.numbers.iter().map(|n| *n as i128).collect();
     let cells = |answer: &Answer| answer.cells.iter().map(|n| *n as i128).collect();
     let bytes = |answer: &Answer| answer.bytes.iter().map(|n| *n as i128).collect();
+    let table = |answer: &Answer| answer.table.iter().map(|n| *n as i128).collect();
     show_first("answers", signed(wanted), signed(found));
     show_first("answer", numbers(wanted), numbers(found));
     show_first("cells", cells(wanted), cells(found));
     show_first("buffer", bytes(wanted), bytes(found));
+    show_first("table", table(wanted), table(found));
     for (wanted, found) in wanted.back.iter().zip(&found.back) {
         println!("and back:");
         show_answers(wanted, found);
@@ -416,7 +462,7 @@ pub fn replay_case(text: &str) -> Option<bool> {
     is_known(&case).then(|| show(&case))
 }
 
-/// Compares for so many seconds, a sixth of the time on each kind.
+/// Compares for so many seconds, a seventh of the time on each kind.
 pub fn compare_for(seconds: u64, seed: u64) {
     println!("seed {seed}");
     let mut comparison = Comparison::new(seed);
@@ -428,6 +474,7 @@ pub fn compare_for(seconds: u64, seed: u64) {
         comparison.turn(|comparison| comparison.compare_file());
         comparison.turn(|comparison| comparison.compare_holes());
         comparison.turn(|comparison| comparison.compare_judged());
+        comparison.turn(|comparison| comparison.compare_common());
         comparison.compare_declined();
         comparison.show_progress();
     }
@@ -435,38 +482,18 @@ pub fn compare_for(seconds: u64, seed: u64) {
 }
 
 /// Compares until so many board calls, searches and files are done, as many
-/// searches by the rules as searches, as many writes as files, and as many
-/// judged records as board calls.
+/// searches by the rules as searches, as many writes as files, as many judged
+/// records as board calls, and twice as many calls for common copper as searches.
 pub fn compare_counts(wanted: Counts, seed: u64) {
     println!("seed {seed}");
     let mut comparison = Comparison::new(seed);
     loop {
-        let left = |done, wanted| done < wanted;
-        let more_calls = left(comparison.done.calls, wanted.calls);
-        let more_searches = left(comparison.done.searches, wanted.searches);
-        let more_files = left(comparison.done.files, wanted.files);
-        let more_holes = left(comparison.shown_holes.searches, wanted.searches);
-        let more_judged = left(comparison.shown_judged.records(), wanted.calls);
-        if !(more_calls || more_searches || more_files || more_holes || more_judged) {
+        let kinds = comparison.kinds_left(wanted);
+        if kinds.is_empty() {
             break;
         }
         for _ in 0..10 {
-            if more_calls {
-                comparison.compare_board();
-            }
-            if more_searches {
-                comparison.compare_search();
-            }
-            if more_files {
-                comparison.compare_write();
-                comparison.compare_file();
-            }
-            if more_holes {
-                comparison.compare_holes();
-            }
-            if more_judged {
-                comparison.compare_judged();
-            }
+            kinds.iter().for_each(|compare| compare(&mut comparison));
         }
         comparison.compare_declined();
         comparison.show_progress();

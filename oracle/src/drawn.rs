@@ -6,8 +6,8 @@
 use crate::answers::{Pads, BLANK, HOLE, LARGEST_CODE, LINE, NONE, UNDECIDED};
 use crate::cases::{Case, Given};
 use crate::chosen::{any_lent, drill, given, odd_grid, widen};
+use crate::holes::by_library;
 use crate::judged::Drawn;
-use crate::library;
 use crate::random::{wired, wired_pads, Random};
 
 /// What stands on the pads of a tiny grid; a hole is -2, as is the end of the
@@ -71,12 +71,18 @@ fn place_between(width: usize, (one, other): (usize, usize)) -> usize {
     row * (2 * width - 1) + column
 }
 
+/// Whether there is an edge at a place of the record: its row and its column are
+/// not both even and not both odd.
+pub fn is_edge(pads: &Pads, place: usize) -> bool {
+    let columns = 2 * pads.width - 1;
+    (place / columns + place % columns) % 2 == 1
+}
+
 /// The record with no line.
 fn empty_record(pads: &Pads) -> Vec<u8> {
-    let columns = 2 * pads.width - 1;
-    let byte = |place: usize| match (place / columns + place % columns) % 2 {
-        0 => UNDECIDED,
-        _ => NONE,
+    let byte = |place: usize| match is_edge(pads, place) {
+        true => NONE,
+        false => UNDECIDED,
     };
     (0..pads.record_length()).map(byte).collect()
 }
@@ -187,9 +193,8 @@ pub fn turn_one(random: &mut Random, pads: &Pads, bytes: &mut [u8]) {
 /// A place of the field, an edge or one between the edges.
 fn any_place(random: &mut Random, pads: &Pads, edge: bool) -> usize {
     loop {
-        let columns = 2 * pads.width - 1;
         let place = random.below(pads.record_length());
-        if ((place / columns + place % columns) % 2 == 1) == edge {
+        if is_edge(pads, place) == edge {
             return place;
         }
     }
@@ -266,12 +271,9 @@ fn change_code(random: &mut Random, pads: &mut Pads) {
 /// The layouts that a search of the library lists, with a limit and a room, and
 /// whether they are all that there are.
 pub fn listed(pads: &Pads, limit: u64, room: usize) -> (Vec<Vec<u8>>, bool) {
-    let (mut buffer, mut answer) = (vec![0; room], [0; 6]);
-    let size = (pads.height, pads.width);
-    library::solve(size, &pads.cells, limit, &mut buffer, &mut answer);
-    let records = buffer.chunks(pads.record_length());
-    let layouts = records.take(answer[3] as usize).map(<[u8]>::to_vec);
-    (layouts.collect(), answer[2] == 0)
+    let run = by_library(pads, limit, room);
+    let records = run.bytes.chunks(pads.record_length());
+    (records.map(<[u8]>::to_vec).collect(), run.outcome == 0)
 }
 
 pub fn judge_case(pads: &Pads, lent: usize, bytes: Vec<u8>) -> Case {

@@ -1,14 +1,16 @@
 // What a case must give: by the reference where the call is accepted, by the
 // numbers of the documents where it is declined, for a search of a grid with
 // holes by the rules alone (holes.rs), for a file by the reader of routes.rs,
-// for a grid that is written by Rust's own digits, and for a drawing by the
-// rules (judged.rs). And what the library gives for the same case. A text that
-// was written is read back, and a grid that was read is written back.
+// for a grid that is written by Rust's own digits, for a drawing by the rules
+// (judged.rs), and for a table of common copper by such a search (common.rs).
+// And what the library gives for the same case. A text that was written is
+// read back, and a grid that was read is written back.
 
 use crate::answers::{
     limited, make_call, read_state, whole, Board, Call, Pads, Run, State, BLANK, HOLE, LARGEST_CODE,
 };
-use crate::cases::{Asked, Case, Given};
+use crate::cases::{Asked, Case, Given, Search};
+use crate::common::{common_by_library, expected_common};
 use crate::judged::{found, lines_told};
 use crate::{holes, library, routes};
 
@@ -25,6 +27,7 @@ pub struct Answer {
     pub signed: Vec<i64>,
     pub cells: Vec<i64>,
     pub bytes: Vec<u8>,
+    pub table: Vec<u8>,
     /// The answers when what was written is read back, or what was read is
     /// written back.
     pub back: Vec<Answer>,
@@ -47,7 +50,7 @@ pub fn grid_refusal(grid: &Given) -> (u64, u64) {
 }
 
 /// The grid of a board: the given one, or 2 by 2 blank where it is declined.
-fn board_pads(grid: &Given) -> Pads {
+pub fn board_pads(grid: &Given) -> Pads {
     if grid_refusal(grid) != (0, 0) {
         return Pads {
             height: 2,
@@ -149,9 +152,17 @@ fn expected_board(grid: &Given, lent: usize, calls: &[Asked]) -> Answer {
     answer
 }
 
-/// The answer of a search whose run is known.
-pub fn search_answer(refusal: (u64, u64), run: &Run, lent: usize, room: usize) -> Answer {
-    let mut answer = Answer::default();
+/// Bytes written over the beginning of what stood there before.
+pub fn put_bytes(before: &mut [u8], bytes: &[u8]) {
+    before[..bytes.len()].copy_from_slice(bytes);
+}
+
+/// The answer of a search whose run is known, in a buffer that held `before`.
+pub fn search_answer(refusal: (u64, u64), run: &Run, lent: usize, before: Vec<u8>) -> Answer {
+    let mut answer = Answer {
+        bytes: before,
+        ..Answer::default()
+    };
     if lent >= 6 {
         answer.returned = 6;
         answer.numbers = vec![
@@ -162,28 +173,36 @@ pub fn search_answer(refusal: (u64, u64), run: &Run, lent: usize, room: usize) -
             run.visited,
             run.fewest as u64,
         ];
-        answer.bytes = run.bytes.clone();
+        put_bytes(&mut answer.bytes, &run.bytes);
     }
     answer.numbers.resize(lent, FILL as u64);
-    answer.bytes.resize(room, FILL);
     answer
 }
 
-fn expected_search(grid: &Given, lent: usize, limit: u64, room: usize) -> Answer {
-    let refusal = grid_refusal(grid);
-    if refusal != (0, 0) {
-        return search_answer(refusal, &Run::new(), lent, room);
+/// What a search gives: of a declined grid nothing; of one with holes by the
+/// rules, and where it is too large for that, by the library's own search.
+pub fn expected_run(search: &Search) -> Run {
+    let (limit, room) = (search.limit, search.room);
+    if grid_refusal(&search.grid) != (0, 0) {
+        return Run::new();
     }
-    let pads = board_pads(grid);
-    if pads.has_hole() {
-        let run = holes::beginning(&pads, &holes::whole_list(&pads), limit, room);
-        return search_answer(refusal, &run, lent, room);
+    let pads = board_pads(&search.grid);
+    if !pads.has_hole() {
+        let run = limited(&pads, limit, room);
+        if run.outcome == 0 {
+            assert!(run == whole(&pads), "backtrack written again differs");
+        }
+        return run;
     }
-    let run = limited(&pads, limit, room);
-    if run.outcome == 0 {
-        assert!(run == whole(&pads), "backtrack written again differs");
+    if !holes::is_small(&pads) {
+        return holes::by_library(&pads, limit, room);
     }
-    search_answer(refusal, &run, lent, room)
+    holes::beginning(&pads, &holes::whole_list(&pads), limit, room)
+}
+
+fn expected_search(search: &Search) -> Answer {
+    let (refusal, run) = (grid_refusal(&search.grid), expected_run(search));
+    search_answer(refusal, &run, search.lent, vec![FILL; search.room])
 }
 
 fn expected_record(
@@ -326,11 +345,12 @@ fn expected_judge(grid: &Given, lent: usize, bytes: &[u8]) -> Answer {
 
 /// Whether it is known what the case must give. The reference knows no holes:
 /// of a board with holes it is not, of a search only where the grid is small.
+/// A table is held beside the library's own search where nothing else is known.
 pub fn is_known(case: &Case) -> bool {
     match case {
         Case::Board { grid, .. } => !board_pads(grid).has_hole(),
-        Case::Search { grid, .. } => {
-            let pads = board_pads(grid);
+        Case::Search(search) => {
+            let pads = board_pads(&search.grid);
             !pads.has_hole() || holes::is_small(&pads)
         }
         _ => true,
@@ -340,12 +360,7 @@ pub fn is_known(case: &Case) -> bool {
 pub fn expected(case: &Case) -> Answer {
     match case {
         Case::Board { grid, lent, calls } => expected_board(grid, *lent, calls),
-        Case::Search {
-            grid,
-            lent,
-            limit,
-            room,
-        } => expected_search(grid, *lent, *limit, *room),
+        Case::Search(search) => expected_search(search),
         Case::Record {
             size,
             lent,
@@ -360,6 +375,7 @@ pub fn expected(case: &Case) -> Answer {
         } => expected_file(*lent, *cells_lent, bytes),
         Case::Write { grid, lent, room } => expected_write(grid, *lent, *room),
         Case::Judge { grid, lent, bytes } => expected_judge(grid, *lent, bytes),
+        Case::Common(search, table) => expected_common(search, *table),
     }
 }
 
@@ -419,6 +435,18 @@ fn written_and_read_back(grid: &Given, lent: usize, room: usize) -> Answer {
     answer
 }
 
+fn solved_by_library(search: &Search) -> Answer {
+    let mut answer = Answer {
+        numbers: vec![FILL as u64; search.lent],
+        bytes: vec![FILL; search.room],
+        ..Answer::default()
+    };
+    let (bytes, numbers) = (&mut answer.bytes, &mut answer.numbers);
+    let (grid, limit) = (&search.grid, search.limit);
+    answer.returned = library::solve(grid.size, &grid.cells, limit, bytes, numbers);
+    answer
+}
+
 fn judged_by_library(grid: &Given, lent: usize, bytes: &[u8]) -> Answer {
     let mut answer = Answer {
         numbers: vec![FILL as u64; lent],
@@ -436,17 +464,7 @@ pub fn by_library(case: &Case) -> Answer {
             answer.signed = vec![FILL as i64; *lent];
             answer.returned = library::replay(grid.size, &grid.cells, &numbers, &mut answer.signed);
         }
-        Case::Search {
-            grid,
-            lent,
-            limit,
-            room,
-        } => {
-            answer.numbers = vec![FILL as u64; *lent];
-            answer.bytes = vec![FILL; *room];
-            let (bytes, numbers) = (&mut answer.bytes, &mut answer.numbers);
-            answer.returned = library::solve(grid.size, &grid.cells, *limit, bytes, numbers);
-        }
+        Case::Search(search) => answer = solved_by_library(search),
         Case::Record {
             size,
             lent,
@@ -465,6 +483,7 @@ pub fn by_library(case: &Case) -> Answer {
         } => answer = read_and_written_back(bytes, *lent, *cells_lent),
         Case::Write { grid, lent, room } => answer = written_and_read_back(grid, *lent, *room),
         Case::Judge { grid, lent, bytes } => answer = judged_by_library(grid, *lent, bytes),
+        Case::Common(search, table) => answer = common_by_library(search, *table),
     }
     answer
 }

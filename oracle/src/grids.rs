@@ -34,9 +34,9 @@ pub struct Task {
     pub runs: Vec<(u64, usize)>,
 }
 
-/// The whole list of a grid by `solve`, where it ends in reasonable time.
-fn ended(pads: &Pads) -> Option<Run> {
-    let run = limited(pads, REASONABLE, usize::MAX);
+/// The whole list of a grid by `solve`, where it visits at most so many boards.
+pub fn ended(pads: &Pads, boards: u64) -> Option<Run> {
+    let run = limited(pads, boards, usize::MAX);
     if run.outcome != 0 {
         return None;
     }
@@ -88,7 +88,7 @@ fn choose_ended(random: &mut Random, height: usize, width: usize, solvable: bool
         } else {
             any_pads(random, height, width)
         };
-        if let Some(all) = ended(&pads) {
+        if let Some(all) = ended(&pads, REASONABLE) {
             let searched = all.visited > 1 || random.chance(10);
             if searched && (!solvable || all.layouts > 0) {
                 return (pads, all);
@@ -181,7 +181,7 @@ pub fn answers(stream: &[u8]) -> String {
     let (mut outcomes, mut with_layouts) = ([0; 3], 0);
     while !reader.at_end() {
         let task = read_task(&mut reader);
-        let all = ended(&task.pads);
+        let all = ended(&task.pads, REASONABLE);
         grid += 1;
         with_layouts += all.as_ref().is_some_and(|all| all.layouts > 0) as usize;
         for (limit, room) in task.runs {

@@ -4,7 +4,7 @@
 // own, and limits and rooms are held beside it. And the verdict on every
 // drawing of a small grid.
 
-use crate::answers::{Pads, Run, BLANK, HOLE, LINE, NONE, UNDECIDED};
+use crate::answers::{whole, Pads, Run, BLANK, HOLE, LINE, NONE, UNDECIDED};
 use crate::chosen::{drill, widen};
 use crate::library;
 use crate::random::{any_pads, wired_pads, Random};
@@ -174,13 +174,26 @@ pub fn every_drawing(pads: &Pads) -> impl Iterator<Item = (Vec<u8>, u64)> + '_ {
     })
 }
 
+/// What the library's own search gives.
+pub fn by_library(pads: &Pads, limit: u64, room: usize) -> Run {
+    let (mut bytes, mut answer) = (vec![0; room], [0; 6]);
+    let size = (pads.height, pads.width);
+    library::solve(size, &pads.cells, limit, &mut bytes, &mut answer);
+    let [_, _, outcome, layouts, visited, fewest] = answer;
+    bytes.truncate(layouts as usize * pads.record_length());
+    Run {
+        outcome: outcome as u8,
+        layouts: layouts as usize,
+        visited,
+        fewest: fewest as usize,
+        bytes,
+    }
+}
+
 /// How many boards the library visits, with no limit, until a layout is due
 /// for which there is no room, or else until the end.
 fn visited(pads: &Pads, room: usize) -> u64 {
-    let (mut buffer, mut answer) = (vec![0; room], [0; 6]);
-    let size = (pads.height, pads.width);
-    library::solve(size, &pads.cells, u64::MAX, &mut buffer, &mut answer);
-    answer[4]
+    by_library(pads, u64::MAX, room).visited
 }
 
 /// The list by the rules, with the boards that are visited to its end.
@@ -188,6 +201,18 @@ pub fn whole_list(pads: &Pads) -> Run {
     let mut all = by_rules(pads);
     all.visited = visited(pads, all.bytes.len()).max(all.layouts as u64);
     all
+}
+
+/// The list by the rules; where the grid has no holes, it must be that of
+/// `solve`, which then says how many boards are visited.
+pub fn checked_list(pads: &Pads) -> Run {
+    let all = whole_list(pads);
+    if pads.has_hole() {
+        return all;
+    }
+    let list = whole(pads);
+    assert!(all.bytes == list.bytes, "the rules differ: {pads:?}");
+    list
 }
 
 /// The beginning of the whole list that a limit and a room leave. Each layout

@@ -1,5 +1,6 @@
 // The proved library, called through its C interface. The header hunekowha.h
-// in the library's crate says what each argument and each number means.
+// in the library's crate says what each argument and each number means. A slice
+// is lent as a pointer and a length.
 
 extern "C" {
     fn hunekowha_read(
@@ -10,17 +11,6 @@ extern "C" {
         cells: *mut i64,
         cells_length: usize,
     ) -> usize;
-    fn hunekowha_solve(
-        height: usize,
-        width: usize,
-        cells: *const i64,
-        cells_length: usize,
-        limit: u64,
-        buffer: *mut u8,
-        buffer_length: usize,
-        answer: *mut u64,
-        answer_length: usize,
-    ) -> usize;
     fn hunekowha_record(
         height: usize,
         width: usize,
@@ -28,36 +18,6 @@ extern "C" {
         k: usize,
         buffer: *const u8,
         buffer_length: usize,
-        answer: *mut u64,
-        answer_length: usize,
-    ) -> usize;
-    fn hunekowha_replay(
-        height: usize,
-        width: usize,
-        cells: *const i64,
-        cells_length: usize,
-        calls: *const u64,
-        calls_length: usize,
-        answer: *mut i64,
-        answer_length: usize,
-    ) -> usize;
-    fn hunekowha_write(
-        height: usize,
-        width: usize,
-        cells: *const i64,
-        cells_length: usize,
-        text: *mut u8,
-        text_length: usize,
-        answer: *mut u64,
-        answer_length: usize,
-    ) -> usize;
-    fn hunekowha_judge(
-        height: usize,
-        width: usize,
-        cells: *const i64,
-        cells_length: usize,
-        record: *const u8,
-        record_length: usize,
         answer: *mut u64,
         answer_length: usize,
     ) -> usize;
@@ -72,28 +32,6 @@ pub fn read(file: &[u8], answer: &mut [u64], cells: &mut [i64]) -> usize {
             answer.len(),
             cells.as_mut_ptr(),
             cells.len(),
-        )
-    }
-}
-
-pub fn solve(
-    (height, width): (usize, usize),
-    cells: &[i64],
-    limit: u64,
-    buffer: &mut [u8],
-    answer: &mut [u64],
-) -> usize {
-    unsafe {
-        hunekowha_solve(
-            height,
-            width,
-            cells.as_ptr(),
-            cells.len(),
-            limit,
-            buffer.as_mut_ptr(),
-            buffer.len(),
-            answer.as_mut_ptr(),
-            answer.len(),
         )
     }
 }
@@ -118,62 +56,49 @@ pub fn record(
     }
 }
 
-pub fn replay(
-    (height, width): (usize, usize),
-    cells: &[i64],
-    calls: &[u64],
-    answer: &mut [i64],
-) -> usize {
-    unsafe {
-        hunekowha_replay(
-            height,
-            width,
-            cells.as_ptr(),
-            cells.len(),
-            calls.as_ptr(),
-            calls.len(),
-            answer.as_mut_ptr(),
-            answer.len(),
-        )
-    }
+/// A function that is given a grid, maybe a limit, slices that it reads and
+/// slices that it writes, in this order.
+macro_rules! of_grid {
+    ($name:ident = $symbol:ident
+        ( $(number $limit:ident;)? $(reads $read:ident: $of:ty;)* $(writes $written:ident: $to:ty;)* )
+    ) => {
+        pub fn $name(
+            (height, width): (usize, usize),
+            cells: &[i64],
+            $($limit: u64,)?
+            $($read: &[$of],)*
+            $($written: &mut [$to],)*
+        ) -> usize {
+            extern "C" {
+                fn $symbol(
+                    height: usize,
+                    width: usize,
+                    cells: *const i64,
+                    cells_length: usize,
+                    $($limit: u64,)?
+                    $($read: *const $of, _: usize,)*
+                    $($written: *mut $to, _: usize,)*
+                ) -> usize;
+            }
+            unsafe {
+                $symbol(
+                    height,
+                    width,
+                    cells.as_ptr(),
+                    cells.len(),
+                    $($limit,)?
+                    $($read.as_ptr(), $read.len(),)*
+                    $($written.as_mut_ptr(), $written.len(),)*
+                )
+            }
+        }
+    };
 }
 
-pub fn write(
-    (height, width): (usize, usize),
-    cells: &[i64],
-    text: &mut [u8],
-    answer: &mut [u64],
-) -> usize {
-    unsafe {
-        hunekowha_write(
-            height,
-            width,
-            cells.as_ptr(),
-            cells.len(),
-            text.as_mut_ptr(),
-            text.len(),
-            answer.as_mut_ptr(),
-            answer.len(),
-        )
-    }
-}
-
-pub fn judge(
-    (height, width): (usize, usize),
-    cells: &[i64],
-    record: &[u8],
-    answer: &mut [u64],
-) -> usize {
-    unsafe {
-        hunekowha_judge(
-            height,
-            width,
-            cells.as_ptr(),
-            cells.len(),
-            record.as_ptr(),
-            record.len(),
-            answer.as_mut_ptr(),
-            answer.len(),
-        )
-    }
-}
+of_grid!(write = hunekowha_write(writes text: u8; writes answer: u64;));
+of_grid!(solve = hunekowha_solve(number limit; writes buffer: u8; writes answer: u64;));
+of_grid!(common = hunekowha_common(
+    number limit; writes buffer: u8; writes table: u8; writes answer: u64;
+));
+of_grid!(judge = hunekowha_judge(reads record: u8; writes answer: u64;));
+of_grid!(replay = hunekowha_replay(reads calls: u64; writes answer: i64;));

@@ -19,6 +19,8 @@ mod cases;
 #[cfg(library)]
 mod chosen;
 #[cfg(library)]
+mod common;
+#[cfg(library)]
 mod compare;
 #[cfg(library)]
 mod drawn;

@@ -3,7 +3,8 @@
 
 use crate::answers::{Pads, Run, HOLE, LARGEST_ASKED, LARGEST_CODE};
 use crate::cases::{Asked, Case, Given};
-use crate::expected::{written_text, Answer};
+use crate::common::{lister, Lister};
+use crate::expected::{board_pads, written_text, Answer};
 use crate::judged::Found;
 use std::collections::BTreeMap;
 
@@ -52,10 +53,11 @@ impl ShownWide {
     pub fn count(&mut self, case: &Case, answer: &Answer) {
         let (kind, cells) = match case {
             Case::Board { grid, .. } => ("board", &grid.cells),
-            Case::Search { grid, .. } => ("search", &grid.cells),
+            Case::Search(search) => ("search", &search.grid.cells),
             Case::File { .. } => ("file", &answer.cells),
             Case::Write { grid, .. } => ("write", &grid.cells),
             Case::Judge { grid, .. } => ("judge", &grid.cells),
+            Case::Common(search, _) => ("common", &search.grid.cells),
             Case::Record { .. } => return,
         };
         let wide = LARGEST_ASKED + 1..=LARGEST_CODE;
@@ -193,6 +195,68 @@ impl ShownJudged {
         println!(
             "{} layouts of searches judged; grids by number, mostly declined: {:?}",
             self.layouts, self.declined
+        );
+    }
+}
+
+/// Calls for common copper: their grids by who lists the layouts; by number,
+/// beside 16 by the search's outcome, and those whose answer was too short; the
+/// tables by how many layouts there were, and their places by byte.
+#[derive(Default)]
+pub struct ShownCommon {
+    pub turns: usize,
+    pub calls: usize,
+    grids: BTreeMap<Lister, usize>,
+    with_holes: usize,
+    numbers: BTreeMap<u64, usize>,
+    outcomes: BTreeMap<u64, usize>,
+    too_short: usize,
+    tables: BTreeMap<&'static str, usize>,
+    places: [usize; 4],
+}
+
+impl ShownCommon {
+    pub fn count_grid(&mut self, pads: &Pads) {
+        *self.grids.entry(lister(pads)).or_default() += 1;
+        self.with_holes += pads.has_hole() as usize;
+    }
+
+    pub fn count(&mut self, case: &Case, answer: &Answer) {
+        self.calls += 1;
+        if answer.returned == 0 {
+            self.too_short += 1;
+            return;
+        }
+        let number = answer.numbers[0];
+        *self.numbers.entry(number).or_default() += 1;
+        match (number, case) {
+            (0, Case::Common(search, _)) => self.count_table(&search.grid, answer),
+            (16, _) => *self.outcomes.entry(answer.numbers[2]).or_default() += 1,
+            _ => {}
+        }
+    }
+
+    fn count_table(&mut self, grid: &Given, answer: &Answer) {
+        let layouts = match answer.numbers[3] {
+            0 => "none",
+            1 => "one",
+            2..=255 => "several",
+            _ => "256 and more",
+        };
+        *self.tables.entry(layouts).or_default() += 1;
+        for byte in &answer.table[..board_pads(grid).record_length()] {
+            self.places[*byte as usize] += 1;
+        }
+    }
+
+    pub fn print(&self) {
+        println!(
+            "common copper: {} calls; accepted grids by who lists: {:?}, {} of them with holes; calls by number: {:?}, beside 16 by outcome: {:?}; {} answers too short",
+            self.calls, self.grids, self.with_holes, self.numbers, self.outcomes, self.too_short
+        );
+        println!(
+            "tables by layouts: {:?}; their places by byte: {:?}",
+            self.tables, self.places
         );
     }
 }

@@ -1,15 +1,29 @@
 // Makes a failing case smaller as long as it still fails: calls left out,
 // rows and columns cut off, holes filled, codes blanked or shortened, bytes of
-// a file left out, chains rubbed out, less room.
+// a file left out, chains rubbed out, less room, shorter tables.
 
 use crate::answers::{Pads, BLANK, HOLE, LINE, NONE, UNDECIDED};
-use crate::cases::{Asked, Case, Given};
-use crate::expected::{board_room, by_library, expected, grid_refusal, is_known, written_text};
+use crate::cases::{Asked, Case, Given, Search, Table};
+use crate::expected::{
+    board_pads, board_room, by_library, expected, grid_refusal, is_known, written_text,
+};
+use crate::grids::LIMIT;
+use crate::holes;
 use crate::judged::Drawn;
 use std::time::{Duration, Instant};
 
+/// Whether a search of the case ends within a reasonable limit, if it has none
+/// itself: that of a smaller grid might go on for ever.
+fn soon_ends(case: &Case) -> bool {
+    let (Case::Search(search) | Case::Common(search, _)) = case else {
+        return true;
+    };
+    let run = || holes::by_library(&board_pads(&search.grid), LIMIT, search.room);
+    search.limit <= LIMIT || run().outcome != 1
+}
+
 pub fn differs(case: &Case) -> bool {
-    is_known(case) && expected(case) != by_library(case)
+    is_known(case) && soon_ends(case) && expected(case) != by_library(case)
 }
 
 /// The smallest case found in at most half a minute.
@@ -39,12 +53,10 @@ fn smaller_cases(case: &Case) -> Vec<Case> {
                 })
                 .collect()
         }
-        Case::Search {
-            grid,
-            lent,
-            limit,
-            room,
-        } => smaller_searches(grid, *lent, *limit, *room),
+        Case::Search(search) => {
+            let smaller = smaller_searches(search).into_iter();
+            smaller.map(Case::Search).collect()
+        }
         Case::File {
             lent,
             cells_lent,
@@ -59,6 +71,7 @@ fn smaller_cases(case: &Case) -> Vec<Case> {
             .collect(),
         Case::Write { grid, lent, room } => smaller_writes(grid, *lent, *room),
         Case::Judge { grid, lent, bytes } => smaller_judges(grid, *lent, bytes),
+        Case::Common(search, table) => smaller_commons(search, *table),
         Case::Record { .. } => Vec::new(),
     }
 }
@@ -96,25 +109,51 @@ fn smaller_boards(grid: &Given, calls: &[Asked]) -> Vec<(Given, Vec<Asked>)> {
     found
 }
 
-fn smaller_searches(grid: &Given, lent: usize, limit: u64, room: usize) -> Vec<Case> {
-    let case = |grid: Given, limit, room| Case::Search {
+fn smaller_searches(search: &Search) -> Vec<Search> {
+    let (limit, room) = (search.limit, search.room);
+    let with = |grid: Given, limit, room| Search {
         grid,
-        lent,
         limit,
         room,
+        ..*search
     };
-    let mut found: Vec<Case> = smaller_grids(grid)
-        .into_iter()
-        .map(|grid| case(grid, limit, room))
-        .collect();
-    for (smaller, less) in [(limit / 2, room), (limit, room / 2)] {
+    let mut found = Vec::new();
+    for (smaller, less) in [
+        (limit.min(LIMIT), room),
+        (limit / 2, room),
+        (limit, room / 2),
+    ] {
         if (smaller, less) != (limit, room) {
-            found.push(case(grid.clone(), smaller, less));
+            found.push(with(search.grid.clone(), smaller, less));
         }
     }
+    let grids = smaller_grids(&search.grid).into_iter();
+    found.extend(grids.map(|grid| with(grid, limit, room)));
     if limit > 0 && limit < 100 {
-        found.push(case(grid.clone(), limit - 1, room));
+        found.push(with(search.grid.clone(), limit - 1, room));
     }
+    found
+}
+
+/// Smaller searches, their tables as far from the places as this one; shorter
+/// tables, and the smallest fills.
+fn smaller_commons(search: &Search, table: Table) -> Vec<Case> {
+    let places_of = |search: &Search| board_pads(&search.grid).record_length();
+    let places = places_of(search);
+    let case = |search: Search, length, fill| Case::Common(search, Table { length, fill });
+    let on_smaller = |smaller: Search| {
+        let as_far = (table.length + places_of(&smaller)).saturating_sub(places);
+        case(smaller, as_far, table.fill)
+    };
+    let mut found: Vec<Case> = smaller_searches(search)
+        .into_iter()
+        .map(on_smaller)
+        .collect();
+    let lengths = [0, places - 1, places, places + 1];
+    let shorter = lengths.into_iter().filter(|less| *less < table.length);
+    found.extend(shorter.map(|length| case(search.clone(), length, table.fill)));
+    let fills = (0..2).filter(|fill| *fill < table.fill);
+    found.extend(fills.map(|fill| case(search.clone(), table.length, fill)));
     found
 }
 
