@@ -1,0 +1,2 @@
+-- Laws that the proofs of the crate share.
+mod RowLaws
