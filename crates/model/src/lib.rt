@@ -1,2 +1,2 @@
-// What the calls do, as definitions that compute: boards, the search, the grid file, records, the printed list. There is no code here;
-// everything stands in specs/.
+// What the calls do, as definitions that compute: boards, the search, the copper common to all layouts, the judge, the grid file, records,
+// what is printed. There is no code here; everything stands in specs/.

@@ -2,12 +2,13 @@
 -- listed drawing of the grid has a line there, 2 exactly where none has, 3 exactly where one has and another has none; and the same of the
 -- records that the search has left in the buffer. An empty list that is complete means that nobody can draw by the ordinary rules. What is
 -- answered in every other case stands at the end. It rests on TableLaws.antt, HeldRecords.antt and what a search promises.
-use Prim.Native.Nat.{ℕ, _%_, _/_, _≤_, _<_}
+use Prim.Native.Nat.{ℕ, suc, _%_, _/_, _≤_, _<_}
 use mathlib.Core.Path.{_≡_, refl, sym, _∙_, ap}
 use mathlib.Core.Logic.{_⊎_, _↔_, Iff·and, Iff·trans}
 use mathlib.Core.Bool.{Bool, true, false}
 use mathlib.Core.List.{List, _++_, List·Memᴰ}
 use native.Mathlib.Omega.{arith}
+use native.Mathlib.Decide.{decLt, ℕ-discrete}
 use borrow.Author.Tests.{ne-eqb}
 use lib.Dec.{eqb}
 use lib.ListN.{length, getD, drop, length-append, length-drop, List·getD-append}
@@ -18,7 +19,7 @@ use Rattle.rules.specs.Drawing.{Drawing, drawn, Ordinary, Listed}
 use Rattle.rules.specs.Record.{undecided-byte, line-byte, none-byte, byte-of, byte-at-place, record-of, place-number, ListedRecord}
 use Rattle.rules.specs.RecordLaws.{edge-number-in-field, edge-at-number, field-edge, record-shows, is-line-byte}
 use Rattle.model.specs.Refusals.{grid-refusal}
-use Rattle.model.specs.RefusalLaws.{accepted-is-not-refused}
+use Rattle.model.specs.RefusalLaws.{not-refused, accepted-is-not-refused}
 use Rattle.model.specs.Records.{record-at}
 use Rattle.model.specs.Search.{Run, scan, search, Solved, solved, declined-search, solve}
 use Rattle.model.specs.Common.{in-every-layout, in-no-layout, in-some-layouts, of-no-layout, has-line, common-byte, common-table, Common, with-number, common}
@@ -193,3 +194,21 @@ module _ (height width : ℕ) (cells : List ℤ) (limit : ℕ) (buffer table : L
       → common height width cells limit buffer table ≡ record { searched = solve height width cells limit buffer; table = table }
   unfolding solve
   common-refused refused = refused-grid height width cells limit buffer table refused ∙ rw (ne-eqb (grid-refusal height width cells .0) 0 refused, solve) refl
+
+  -- BY THE NUMBER: whoever is answered 0 has a complete list of an accepted grid in the buffer, and its table
+  pub common-filled : common height width cells limit buffer table .searched .number ≡ 0
+      → CommonSays height width cells limit buffer table (common height width cells limit buffer table)
+  common-filled zero = elim (ℕ-discrete (grid-refusal height width cells .0) 0) [
+    | no refused ↦ absurd (refused (rw (refused-grid height width cells limit buffer table refused) at zero))
+    | yes accepted ↦ elim (decLt (length table) (places height width)) [
+      | yes short ↦ absurd (no-zero (rw (short-table height width cells limit buffer table accepted short) at zero))
+      | no long ↦ elim (ℕ-discrete (run .outcome) 0) [
+        | no stopped ↦ absurd (no-zero (rw (stopped-list height width cells limit buffer table accepted (omega arith) stopped) at zero))
+        | yes done ↦ let grid = not-refused height width cells accepted in
+            common-says grid (omega arith) (rw (solve-is-run height width cells grid limit buffer) done)
+      ]
+    ]
+  ]
+    where
+      no-zero : {n : ℕ} → suc n ≡ 0 → ⊥
+      no-zero h = omega arith
