@@ -17,6 +17,11 @@ layouts-of [] = []
 layouts-of (visit ∷ events) = layouts-of events
 layouts-of (layout bytes ∷ events) = bytes ∷ layouts-of events
 
+-- the first list is a beginning of the second
+pub record Beginning (first whole : List (List ℕ)) : Type 0 where
+  pub rest : List (List ℕ)
+  pub parted : whole ≡ first ++ rest
+
 -- the number of visit events
 unfoldable pub visits-of : List Event → ℕ
 visits-of [] = 0

@@ -7,6 +7,7 @@ use mathlib.Core.Path.{_≡_, refl, sym, _∙_, ap, subst}
 use mathlib.Core.Bool.{true, false}
 use mathlib.Core.List.{List, _++_, List·Memᴰ, Memᴰ·append-left, map}
 use native.Mathlib.Omega.{arith}
+use borrow.Author.Tests.{ne-eqb}
 use lib.ListN.{length}
 use lib.IntN.{ℤ}
 use Rattle.rules.specs.Grid.{places, Grid, grid-of, Accepted}
@@ -15,8 +16,9 @@ use Rattle.rules.specs.Record.{record-of, ListedRecord, record-lines, Ascending
 use Rattle.rules.specs.LineCount.{record-lines-of, lines-bound}
 use Rattle.model.specs.Board.{fresh}
 use Rattle.model.specs.Calls.{Board}
+use Rattle.model.specs.Refusals.{grid-refusal}
 use Rattle.model.specs.RefusalLaws.{accepted-is-not-refused}
-use Rattle.model.specs.Search.{search, Run, scan, fewest, solved, solve}
+use Rattle.model.specs.Search.{search, Run, scan, fewest, solved, declined-search, solve}
 use Rattle.propagation.specs.BoardAtRest.{BoardAtRest, board-at-rest}
 use Rattle.propagation.specs.Agreement.{Agrees}
 use Rattle.propagation.specs.ProperGrid.{Proper, accepted-proper}
@@ -107,6 +109,12 @@ pub solve-is-run : (height width : ℕ) (cells : List ℤ) → Accepted height w
     → solve height width cells limit buffer ≡ solved (scan limit (places height width) 0 (length buffer) (search (grid-of height width cells))) buffer
 unfolding solve
 solve-is-run height width cells accepted limit buffer = rw (accepted-is-not-refused height width cells accepted, solve) refl
+
+-- and of a grid that is refused it is a declined search
+pub solve-is-declined : (height width : ℕ) (cells : List ℤ) → (grid-refusal height width cells .0 ≡ 0 → ⊥) → (limit : ℕ) (buffer : List ℕ)
+    → solve height width cells limit buffer ≡ declined-search (grid-refusal height width cells .0) (grid-refusal height width cells .1) buffer
+unfolding solve
+solve-is-declined height width cells refused limit buffer = rw (ne-eqb (grid-refusal height width cells .0) 0 refused, solve) refl
 
 -- ANY CALLER: a board as the calls hand it out, with the decisions standing now
 pub record SoundBoard (b : Board) (now : List Decision) : Type 1 where

@@ -6,4 +6,5 @@ pub mod NextPad
 pub mod Branch
 pub mod SearchLists
 pub mod Runs
+pub mod TwoRuns
 pub mod Exact

@@ -111,6 +111,15 @@ module _ (limit size : ℕ) where
       go true h rest = let short : room < size = ltb-true room size h in
           rw (h, scan) (full refl (record { done = []; due = bytes; rest = events; parted = refl; passes = nothing-yet visited room low; no-room = omega arith }) (sym (add-zero visited)) refl)
 
+  -- so there is room for its records
+  pub records-fit : (events : List Event) (room : ℕ) → length (scan limit size 0 room events .records) * size ≤ room
+  records-fit events room = go (stops events 0 room (omega arith))
+    where
+      go : Stop 0 room events (scan limit size 0 room events) → length (scan limit size 0 room events .records) * size ≤ room
+      go (complete o p v r) = rw r (p .within-room)
+      go (spent o s v r) = rw r (s .passes .within-room)
+      go (full o s v r) = rw r (s .passes .within-room)
+
   -- a run gets through what passes, and its outcome is that of what follows
   through-events : (done rest : List Event) (visited room : ℕ) → Passes visited room done
       → (scan limit size visited room (done ++ rest)) .outcome ≡ (scan limit size (visited + visits-of done) (room - length (layouts-of done) * size) rest) .outcome
@@ -232,6 +241,15 @@ fewest-below (x ∷ l) r m = rw (fewest-first x l) (⊎-elim
     (λ e. let j = ap record-lines e in ⊎-elim (λ (h, k). omega (arith, h, k, j)) (λ (h, k). omega (arith, h, k, j)) (least-is (record-lines x) (fewest l)))
     (λ n. let j = fewest-below l r n in ⊎-elim (λ (h, k). omega (arith, h, k, j)) (λ (h, k). omega (arith, h, k, j)) (least-is (record-lines x) (fewest l)))
     (List·Memᴰ·cases-cons m))
+
+-- more records have no more
+pub fewest-append : (records more : List (List ℕ)) → fewest (records ++ more) ≤ fewest records
+fewest-append [] [] = omega arith
+fewest-append [] (x ∷ l) = let j = fewest-append [] l in rw (fewest-first x l) (⊎-elim (λ (h, k). omega (arith, h, k, j)) (λ (h, k). omega (arith, h, k, j)) (least-is (record-lines x) (fewest l)))
+fewest-append (x ∷ l) more = let j = fewest-append l more in rw (fewest-first x l, fewest-first x (l ++ more))
+    (⊎-elim (λ (h, k). ⊎-elim (λ (m, n). omega (arith, h, k, j, m, n)) (λ (m, n). omega (arith, h, k, j, m, n)) (least-is (record-lines x) (fewest l)))
+    (λ (h, k). ⊎-elim (λ (m, n). omega (arith, h, k, j, m, n)) (λ (m, n). omega (arith, h, k, j, m, n)) (least-is (record-lines x) (fewest l)))
+    (least-is (record-lines x) (fewest (l ++ more))))
 
 fewest-reached : (records : List (List ℕ)) → (fewest records ≡ no-fewest) ⊎ ((r : List ℕ) × List·Memᴰ r records × (fewest records ≡ record-lines r))
 fewest-reached [] = inl (unfold fewest in refl)

@@ -69,3 +69,17 @@ module _ (height width count : ℕ) (tall : is-size height ≡ true) (wide : is-
       (record-here height width count tall wide front r (concat records ++ rest) k at its-length (omega arith))
       ∙ ap (λ (l : List (List ℕ)). r ∷ l) (ap (from-record (k + 1) (length records)) (sym (append-assoc front r (concat records ++ rest)))
       ∙ records-there records (λ other m. long other (List·Memᴰ·tail m)) (front ++ r) rest (k + 1) (rw length-append (omega arith)) (omega arith))
+
+-- how long they are together, and that more of them come after these
+pub concat-length : (size : ℕ) (records : List (List ℕ)) → ((r : List ℕ) → List·Memᴰ r records → length r ≡ size) → length (concat records) ≡ length records * size
+unfolding concat
+concat-length size [] long = omega arith
+concat-length size (r ∷ records) long =
+    let its-length = long r (List·Memᴰ·head refl) in
+    let others = concat-length size records (λ other m. long other (List·Memᴰ·tail m)) in
+    rw length-append (omega (arith, its-length, others))
+
+pub concat-append : (records more : List (List ℕ)) → concat (records ++ more) ≡ concat records ++ concat more
+unfolding concat
+concat-append [] more = refl
+concat-append (r ∷ records) more = ap (λ (l : List ℕ). r ++ l) (concat-append records more) ∙ sym (append-assoc r (concat records) (concat more))

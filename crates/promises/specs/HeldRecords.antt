@@ -48,9 +48,10 @@ module _ (height width : ℕ) (cells : List ℤ) (accepted : Accepted height wid
   abbrev left-by : Solved
   left-by = solve height width cells limit buffer
 
-  long : (r : List ℕ) → List·Memᴰ r (run .records) → length r ≡ places height width
+  -- each of its records is as long as the field has places
+  pub records-long : (r : List ℕ) → List·Memᴰ r (run .records) → length r ≡ places height width
   unfolding record-of grid-of
-  long r m = let l = exact-run height width cells accepted limit (length buffer) .nothing-added r m in
+  records-long r m = let l = exact-run height width cells accepted limit (length buffer) .nothing-added r m in
       ap length (l .shown) ∙ length-field height width (λ e. byte-of (drawn (l .drawing) e))
 
   -- record k of its buffer
@@ -61,7 +62,7 @@ module _ (height width : ℕ) (cells : List ℤ) (accepted : Accepted height wid
   pub records-left : tabulate (λ k. record-at height width (left-by .layouts) k (left-by .buffer)) 0 (left-by .layouts) ≡ run .records
   records-left = rw (solve-is-run height width cells accepted limit buffer)
       (records-there height width (length (run .records)) (test-of-size height (accepted .height-in-range)) (test-of-size width (accepted .width-in-range))
-      (run .records) long [] _ 0 (omega arith) (omega arith))
+      (run .records) records-long [] _ 0 (omega arith) (omega arith))
 
   -- so it holds exactly these
   pub held-exactly : (bytes : List ℕ) → Holds height width left-by bytes ↔ List·Memᴰ bytes (run .records)

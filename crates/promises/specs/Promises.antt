@@ -4,7 +4,7 @@
 use Prim.Native.Nat.{ℕ}
 use mathlib.Core.Path.{_≡_, sym, _∙_, ap}
 use mathlib.Core.Logic.{_≢_, _⊎_, ⊎-elim, ⊎-map}
-use mathlib.Core.List.{List, [], _++_, List·Memᴰ}
+use mathlib.Core.List.{List, [], List·Memᴰ}
 use lib.IntN.{ℤ}
 use Rattle.rules.specs.Grid.{Grid, grid-of, places, Accepted}
 use Rattle.rules.specs.Drawing.{Ordinary, number-of-lines}
@@ -12,7 +12,7 @@ use Rattle.rules.specs.Record.{record-lines}
 use Rattle.model.specs.Search.{Run, scan, search, fewest, no-fewest}
 use Rattle.shortest.specs.Shortest.{NotBettered, whole-list-not-bettered}
 use Rattle.shortest.specs.Fewest.{Fewest}
-use Rattle.exact.specs.Events.{layouts-of}
+use Rattle.exact.specs.Events.{layouts-of, Beginning}
 use Rattle.propagation.specs.ProperGrid.{accepted-proper}
 use Rattle.exact.specs.Exact.{Exact, exact, ExactRun, exact-run}
 use Rattle.exact.specs.Runs.{RunSays}
@@ -20,11 +20,6 @@ use Rattle.exact.specs.Runs.{RunSays}
 -- the complete list of a grid: the layouts of the search with no limit
 abbrev pub complete-list : Grid → List (List ℕ)
 complete-list g = layouts-of (search g)
-
--- the first list is a beginning of the second
-pub record Beginning (first whole : List (List ℕ)) : Type 0 where
-  pub rest : List (List ℕ)
-  pub parted : whole ≡ first ++ rest
 
 pub record Promised (g : Grid) (limit room : ℕ) (run : Run) : Type 1 where
   -- DEMAND 2. The complete list holds each listed layout exactly once, ascending, and nothing else.

@@ -13,9 +13,9 @@ use Rattle.rules.specs.Loops.{ClosedList, no-loop-exactly}
 use Rattle.rules.specs.Record.{record-of, record-lines, Ascending}
 use Rattle.model.specs.Search.{Run, scan, search, fewest, no-fewest}
 use Rattle.shortest.specs.Fewest.{Fewest}
-use Rattle.exact.specs.Events.{shown-codes, Distinct}
+use Rattle.exact.specs.Events.{Beginning, shown-codes, Distinct}
 use Rattle.exact.specs.Runs.{RunSays}
-use Rattle.promises.specs.Promises.{complete-list, Beginning, Promised, promised}
+use Rattle.promises.specs.Promises.{complete-list, Promised, promised}
 
 -- AN ORDINARY DRAWING: lines on the board; a clue pad has one line, a blank one none or two, a hole none; no closed list of pads, each with a
 -- line to the next and the last to the first; each chain joins pads of equal code

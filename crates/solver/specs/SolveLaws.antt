@@ -7,12 +7,12 @@ use native.Mathlib.Omega.{arith}
 use native.Mathlib.Nat.{zero-mul}
 use lib.ListN.{length}
 use lib.IntN.{ℤ}
-use borrow.Author.Tests.{eq-eqb, ne-eqb}
 use Rattle.rules.specs.Grid.{grid-of, pads, places, Accepted}
 use Rattle.model.specs.Board.{fresh}
 use Rattle.model.specs.Refusals.{grid-refusal}
 use Rattle.model.specs.RefusalLaws.{not-refused}
 use Rattle.model.specs.Search as model
+use Rattle.exact.specs.Exact.{solve-is-run, solve-is-declined}
 use Rattle.boardview.specs.View.{Arrays, view, grid-in}
 use Rattle.boardfresh.specs.FreshView.{FreshBoard}
 use Rattle.tally.specs.declared.Tally.{Tally}
@@ -95,10 +95,8 @@ module _ (height width : ℕ) (cells : List ℤ) (limit : ℕ) (buffer : List �
   -- a refused grid: nothing is searched and no byte changes
   pub solve-refused : (number index : ℕ) → _≡_ {A = ℕ × ℕ} (number, index) (grid-refusal height width cells) → (number ≡ 0 → ⊥)
       → Solves height width cells limit buffer (declined number index) buffer
-  unfolding model.solve
   solve-refused number index is bad = record {
-    equal = (λ i. model.declined-search (is i .0) (is i .1) buffer)
-        ∙ sym (rw (ne-eqb (grid-refusal height width cells .0) 0 not-zero, model.solve) refl);
+    equal = (λ i. model.declined-search (is i .0) (is i .1) buffer) ∙ sym (solve-is-declined height width cells not-zero limit buffer);
     of-run = λ e. absurd (not-zero e);
     promise = λ e. absurd (not-zero e);
   }
@@ -110,13 +108,16 @@ module _ (height width : ℕ) (cells : List ℤ) (limit : ℕ) (buffer : List �
   pub solve-accepted : grid-refusal height width cells .0 ≡ 0 → (t : Tally) (buffer′ : List ℕ)
       → Counted height width cells limit empty buffer t buffer′
       → Solves height width cells limit buffer (record { number = 0; index = 0; outcome = t .outcome; layouts = t .layouts; visited = t .visited; fewest = t .fewest }) buffer′
-  unfolding model.solve grid-of
+  unfolding grid-of
   solve-accepted fine t buffer′ counted = record {
-    equal = from-run ∙ sym (rw (eq-eqb (grid-refusal height width cells .0) 0 fine, model.solve) refl);
+    equal = from-run ∙ sym (solve-is-run height width cells accepted limit buffer);
     of-run = λ e. from-run;
-    promise = λ e. promise height width cells (not-refused height width cells fine) limit (length buffer);
+    promise = λ e. promise height width cells accepted limit (length buffer);
   }
     where
+      accepted : Accepted height width cells
+      accepted = not-refused height width cells fine
+
       from-start : tally-says height width empty buffer ≡ start buffer
       from-start = ap (λ (n : ℕ). record { outcome = 0; visited = 0; layouts = 0; fewest-lines = 481; used = n; buffer = buffer }) (zero-mul (places height width))
 
