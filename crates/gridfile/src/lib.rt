@@ -54,7 +54,7 @@ enum Field {
     Refused(u8),
 }
 
-fn is_digit(byte: u8) -> bool
+pub fn is_digit(byte: u8) -> bool
     ensures { λ r. ⌜ r ≡ is-digit byte ⌝ }
 {
     ZERO <= byte && byte <= NINE
@@ -321,7 +321,7 @@ pub fn write(height: usize, width: usize, cells: &[i64], buffer: &mut [u8]) -> W
             length: 0,
         };
     }
-    text::put_word(buffer, &whole[..length]);
+    text::put_word(buffer, 0, &whole[..length]);
     Writing {
         number: 0,
         index: 0,

@@ -26,7 +26,7 @@ use Rattle.model.specs.Printed.{line-at, right-line, down-line, code-of-pad, co
 use Rattle.model.specs.Judge.{judge}
 use Rattle.model.specs.JudgeText.{zero-digit, digit-at, code-at, coded, digit-fits, codes-fit, record-of-codes, judged-line, judged-text, judge-text}
 use Rattle.model.specs.Search.{scan, search}
-use Rattle.model.specs.Routes.{routes-limit, routes-room, routes-found}
+use Rattle.model.specs.Routes.{found-within}
 use Rattle.reading.specs.ReadingLaws.{read-sound}
 use Rattle.promises.specs.Promises.{Promised, promised}
 use Rattle.ruletest.specs.Verdicts.{judge-says}
@@ -159,8 +159,8 @@ module _ (file : List ℕ) (accepted : read file .number ≡ 0) where
   line-judged-again D placed bytes shown =
       rw (accepted, judged-again (grid-of height width cells) (read-sound file .in-range accepted .width-in-range .0) D placed bytes shown) refl
 
--- EACH LAYOUT THAT `routes` PRINTS for a file is judged 2, with its lines
-module _ (input : List ℕ) (accepted : read (take 4096 input) .number ≡ 0) where
+-- EACH LAYOUT THAT `routes` PRINTS for a file, or `routes_to` with any limit, is judged 2, with its lines
+module _ (limit room : ℕ) (input : List ℕ) (accepted : read (take 4096 input) .number ≡ 0) where
   abbrev file-height : ℕ
   file-height = height (take 4096 input) accepted
 
@@ -176,15 +176,15 @@ module _ (input : List ℕ) (accepted : read (take 4096 input) .number ≡ 0) wh
   sound : Accepted file-height file-width file-cells
   sound = read-sound (take 4096 input) .in-range accepted
 
-  its-promise : Promised file-grid routes-limit routes-room (scan routes-limit (places file-height file-width) 0 routes-room (search file-grid))
-  its-promise = promised file-height file-width file-cells sound routes-limit routes-room
+  its-promise : Promised file-grid limit room (scan limit (places file-height file-width) 0 room (search file-grid))
+  its-promise = promised file-height file-width file-cells sound limit room
 
   -- what is printed is listed
-  is-listed : (bytes : List ℕ) → List·Memᴰ bytes (routes-found file-height file-width file-cells .records) → ListedRecord file-grid bytes
-  unfolding routes-found
+  is-listed : (bytes : List ℕ) → List·Memᴰ bytes (found-within limit room file-height file-width file-cells .records) → ListedRecord file-grid bytes
+  unfolding found-within
   is-listed bytes m = its-promise .exactly-the-listed .nothing-added bytes (rw (its-promise .beginning .parted) (Memᴰ·append-left _ m))
 
-  pub printed-is-judged-2 : (bytes : List ℕ) → List·Memᴰ bytes (routes-found file-height file-width file-cells .records)
+  pub printed-is-judged-2 : (bytes : List ℕ) → List·Memᴰ bytes (found-within limit room file-height file-width file-cells .records)
       → judge-text (code-digits file-height file-width bytes) input ≡ judged-line (record { number = 0; index = 0; verdict = 2; lines = record-lines bytes })
   unfolding judge-text grid-of
   printed-is-judged-2 bytes m =

@@ -13,7 +13,7 @@ use lib.ListN.{length, take}
 use borrow.Author.Tests.{leb-false, ne-eqb}
 use Rattle.rules.specs.Grid.{Accepted}
 use Rattle.model.specs.GridFile.{Reading, read}
-use Rattle.model.specs.Printed.{reading-text}
+use Rattle.model.specs.Printed.{reading-text, handed-over}
 use Rattle.model.specs.JudgeText.{codes-fit, record-of-codes, judged-text, judge-text}
 use Rattle.printed.specs.Written.{Written, text-of-bytes}
 use Rattle.reading.specs.ReadingLaws.{SoundReading, read-sound}
@@ -43,10 +43,6 @@ too-many digits many reading sound = go (reading .number) refl
         rw (e, other-length (reading .height) (reading .width) digits (λ same. absurd (omega (arith, sound .pads-in-cells))), other-length (reading .height) (reading .width) [] (λ same. absurd (omega arith))) refl
 
 -- ## The program
-
--- the codes that the program hands over for its argument
-unfoldable pub handed-over : List ℕ → List ℕ
-handed-over argument = if leb (length argument) 4096 then argument else []
 
 -- WHAT `judge` PRINTS, for every argument and every standard input
 pub judge-prints : (argument input : List ℕ) {bytes : List ℕ} {long : ℕ} → Written 67 (judged-text (handed-over argument) (read (take 4096 input))) bytes long

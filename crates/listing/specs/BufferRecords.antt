@@ -3,9 +3,8 @@
 use Prim.Native.Nat.{ℕ, zero, suc, _+_, _*_, _-_, _≤_, _<_}
 use mathlib.Core.Path.{_≡_, refl, sym, ap, _∙_}
 use mathlib.Core.Bool.{Bool, true, false}
-use mathlib.Core.List.{List, [], _∷_, _++_, append-assoc}
+use mathlib.Core.List.{List, [], _∷_, _++_, append-assoc, List·Memᴰ, List·Memᴰ·head, List·Memᴰ·tail}
 use native.Mathlib.Omega.{arith}
-use lib.Dec.{ltb}
 use lib.ListN.{length, length-append, length-drop}
 use lib.Seq.{length-take-le}
 use Rattle.rules.specs.Grid.{places}
@@ -14,10 +13,9 @@ use Rattle.model.specs.Bounds.{is-size}
 use Rattle.model.specs.RefusalLaws.{size-of-test}
 use Rattle.model.specs.Records.{has-record, record-at}
 use Rattle.model.specs.HasRecord.{HasRecord, what-a-record-has, record-is-there, that-part, this-record, record-here}
-use Rattle.model.specs.Search.{Event, visit, layout, scan, concat}
+use Rattle.model.specs.Search.{concat}
 use Rattle.model.specs.Printed.{layout-line, layout-lines}
 use Rattle.printed.specs.Written.{Written, layout-text}
-use Rattle.searchview.specs.Progress.{Sized}
 use Rattle.listing.specs.Listing.{line-text}
 
 -- ## The line of record k
@@ -58,11 +56,6 @@ module _ (height width count k : ℕ) (buffer : List ℕ) where
 
 -- ## Records one after the other
 
--- each of them is so long
-unfoldable pub AllLong : ℕ → List (List ℕ) → Type 0
-AllLong size [] = Unit {0}
-AllLong size (r ∷ records) = (length r ≡ size) × AllLong size records
-
 -- the lines of so many layouts from layout k on
 unfoldable pub lines-from : ℕ → ℕ → ℕ → List ℕ → ℕ → ℕ → List ℕ
 lines-from height width layouts buffer zero k = []
@@ -81,28 +74,14 @@ module _ (height width layouts : ℕ) (tall : is-size height ≡ true) (wide : i
     line-here = that-line height width layouts k buffer (this-record height width layouts tall wide front r rest k at long below)
         ∙ ap (λ (l : List ℕ). layout-line height width (k + 1) l) (record-here height width layouts tall wide front r rest k at long below)
 
-  pub lines-there : (records : List (List ℕ)) → AllLong size records → (front rest : List ℕ) (k : ℕ) → length front ≡ k * size → k + length records ≤ layouts
+  pub lines-there : (records : List (List ℕ)) → ((r : List ℕ) → List·Memᴰ r records → length r ≡ size) → (front rest : List ℕ) (k : ℕ) → length front ≡ k * size → k + length records ≤ layouts
       → lines-from height width layouts (front ++ (concat records ++ rest)) (length records) k ≡ layout-lines height width (k + 1) records
-  unfolding AllLong lines-from layout-lines concat
-  lines-there [] all front rest k at few = refl
-  lines-there (r ∷ records) (long, all) front rest k at few =
+  unfolding lines-from layout-lines concat
+  lines-there [] long front rest k at few = refl
+  lines-there (r ∷ records) long front rest k at few =
+      let its-length = long r (List·Memᴰ·head refl) in
       ap (λ (l : List ℕ). line-text height width layouts k l ++ lines-from height width layouts l (length records) (k + 1)) (ap (λ (l : List ℕ). front ++ l) (append-assoc r (concat records) rest))
-      ∙ ap (λ (l : List ℕ). l ++ lines-from height width layouts (front ++ (r ++ (concat records ++ rest))) (length records) (k + 1)) (line-here front r (concat records ++ rest) k at long (omega arith))
+      ∙ ap (λ (l : List ℕ). l ++ lines-from height width layouts (front ++ (r ++ (concat records ++ rest))) (length records) (k + 1)) (line-here front r (concat records ++ rest) k at its-length (omega arith))
       ∙ ap (λ (l : List ℕ). layout-line height width (k + 1) r ++ l)
       (ap (λ (l : List ℕ). lines-from height width layouts l (length records) (k + 1)) (sym (append-assoc front r (concat records ++ rest)))
-      ∙ lines-there records all (front ++ r) rest (k + 1) (rw length-append (omega arith)) (omega arith))
-
--- the records of a run are those of events, so they are as long
-pub scan-long : (limit size : ℕ) (events : List Event) → Sized size events → (visited room : ℕ) → AllLong size (scan limit size visited room events .records)
-unfolding scan AllLong Sized
-scan-long limit size [] s visited room = tt
-scan-long limit size (visit ∷ events) s visited room = go (ltb visited limit) refl (scan-long limit size events s (visited + 1) room)
-  where
-    go : (b : Bool) → ltb visited limit ≡ b → AllLong size (scan limit size (visited + 1) room events .records) → AllLong size (scan limit size visited room (visit ∷ events) .records)
-    go true h rest = rw (h, AllLong) rest
-    go false h rest = rw (h, AllLong) tt
-scan-long limit size (layout r ∷ events) (long, s) visited room = go (ltb room size) refl (scan-long limit size events s visited (room - size))
-  where
-    go : (b : Bool) → ltb room size ≡ b → AllLong size (scan limit size visited (room - size) events .records) → AllLong size (scan limit size visited room (layout r ∷ events) .records)
-    go true h rest = rw (h, AllLong) tt
-    go false h rest = rw (h, AllLong) (long, rest)
+      ∙ lines-there records (λ other m. long other (List·Memᴰ·tail m)) (front ++ r) rest (k + 1) (rw length-append (omega (arith, its-length))) (omega arith))

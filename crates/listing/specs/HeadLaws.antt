@@ -11,13 +11,13 @@ use Rattle.model.specs.RefusalLaws.{accepted-is-not-refused}
 use Rattle.model.specs.Search as model
 use Rattle.model.specs.GridFile.{Reading, Standing, read, read-from, start, accepted, declined, refusal, is-complete, after}
 use Rattle.model.specs.Printed.{summary-line}
-use Rattle.model.specs.Routes.{routes-limit}
+use Rattle.model.specs.Routes.{found-within}
 use Rattle.printed.specs.Written.{Written}
 use Rattle.reading.specs.ReadingLaws.{read-sound}
 use Rattle.solver.specs.declared.Solved.{Solved}
 use Rattle.solver.specs.Answers.{Solves, answer-says, run-of}
 use Rattle.listing.specs.declared.Heading.{Heading}
-use Rattle.listing.specs.Listing.{found-within, grid-found, reading-head, reading-records, put-records, Refused, Headed}
+use Rattle.listing.specs.Listing.{grid-found, reading-found, reading-head, put-records, Refused, Headed}
 
 -- ## A refused file
 
@@ -41,30 +41,33 @@ module _ (file : List ℕ) (reading : Reading) (same : reading ≡ read file) wh
   unfolding read
   refused-sizes n = rw same (declined-sizes start file (rw same at n))
 
-  module _ (buffer : List ℕ) (refuses : reading .number ≡ 0 → ⊥) (r : Heading) (refused : Refused (reading .number) (reading .line) (reading .field) r) where
-    pub refused-head : Headed file buffer r buffer
-    unfolding reading-head reading-records put-records model.concat
+  module _ (limit : ℕ) (buffer : List ℕ) (refuses : reading .number ≡ 0 → ⊥) (r : Heading) (refused : Refused (reading .number) (reading .line) (reading .field) r) where
+    pub refused-head : Headed limit file buffer r buffer
+    unfolding reading-head reading-found put-records model.concat
     refused-head = go (reading .number) refl
       where
-        go : (m : ℕ) → reading .number ≡ m → Headed file buffer r buffer
+        go : (m : ℕ) → reading .number ≡ m → Headed limit file buffer r buffer
         go zero e = absurd (refuses e)
         go (suc m) e = record {
           text = rw (← same, e) (rw e at (refused .text));
+          number = rw (← same) (refused .its-number);
           height = rw (← same) (refused .height ∙ sym (refused-sizes refuses .0));
           width = rw (← same) (refused .width ∙ sym (refused-sizes refuses .1));
+          outcome = rw (← same, e) (refused .outcome);
           layouts = rw (← same, e) (refused .layouts);
+          visited = rw (← same, e) (refused .visited);
           after = rw (← same, e) refl;
         }
 
   -- ## An accepted file
 
-  module _ (buffer : List ℕ) (accepts : reading .number ≡ 0) (found : Solved) (buffer′ : List ℕ)
-      (solves : Solves (reading .height) (reading .width) (take (reading .height * reading .width) (reading .cells)) routes-limit buffer found buffer′) where
+  module _ (limit : ℕ) (buffer : List ℕ) (accepts : reading .number ≡ 0) (found : Solved) (buffer′ : List ℕ)
+      (solves : Solves (reading .height) (reading .width) (take (reading .height * reading .width) (reading .cells)) limit buffer found buffer′) where
     abbrev cells : List ℤ
     cells = take (reading .height * reading .width) (reading .cells)
 
     abbrev run : model.Run
-    run = run-of (reading .height) (reading .width) cells routes-limit buffer
+    run = run-of (reading .height) (reading .width) cells limit buffer
 
     not-refused : grid-refusal (reading .height) (reading .width) cells .0 ≡ 0
     not-refused = ap (λ (x : ℕ × ℕ). x .0) (accepted-is-not-refused (reading .height) (reading .width) cells (rw same (read-sound file .in-range (rw same at accepts))))
@@ -73,12 +76,16 @@ module _ (file : List ℕ) (reading : Reading) (same : reading ≡ read file) wh
     says = solves .of-run not-refused
 
     pub accepted-head : (bytes : List ℕ) (long : ℕ) → Written 67 (summary-line (found .layouts) (found .visited) (found .fewest) (found .outcome)) bytes long
-        → Headed file buffer (record { bytes = bytes; length = long; height = reading .height; width = reading .width; layouts = found .layouts }) buffer′
-    unfolding reading-head reading-records put-records grid-found found-within
+        → Headed limit file buffer (record
+        { bytes = bytes; length = long; number = 0; height = reading .height; width = reading .width; outcome = found .outcome; layouts = found .layouts; visited = found .visited }) buffer′
+    unfolding reading-head reading-found put-records grid-found found-within
     accepted-head bytes long written = record {
       text = rw (← same, accepts) (rw (ap (λ (s : model.Solved). s .layouts) says, ap (λ (s : model.Solved). s .visited) says, ap (λ (s : model.Solved). s .fewest-lines) says, ap (λ (s : model.Solved). s .outcome) says) at written);
+      number = rw (← same) (sym accepts);
       height = rw (← same) refl;
       width = rw (← same) refl;
+      outcome = rw (← same, accepts) (ap (λ (s : model.Solved). s .outcome) says);
       layouts = rw (← same, accepts) (ap (λ (s : model.Solved). s .layouts) says);
+      visited = rw (← same, accepts) (ap (λ (s : model.Solved). s .visited) says);
       after = rw (← same, accepts) (ap (λ (s : model.Solved). s .buffer) says);
     }

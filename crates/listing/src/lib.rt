@@ -1,19 +1,21 @@
-// What `routes` prints for a file, in parts that a program writes one after the other: the head, which is the line of a refused file or
-// the summary line, and the line of each layout. specs/Listing.antt says each part, and specs/Whole.antt that together they are the text
-// of the crate `model`. The answer buffer is lent: `head` leaves the records in it, and `line` reads them there.
+// The list of a file's wirings as `routes` prints it, in parts that a program writes one after the other: the head, which is the line of a refused
+// file or the summary line, and the line of each layout. specs/Listing.antt says each part, specs/Whole.antt that together they are the text of
+// the crate `model`, and specs/HeadAgain.antt what a search that is run again leaves. The answer buffer is lent: `head` leaves the records in
+// it, and `line` reads them there; `print_lines` writes the lines.
 ghost use Rattle.listing.specs.Listing.{Refused, Headed, Lined};
+use libc::STDOUT_FILENO;
 use printed::LayoutLine;
 
-// The limit of visited boards.
-const LIMIT: u64 = 1000000;
-
-// The head of the text, and what the lines need: H, W and the number of layouts, 0 where the file is refused.
+// The head of the text; the file's number, and H and W, 0 where it is refused; and what was found, nothing where it is refused.
 pub struct Heading {
     pub bytes: [u8; 67],
     pub length: usize,
+    pub number: u8,
     pub height: usize,
     pub width: usize,
+    pub outcome: u8,
     pub layouts: usize,
+    pub visited: u64,
 }
 
 // The head for a refused file.
@@ -25,15 +27,18 @@ fn refused(number: u8, line: usize, field: usize) -> Heading
     Heading {
         bytes,
         length: text.length,
+        number,
         height: 0,
         width: 0,
+        outcome: 0,
         layouts: 0,
+        visited: 0,
     }
 }
 
-// Reads the file, searches its grid into the buffer, and gives the head of the text.
-pub fn head(file: &[u8], buffer: &mut [u8]) -> Heading
-    ensures { λ r. ⌜ Headed (now (file .entry)) (now (buffer .entry)) r (now (buffer .exit)) ⌝ }
+// Reads the file, searches its grid into the buffer with this limit of visited boards, and gives the head of the text.
+pub fn head(file: &[u8], limit: u64, buffer: &mut [u8]) -> Heading
+    ensures { λ r. ⌜ Headed limit (now (file .entry)) (now (buffer .entry)) r (now (buffer .exit)) ⌝ }
 {
     let reading = gridfile::read(file);
     if reading.number != 0 {
@@ -43,7 +48,7 @@ pub fn head(file: &[u8], buffer: &mut [u8]) -> Heading
     let height = reading.height;
     let width = reading.width;
     let pads = height * width;
-    let found = solver::solve(height, width, &cells[..pads], LIMIT, buffer);
+    let found = solver::solve(height, width, &cells[..pads], limit, buffer);
     let text = printed::summary_line(
         found.layouts as u64,
         found.visited,
@@ -54,9 +59,12 @@ pub fn head(file: &[u8], buffer: &mut [u8]) -> Heading
     Heading {
         bytes,
         length: text.length,
+        number: 0,
         height,
         width,
+        outcome: found.outcome,
         layouts: found.layouts,
+        visited: found.visited,
     }
 }
 
@@ -72,4 +80,21 @@ pub fn line(buffer: &[u8], height: usize, width: usize, layouts: usize, k: usize
         };
     }
     printed::layout_line(height, width, k as u64 + 1, layout)
+}
+
+// Writes the line of layout k.
+fn print_line(buffer: &[u8], height: usize, width: usize, layouts: usize, k: usize) {
+    let text = line(buffer, height, width, layouts, k);
+    let bytes = text.bytes;
+    let length = text.length;
+    io::write_all(STDOUT_FILENO, &bytes[..length]);
+}
+
+// Writes the lines of the layouts, in order.
+pub fn print_lines(buffer: &[u8], height: usize, width: usize, layouts: usize) {
+    let mut k = 0;
+    while k < layouts {
+        print_line(buffer, height, width, layouts, k);
+        k += 1;
+    }
 }

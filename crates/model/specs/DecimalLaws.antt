@@ -1,15 +1,16 @@
--- Laws of shortest decimal digits: the last digit comes after the digits of the tenth part, and how many there are.
+-- Laws of shortest decimal digits: the last digit comes after the digits of the tenth part, how many there are, and that each is a digit.
 -- Assumes nothing.
 use mathlib.Core.Path.{_≡_, refl, sym, ap, _∙_}
 use mathlib.Core.Bool.{Bool, true, false}
 use mathlib.Core.List.{List, [], _∷_, _++_, append-assoc}
-use Prim.Native.Nat.{ℕ, zero, suc, _/_, _%_, _^_, _≤_, _<_}
+use Prim.Native.Nat.{ℕ, zero, suc, _+_, _/_, _%_, _^_, _≤_, _<_}
 use native.Mathlib.Nat.{not-suc-le-zero}
 use native.Mathlib.Omega.{arith}
 use lib.ListN.{length, length-append}
 use lib.Dec.{ltb}
-use borrow.Author.Tests.{ltb-true, ltb-false, lt-ltb, le-ltb}
+use borrow.Author.Tests.{ltb-true, ltb-false, lt-ltb, le-ltb, le-leb}
 use Rattle.model.specs.Decimal.{digit-byte, digits-before, decimal}
+use Rattle.model.specs.GridFile.{is-digit}
 
 module _ (more number : ℕ) (text : List ℕ) where
   last-digits : number < 10 → digits-before (suc more) number text ≡ digit-byte number ∷ text
@@ -76,3 +77,8 @@ decimal-some number = go (ltb number 10) refl
     go : (t : Bool) → ltb number 10 ≡ t → 1 ≤ length (decimal number)
     go true e = rw (decimal-short number (ltb-true _ _ e)) (omega arith)
     go false e = rw (decimal-long number (ltb-false _ _ e), length-append) (omega arith)
+
+-- the byte of a digit is one
+pub digit-is-digit : (digit : ℕ) → digit < 10 → is-digit (digit-byte digit) ≡ true
+unfolding is-digit digit-byte
+digit-is-digit digit h = rw (le-leb 48 (48 + digit) (omega arith), le-leb (48 + digit) 57 (omega arith))

@@ -12,7 +12,7 @@ use Rattle.model.specs.Text.{bytes, comma, line-end}
 use Rattle.model.specs.Decimal.{digit-byte, digits-before, decimal}
 use Rattle.model.specs.GridFile.{is-digit, is-comma, is-line-end, is-hole-sign, begins-hole, is-allowed, disallowed-number, is-zero-alone, blank, hole, no-cells, start, in-header, fields-due, is-complete, field-cell, bad-size, refusal, with-digit, with-hole, begun, after, accepted, declined, read-from, read}
 use Rattle.model.specs.Printed.{summary-line, refusal-line, reading-text, printed}
-use Rattle.model.specs.Routes.{routes-found}
+use Rattle.model.specs.Routes.{found-within}
 use Rattle.model.specs.JoinedEnds.{unjoinable, joined-ends, put-end, put-end-at}
 use Rattle.model.specs.Board.{fresh, prepared, shut-at, shut, bare, decide, check, after-store, cannot-join, join-ends, check-items, settled, decide-first, degree, undecideds, lines, keep-aparts, around, do-item, do-items, shape-items, barred, set-flag, set-edge, enough}
 use Rattle.model.specs.Search.{declined-search, scan, search, search-from, fewest, concat, backtrack, try, degree-so-far, next-pad, board-record}
@@ -86,7 +86,7 @@ pub record KnownCommon : Type 0 where
   pub printed-refused : common-text (bytes "2,2\n1O,\n,5\n") ≡ bytes "refused,13,2,1\n"
 
 pub known-common : KnownCommon
-unfolding common common-table common-byte all-have none-has row-lines table-lines common-found-text common-text is-size most-digits is-cell first-bad-cell grid-refusal grid-of cell-of drawing-of field record-lines tabulate place-at parity bytes comma line-end digit-byte digits-before decimal is-digit is-comma is-line-end is-hole-sign begins-hole is-allowed disallowed-number is-zero-alone blank hole no-cells start in-header fields-due is-complete field-cell bad-size refusal with-digit with-hole begun after accepted declined read-from read summary-line refusal-line reading-text printed routes-found unjoinable joined-ends put-end put-end-at fresh prepared shut-at shut bare decide check after-store cannot-join join-ends check-items settled decide-first degree undecideds lines keep-aparts around do-item do-items shape-items barred set-flag set-edge enough scan search search-from fewest concat backtrack try degree-so-far next-pad board-record
+unfolding common common-table common-byte all-have none-has row-lines table-lines common-found-text common-text is-size most-digits is-cell first-bad-cell grid-refusal grid-of cell-of drawing-of field record-lines tabulate place-at parity bytes comma line-end digit-byte digits-before decimal is-digit is-comma is-line-end is-hole-sign begins-hole is-allowed disallowed-number is-zero-alone blank hole no-cells start in-header fields-due is-complete field-cell bad-size refusal with-digit with-hole begun after accepted declined read-from read summary-line refusal-line reading-text printed found-within unjoinable joined-ends put-end put-end-at fresh prepared shut-at shut bare decide check after-store cannot-join join-ends check-items settled decide-first degree undecideds lines keep-aparts around do-item do-items shape-items barred set-flag set-edge enough scan search search-from fewest concat backtrack try degree-so-far next-pad board-record
 known-common = record {
   two-layouts = refl;
   one-layout = refl;

@@ -20,6 +20,8 @@ pub mod DecimalLaws
 pub mod Writing
 pub mod Printed
 pub mod Routes
+pub mod RoutesTo
+pub mod LimitLaws
 pub mod KnownFiles
 pub mod KnownWrites
 pub mod KnownCalls

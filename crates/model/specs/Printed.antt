@@ -3,9 +3,9 @@
 use Rattle.model.specs.Choice.{if_then_else_}
 use Prim.Native.Nat.{ℕ, zero, suc, _+_, _*_, _/_, _%_}
 use mathlib.Core.List.{List, [], _∷_, _++_}
-use lib.ListN.{take, getD}
+use lib.ListN.{length, take, getD}
 use lib.IntN.{ℤ}
-use lib.Dec.{eqb, ltb}
+use lib.Dec.{eqb, ltb, leb}
 use Rattle.model.specs.Text.{bytes, comma, line-end}
 use Rattle.model.specs.Decimal.{digit-byte, decimal}
 use Rattle.rules.specs.Grid.{field-side}
@@ -90,3 +90,7 @@ reading-text text reading =
 -- what a program prints for the bytes of standard input: of these the first 4,096 are read
 unfoldable pub printed : (ℕ → ℕ → List ℤ → List ℕ) → List ℕ → List ℕ
 printed text input = reading-text text (read (take 4096 input))
+
+-- and what it hands over of an argument: nothing where it is longer than 4,096 bytes
+unfoldable pub handed-over : List ℕ → List ℕ
+handed-over argument = if leb (length argument) 4096 then argument else []

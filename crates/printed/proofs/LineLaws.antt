@@ -9,6 +9,7 @@ use Rattle.model.specs.Text.{bytes, comma, line-end}
 use Rattle.rules.specs.Record.{record-lines}
 use Rattle.model.specs.Decimal.{decimal}
 use Rattle.model.specs.Printed.{code-digits, summary-line, layout-line, refusal-line}
+use Rattle.model.specs.RoutesTo.{progress-line}
 use Rattle.printed.specs.Written.{layout-text}
 use Rattle.printed.proofs.CodeLaws.{codes-length, all-pads}
 
@@ -25,6 +26,10 @@ summary-parts layouts visited fewest outcome = simp append-assoc
 pub refusal-parts : (number line field : ℕ) → bytes "refused," ++ (decimal number ++ (44 ∷ [])) ++ (decimal line ++ (44 ∷ [])) ++ (decimal field ++ (10 ∷ [])) ≡ refusal-line number line field
 unfolding refusal-line comma line-end bytes
 refusal-parts number line field = simp append-assoc
+
+pub progress-parts : (visited layouts : ℕ) → (bytes "visited " ++ decimal visited) ++ bytes " boards, layouts " ++ (decimal layouts ++ (10 ∷ [])) ≡ progress-line visited layouts
+unfolding progress-line line-end bytes
+progress-parts visited layouts = simp append-assoc
 
 module _ (height width number : ℕ) (layout : List ℕ) where
   pub layout-parts : is-size height ≡ true → is-size width ≡ true → (long : ℕ) → long ≡ record-lines layout → (decimal number ++ (44 ∷ [])) ++ (decimal long ++ (44 ∷ [])) ++ code-digits height width layout ++ (10 ∷ []) ≡ layout-text height width number layout

@@ -1,5 +1,6 @@
-// Writing what `routes` prints: the line that begins it, which is the summary line or the line of a refused file, and a layout's line, each
-// into an array that the longest such line fits. What the lines say is in the crate `model`, specs/Printed.antt there.
+// Writing what `routes` prints: the line that begins it, which is the summary line or the line of a refused file, and a layout's line; and what
+// `routes_to` says of a run; each into an array that the longest such line fits. What the lines say is in the crate `model`,
+// specs/Printed.antt and specs/RoutesTo.antt there.
 ghost use mathlib.Core.Path.{_≡_};
 ghost use mathlib.Core.Bool.{true};
 ghost use Prim.Native.Nat.{_+_, _*_, _-_, _/_, _≤_, _<_};
@@ -7,6 +8,7 @@ ghost use lib.ListN.{length};
 ghost use Rattle.rules.specs.Grid.{first, field-side};
 ghost use Rattle.model.specs.Bounds.{is-size};
 ghost use Rattle.model.specs.Printed.{code-digits, summary-line, refusal-line};
+ghost use Rattle.model.specs.RoutesTo.{progress-line};
 ghost use Rattle.grid.specs.PadsAt.{pads-of, place-of, IfEdge};
 ghost use Rattle.text.specs.Put.{Put};
 ghost use Rattle.printed.specs.Coded.{line-place, line-added, Codes, CodesOf};
@@ -116,10 +118,22 @@ pub fn refusal_line(number: u8, line: u64, field: u64) -> HeadLine
     ensures { λ r. ⌜ Written 67 (refusal-line number line field) (r .bytes) (r .length) ⌝ }
 {
     let mut bytes = [0; 67];
-    let first = text::put_word(&mut bytes, b"refused,");
+    let first = text::put_word(&mut bytes, 0, b"refused,");
     let second = text::put_field(&mut bytes, first, number as u64, COMMA);
     let third = text::put_field(&mut bytes, second, line, COMMA);
     let length = text::put_field(&mut bytes, third, field, LINE_END);
+    HeadLine { bytes, length }
+}
+
+// What is said of a run: the boards that it has visited, and the layouts found.
+pub fn progress_line(visited: u64, layouts: u64) -> HeadLine
+    ensures { λ r. ⌜ Written 67 (progress-line visited layouts) (r .bytes) (r .length) ⌝ }
+{
+    let mut bytes = [0; 67];
+    let first = text::put_word(&mut bytes, 0, b"visited ");
+    let second = text::put_decimal(&mut bytes, first, visited);
+    let third = text::put_word(&mut bytes, second, b" boards, layouts ");
+    let length = text::put_field(&mut bytes, third, layouts, LINE_END);
     HeadLine { bytes, length }
 }
 

@@ -11,23 +11,19 @@ use lib.ListN.{length, getD, drop, set, replicate, length-append, length-replica
 use lib.Seq.{sets, sets-eq, append-snoc}
 use lib.IntN.{ℤ}
 use lib.Dec.{eqb, ltb}
-use borrow.Author.Tests.{ltb-true, ltb-false, ne-eqb, eq-eqb, eqb-true, eqb-false, le-leb}
+use borrow.Author.Tests.{ltb-true, ltb-false, ne-eqb, eq-eqb, eqb-true, eqb-false}
 use Rattle.rules.specs.Grid.{largest-code, blank-cell, CellInRange, Accepted}
 use Rattle.model.specs.Lists.{drop-replicate}
 use Rattle.model.specs.Text.{bytes, comma, line-end, hole-sign}
 use Rattle.model.specs.Bounds.{most-digits}
 use Rattle.model.specs.RefusalLaws.{test-of-size}
 use Rattle.model.specs.Decimal.{digit-byte, decimal}
-use Rattle.model.specs.DecimalLaws.{decimal-short, decimal-long, decimal-length, decimal-some}
-use Rattle.model.specs.GridFile.{Standing, Reading, is-digit, is-zero-alone, blank, hole, no-cells, start, in-header, is-complete, accepted, read-from, read}
+use Rattle.model.specs.DecimalLaws.{decimal-short, decimal-long, decimal-length, decimal-some, digit-is-digit}
+use Rattle.model.specs.GridFile.{Standing, Reading, is-zero-alone, blank, hole, no-cells, start, in-header, is-complete, accepted, read-from, read}
 use Rattle.model.specs.Writing.{cell-text, rows-text, grid-text}
 use Rattle.reading.specs.FieldSteps.{Part, some-digits, hole-alone, field-start, in-field, cell-of, end-complete, digit-read, hole-read, row-open, row-ends, row-goes-on, header-goes-on, header-ends, header-open}
 
 -- ## Digits
-
-digit-is-digit : (digit : ℕ) → digit < 10 → is-digit (digit-byte digit) ≡ true
-unfolding is-digit digit-byte
-digit-is-digit digit h = rw (le-leb 48 (48 + digit) (omega arith), le-leb (48 + digit) 57 (omega arith))
 
 -- a field with a value is not `0`
 not-alone : (digits value : ℕ) → 1 ≤ value → is-zero-alone digits value ≡ false

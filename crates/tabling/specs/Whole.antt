@@ -18,7 +18,7 @@ use Rattle.model.specs.Search.{Run, scan, search, fewest}
 use Rattle.model.specs.Decimal.{digit-byte}
 use Rattle.model.specs.GridFile.{Reading, read}
 use Rattle.model.specs.Printed.{Found, reading-text, printed}
-use Rattle.model.specs.Routes.{routes-limit, routes-room, routes-found}
+use Rattle.model.specs.Routes.{routes-limit, routes-room, routes-found, found-within}
 use Rattle.model.specs.Common.{common-table, common}
 use Rattle.model.specs.CommonLaws.{stopped-list, complete-list}
 use Rattle.model.specs.CommonText.{row-lines, table-lines, common-found-text, common-text}
@@ -54,7 +54,7 @@ module _ (buffer table : List ℕ) (room : length buffer ≡ routes-room) (long 
     found = record { outcome = run .outcome; layouts = length (run .records); visited = run .visited; fewest = fewest (run .records); records = run .records }
 
     same-found : found ≡ routes-found height width cells
-    unfolding routes-found
+    unfolding found-within
     same-found = rw room refl
 
     fine : grid-refusal height width cells .0 ≡ 0

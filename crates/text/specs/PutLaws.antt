@@ -2,7 +2,7 @@
 use mathlib.Core.Path.{_≡_, refl, sym, ap, _∙_}
 use mathlib.Core.List.{List, [], _∷_, _++_}
 use Prim.Native.Nat.{ℕ, suc, _+_, _≤_, _<_}
-use native.Mathlib.Nat.{add-zero, add-suc, suc-add, zero-add}
+use native.Mathlib.Nat.{add-assoc, add-zero, add-suc, suc-add, zero-add}
 use native.Mathlib.Numerals.{add-one}
 use native.Mathlib.Omega.{arith}
 use lib.ListN.{length, getD, take, drop, set, length-append}
@@ -44,9 +44,9 @@ pub put-none : (buffer : List ℕ) (at next : ℕ) → next ≡ at → Put buffe
 put-none buffer at next e = record { stored = refl; place = omega arith }
 
 -- a word, byte by byte
-module _ (first out word : List ℕ) (at : ℕ) where
-  pub byte-put : at < length word → Put first out 0 (take at word) at → Put first (set out at (getD word at 0)) 0 (take (at + 1) word) (at + 1)
-  byte-put h p = rw (add-one, take-suc word at 0 h, ← (add-one at)) (put-both p (put-one out at (getD word at 0)))
+module _ (first out word : List ℕ) (at i : ℕ) where
+  pub byte-put : i < length word → Put first out at (take i word) (at + i) → Put first (set out (at + i) (getD word i 0)) at (take (i + 1) word) (at + (i + 1))
+  byte-put h p = rw (sym (add-assoc at i 1), add-one i, take-suc word i 0 h) (put-both p (put-one out (at + i) (getD word i 0)))
 
-  pub word-put : length word ≤ at → Put first out 0 (take at word) at → Put first out 0 word at
-  word-put h p = put-same (take-all at word h) p
+  pub word-put : length word ≤ i → Put first out at (take i word) (at + i) → Put first out at word (at + i)
+  word-put h p = put-same (take-all i word h) p

@@ -17,17 +17,17 @@ pub fn put_byte(out: &mut [u8], at: usize, byte: u8) -> usize
     at + 1
 }
 
-// A word from the start on; the place after it.
-pub fn put_word(out: &mut [u8], word: &[u8]) -> usize
-    requires { ⌜ length (now word) ≤ length (now out) ⌝ }
-    ensures { λ r. ⌜ Put (now (out .entry)) (now (out .exit)) 0 (now (word .entry)) r ⌝ }
+// A word from a place on; the place after it.
+pub fn put_word(out: &mut [u8], at: usize, word: &[u8]) -> usize
+    requires { ⌜ at + length (now word) ≤ length (now out) ⌝ }
+    ensures { λ r. ⌜ Put (now (out .entry)) (now (out .exit)) at (now (word .entry)) r ⌝ }
 {
-    let mut at = 0;
-    while at < word.len() {
-        out[at] = word[at];
-        at += 1;
+    let mut i = 0;
+    while i < word.len() {
+        out[at + i] = word[i];
+        i += 1;
     }
-    at
+    at + i
 }
 
 // A number in shortest digits from a place on; the place after it.

@@ -4,6 +4,7 @@ use lib.Seq.{length-take-le}
 use mathlib.Core.Path.{sym}
 use Rattle.gridfile.proofs.write.Statement.{statement}
 use Rattle.gridfile.proofs.write.Tie as tie
+use native.Mathlib.Omega.{arith}
 use borrow.Author.Needs.{needs}
 
 grid-refusal-requires : tie.Need-grid-refusal-requires
@@ -28,7 +29,7 @@ slice-aggregate-put-word : tie.Need-slice-aggregate-put-word
 slice-aggregate-put-word c = sym (length-take-le _ _ (long-within _ _ _ (not-refused-grid _ _ _ _ _ (c .before .before .before .before .before .before .before .grid-refusal .ensures) (c .before .before .before .before .before .before .if1 .left)) (c .before .before .before .before .put-grid .ensures) (text-fits _ _ _ (not-refused-grid _ _ _ _ _ (c .before .before .before .before .before .before .before .grid-refusal .ensures) (c .before .before .before .before .before .before .if1 .left)) .1)))
 
 put-word-requires : tie.Need-put-word-requires
-put-word-requires c κs = rw (length-take-le _ _ (long-within _ _ _ (not-refused-grid _ _ _ _ _ (c .before .before .before .before .before .before .before .grid-refusal .ensures) (c .before .before .before .before .before .before .if1 .left)) (c .before .before .before .before .put-grid .ensures) (text-fits _ _ _ (not-refused-grid _ _ _ _ _ (c .before .before .before .before .before .before .before .grid-refusal .ensures) (c .before .before .before .before .before .before .if1 .left)) .1))) (c .before .before .if2 .left)
+put-word-requires c κs = rw (length-take-le _ _ (long-within _ _ _ (not-refused-grid _ _ _ _ _ (c .before .before .before .before .before .before .before .grid-refusal .ensures) (c .before .before .before .before .before .before .if1 .left)) (c .before .before .before .before .put-grid .ensures) (text-fits _ _ _ (not-refused-grid _ _ _ _ _ (c .before .before .before .before .before .before .before .grid-refusal .ensures) (c .before .before .before .before .before .before .if1 .left)) .1))) (omega (arith, c .before .before .if2 .left))
 
 same-length : tie.Need-same-length
 same-length c = search needs

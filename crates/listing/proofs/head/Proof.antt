@@ -16,7 +16,7 @@ refused-requires : tie.Need-refused-requires
 refused-requires c κs = search needs
 
 returns : tie.Need-returns
-returns c = refused-head _ _ (c .before .before .before .read .ensures) _ (c .before .if1 .taken) _ (c .refused .ensures)
+returns c = refused-head _ _ (c .before .before .before .read .ensures) _ _ (c .before .if1 .taken) _ (c .refused .ensures)
 
 mul-pads : tie.Need-mul-pads
 mul-pads c = record { fits = omega (arith, pads-fit _ _ (c .before .before .before .read .ensures)) }
@@ -37,7 +37,7 @@ same-length : tie.Need-same-length
 same-length c = search needs
 
 returns-2 : tie.Need-returns-2
-returns-2 c = accepted-head _ _ (c .before .before .before .before .before .before .before .before .before .before .read .ensures) _ (c .before .before .before .before .before .before .before .before .if1 .left) _ _ (c .before .before .before .before .solve .ensures) _ _ (c .before .summary-line .ensures)
+returns-2 c = accepted-head _ _ (c .before .before .before .before .before .before .before .before .before .before .read .ensures) _ _ (c .before .before .before .before .before .before .before .before .if1 .left) _ _ (c .before .before .before .before .solve .ensures) _ _ (c .before .summary-line .ensures)
 
 pub head-spec : {M : Type 1} → statement M
 head-spec =

@@ -1,9 +1,9 @@
--- `routes::print_line` is safe: a layout's line fits its array. Assumes nothing.
+-- `listing::print_line` is safe: a layout's line fits its array. Assumes nothing.
 use mathlib.Core.Path.{sym}
 use borrow.Author.Needs.{needs}
 use lib.Seq.{length-take-le}
-use Rattle.routes.proofs.print_line.Statement.{statement}
-use Rattle.routes.proofs.print_line.Tie as tie
+use Rattle.listing.proofs.print_line.Statement.{statement}
+use Rattle.listing.proofs.print_line.Tie as tie
 
 line-requires : tie.Need-line-requires
 line-requires c κs = search needs

@@ -1,8 +1,8 @@
--- `routes::print_lines` is safe and ends: the index stays within the layouts. Assumes nothing.
+-- `listing::print_lines` is safe and ends: the index stays within the layouts. Assumes nothing.
 use Prim.Native.Nat.{_-_, _≤_}
 use native.Mathlib.Omega.{arith}
-use Rattle.routes.proofs.print_lines.Statement.{statement}
-use Rattle.routes.proofs.print_lines.Tie as tie
+use Rattle.listing.proofs.print_lines.Statement.{statement}
+use Rattle.listing.proofs.print_lines.Tie as tie
 
 abbrev Inv-loop : tie.InvT-loop
 Inv-loop buffer height width layouts k₀ k = k ≤ layouts
