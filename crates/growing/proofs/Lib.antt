@@ -1,0 +1,3 @@
+-- Laws that the proofs of the crate share.
+mod ReadLaws
+mod LoopLaws
