@@ -1,5 +1,5 @@
-// A case of the comparison: one call of the library with all that is lent to
-// it. It is written as one line of text, so that it can be replayed:
+// A case of the comparison: one call of the library, or two, with all that is
+// lent. It is written as one line of text, so that it can be replayed:
 //   board H,W CELLS LENT CALL;CALL;..   calls: fresh, decide ROW COLUMN STATE,
 //                                       read ROW COLUMN, checkpoint, undo
 //   search H,W CELLS LENT LIMIT ROOM
@@ -8,10 +8,13 @@
 //   write H,W CELLS LENT ROOM
 //   judge H,W CELLS LENT HEXADECIMAL
 //   common H,W CELLS LENT LIMIT ROOM TABLE FILL
+//   pair H,W CELLS LENT LIMIT ROOM LIMIT ROOM FILL BUFFER
 // CELLS are numbers parted by commas, -1 for blank and -2 for a hole. LENT is
 // the length of the slice that is lent for the answer, ROOM that of the buffer
 // and TABLE that of the table; FILL is the number from which come the bytes
-// that stand there before the call. `-` stands for an empty list.
+// that stand there before the call. BUFFER is what the second call of a pair is
+// lent: `new`, or `left` for the buffer that the first call left. `-` stands for
+// an empty list.
 
 #[derive(Clone, Copy, Debug, PartialEq, Eq)]
 pub enum Asked {
@@ -36,6 +39,29 @@ pub struct Search {
     pub lent: usize,
     pub limit: u64,
     pub room: usize,
+}
+
+impl Search {
+    /// The second search of a pair.
+    pub fn again(&self, again: Again) -> Search {
+        Search {
+            limit: again.limit,
+            room: again.room,
+            ..self.clone()
+        }
+    }
+}
+
+/// A second search of the same grid, with at least the limit and at least the
+/// room of the first. What stands in the two buffers before the calls comes from
+/// the number `fill`; where `left` is true, the second is lent the buffer that
+/// the first left, with more bytes behind it where there is more room.
+#[derive(Clone, Copy, Debug, PartialEq, Eq)]
+pub struct Again {
+    pub limit: u64,
+    pub room: usize,
+    pub fill: u64,
+    pub left: bool,
 }
 
 /// A table that is lent beside a search; what stands in it and in the buffer
@@ -77,6 +103,7 @@ pub enum Case {
         bytes: Vec<u8>,
     },
     Common(Search, Table),
+    Pair(Search, Again),
 }
 
 fn listed<T: ToString>(items: &[T], between: &str) -> String {
@@ -117,6 +144,13 @@ impl std::fmt::Display for Search {
     }
 }
 
+impl std::fmt::Display for Again {
+    fn fmt(&self, out: &mut std::fmt::Formatter<'_>) -> std::fmt::Result {
+        let buffer = if self.left { "left" } else { "new" };
+        write!(out, "{} {} {} {buffer}", self.limit, self.room, self.fill)
+    }
+}
+
 impl std::fmt::Display for Case {
     fn fmt(&self, out: &mut std::fmt::Formatter<'_>) -> std::fmt::Result {
         match self {
@@ -143,6 +177,7 @@ impl std::fmt::Display for Case {
             Case::Common(search, Table { length, fill }) => {
                 write!(out, "common {search} {length} {fill}")
             }
+            Case::Pair(search, again) => write!(out, "pair {search} {again}"),
         }
     }
 }
@@ -205,6 +240,27 @@ fn read_search(words: &[&str]) -> Search {
     }
 }
 
+fn read_again(words: &[&str]) -> Again {
+    Again {
+        limit: number(words[6]),
+        room: number(words[7]),
+        fill: number(words[8]),
+        left: match words[9] {
+            "new" => false,
+            "left" => true,
+            word => panic!("no such buffer: {word}"),
+        },
+    }
+}
+
+/// A second search with less than the first has is no case.
+fn read_pair(words: &[&str]) -> Case {
+    let (search, again) = (read_search(words), read_again(words));
+    let at_least = again.limit >= search.limit && again.room >= search.room;
+    assert!(at_least, "the second search has less");
+    Case::Pair(search, again)
+}
+
 fn read_record(words: &[&str]) -> Case {
     Case::Record {
         size: read_size(words[1]),
@@ -250,6 +306,7 @@ pub fn read_case(text: &str) -> Case {
             let (length, fill) = (number(words[6]), number(words[7]));
             Case::Common(read_search(&words), Table { length, fill })
         }
+        "pair" => read_pair(&words),
         word => panic!("no such case: {word}"),
     }
 }

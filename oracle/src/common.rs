@@ -10,42 +10,20 @@ use crate::cases::{Case, Given, Search, Table};
 use crate::chosen::{any_search, declined_search, search_pads, size_of, widen};
 use crate::drawn::{drawn, is_edge, tiny_pads};
 use crate::expected::{
-    board_pads, expected_run, grid_refusal, put_bytes, search_answer, Answer, FILL,
+    board_pads, expected_run, grid_refusal, lent_bytes, put_bytes, search_answer, Answer, FILL,
 };
 use crate::grids::{ended, runs_of, ROOM};
 use crate::holes::{beginning, by_library, checked_list, is_small, small_pads};
 use crate::library;
 use crate::random::Random;
 
-/// So many bytes lie behind each lent slice, and are compared with it.
-const BEHIND: usize = 8;
-
 /// So many boards a search may visit to its end; more where it is known that it
 /// soon comes to one.
-const FEW_BOARDS: u64 = 1000;
+pub const FEW_BOARDS: u64 = 1000;
 const MANY_BOARDS: u64 = 1000000;
 
 /// The turn at which there are more layouts than 16 bits count.
 const TURN_OF_MANY: usize = 1000;
-
-/// What stands in a buffer and in a table before the call, and behind them:
-/// bytes that are not 0, in every second case 1 to 3 only, as in a table.
-fn lent_bytes(room: usize, table: Table) -> (Vec<u8>, Vec<u8>) {
-    let mut random = Random::new(table.fill);
-    let byte = |any: u8| match table.fill % 2 {
-        0 => 1 + any % 3,
-        _ => any.max(1),
-    };
-    let mut filled = |length: usize| {
-        let mut bytes = Vec::with_capacity(length + 8);
-        while bytes.len() < length {
-            bytes.extend(random.next().to_le_bytes().map(byte));
-        }
-        bytes.truncate(length);
-        bytes
-    };
-    (filled(room + BEHIND), filled(table.length + BEHIND))
-}
 
 /// The table of a complete list: at an edge 1 where all layouts have a line, 2
 /// where none has, else 3; elsewhere 0, and 0 everywhere where there is none.
@@ -76,7 +54,7 @@ fn early_refusal(grid: &Given, table: Table) -> (u64, u64) {
 /// What a call must give where it is known what its search gives; beside 16 the
 /// table stays as it is, and beside an earlier number all does.
 fn common_answer(search: &Search, lent: Table, run: &Run) -> Answer {
-    let (buffer, mut table) = lent_bytes(search.room, lent);
+    let [buffer, mut table] = lent_bytes(lent.fill, [search.room, lent.length]);
     let early = early_refusal(&search.grid, lent);
     if early != (0, 0) {
         let answer = search_answer(early, &Run::new(), search.lent, buffer);
@@ -100,7 +78,7 @@ pub fn expected_common(search: &Search, table: Table) -> Answer {
 }
 
 pub fn common_by_library(search: &Search, lent: Table) -> Answer {
-    let (bytes, table) = lent_bytes(search.room, lent);
+    let [bytes, table] = lent_bytes(lent.fill, [search.room, lent.length]);
     let mut answer = Answer {
         numbers: vec![FILL as u64; search.lent],
         bytes,
@@ -197,7 +175,7 @@ pub fn lister(pads: &Pads) -> Lister {
 }
 
 /// The whole list, where a search comes to its end within so many boards.
-fn whole_within(pads: &Pads, boards: u64) -> Option<Run> {
+pub fn whole_within(pads: &Pads, boards: u64) -> Option<Run> {
     match lister(pads) {
         Lister::Rules => Some(checked_list(pads)),
         Lister::Reference => ended(pads, boards),
@@ -209,7 +187,7 @@ fn whole_within(pads: &Pads, boards: u64) -> Option<Run> {
 }
 
 /// What a search gives of the whole list.
-fn run_within(pads: &Pads, all: &Run, search: &Search) -> Run {
+pub fn run_within(pads: &Pads, all: &Run, search: &Search) -> Run {
     let (limit, room) = (search.limit, search.room);
     if limit >= all.visited && room >= all.bytes.len() {
         return all.clone();
@@ -233,7 +211,7 @@ fn any_table(random: &mut Random, places: usize) -> Table {
 }
 
 /// Limits past 32 bits; cut to 32, most are 0 or 1.
-const WIDE_LIMITS: [u64; 4] = [1 << 32, (1 << 32) + 1, 1 << 63, u64::MAX];
+pub const WIDE_LIMITS: [u64; 4] = [1 << 32, (1 << 32) + 1, 1 << 63, u64::MAX];
 
 /// Calls on one grid, with what each must give: limits and rooms with which the
 /// list just ends complete, and others about the places where it ends.

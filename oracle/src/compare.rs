@@ -1,8 +1,8 @@
 // Compares the proved library with the reference: board calls, searches,
 // records, files, writes and tables of common copper, chosen by a seed, until
-// the time or the counts are reached; and searches of grids with holes, and
-// drawings that are judged, with the rules alone. The first case that differs
-// is made smaller and printed.
+// the time or the counts are reached; searches of grids with holes, and drawings
+// that are judged, with the rules alone; and pairs of runs with each other. The
+// first case that differs is made smaller and printed.
 
 use crate::answers::{limited, Call, Pads, Run};
 use crate::cases::{read_case, Case, Search};
@@ -19,9 +19,11 @@ use crate::expected::{by_library, expected, is_known, judge_answer, search_answe
 use crate::grids::{check_beginning, ended, runs_of};
 use crate::holes::{beginning, checked_list, every_drawing, small_pads};
 use crate::judged::{found, Found};
+use crate::pairs::pairs_of_turn;
 use crate::random::Random;
 use crate::shown::{
-    ShownCalls, ShownCommon, ShownHoles, ShownJudged, ShownNumbers, ShownRooms, ShownWide,
+    ShownCalls, ShownCommon, ShownHoles, ShownJudged, ShownNumbers, ShownPairs, ShownRooms,
+    ShownWide,
 };
 use crate::smallest::smallest;
 use std::time::{Duration, Instant};
@@ -47,6 +49,7 @@ struct Comparison {
     shown_holes: ShownHoles,
     shown_judged: ShownJudged,
     shown_common: ShownCommon,
+    shown_pairs: ShownPairs,
     shown_wide: ShownWide,
     boards: Random,
     grid_numbers: Random,
@@ -56,6 +59,7 @@ struct Comparison {
     hole_numbers: Random,
     judge_numbers: Random,
     common_numbers: Random,
+    pair_numbers: Random,
     known: Vec<(Pads, Vec<Call>)>,
     done: Counts,
     whole_searches: usize,
@@ -79,6 +83,7 @@ impl Comparison {
             shown_holes: ShownHoles::default(),
             shown_judged: ShownJudged::default(),
             shown_common: ShownCommon::default(),
+            shown_pairs: ShownPairs::default(),
             shown_wide: ShownWide::default(),
             boards: Random::new(seed),
             grid_numbers: Random::new(seed.wrapping_add(1 << 32)),
@@ -88,6 +93,7 @@ impl Comparison {
             hole_numbers: Random::new(seed.wrapping_add(5 << 32)),
             judge_numbers: Random::new(seed.wrapping_add(6 << 32)),
             common_numbers: Random::new(seed.wrapping_add(7 << 32)),
+            pair_numbers: Random::new(seed.wrapping_add(8 << 32)),
             known: known_sequences(),
             done: Counts::default(),
             whole_searches: 0,
@@ -104,7 +110,7 @@ impl Comparison {
 
     fn figures(&self) -> String {
         format!(
-            "{:.0} s: {} board calls in {} sequences; {} searches ({} of them whole, against solve), {} visited boards; {} declined searches; {} records; {} files; {} writes; {} records judged; {} calls for common copper",
+            "{:.0} s: {} board calls in {} sequences; {} searches ({} of them whole, against solve), {} visited boards; {} declined searches; {} records; {} files; {} writes; {} records judged; {} calls for common copper; {} pairs of runs",
             self.started.elapsed().as_secs_f64(),
             self.done.calls,
             self.sequences,
@@ -116,7 +122,8 @@ impl Comparison {
             self.done.files,
             self.writes,
             self.shown_judged.records(),
-            self.shown_common.calls
+            self.shown_common.calls,
+            self.shown_pairs.pairs
         )
     }
 
@@ -129,6 +136,7 @@ impl Comparison {
         println!("{}", self.shown_holes.figures());
         self.shown_judged.print();
         self.shown_common.print();
+        self.shown_pairs.print();
         println!("{}", self.shown_wide.figures());
     }
 
@@ -380,13 +388,23 @@ impl Comparison {
         self.compare_table(&case, &expected(&case));
     }
 
+    fn compare_pairs(&mut self) {
+        let turn = self.shown_pairs.turns;
+        self.shown_pairs.turns += 1;
+        for (case, answer) in pairs_of_turn(&mut self.pair_numbers, turn) {
+            self.hold(&case, &answer);
+            self.shown_pairs.count(&case, &answer);
+        }
+    }
+
     /// The kinds of which more cases are wanted.
     fn kinds_left(&self, wanted: Counts) -> Vec<Compare> {
         let (calls, searches, files) = (wanted.calls, wanted.searches, wanted.files);
         let holes = self.shown_holes.searches;
         let judged = self.shown_judged.records();
         let common = self.shown_common.calls;
-        let kinds: [(usize, usize, Compare); 7] = [
+        let pairs = self.shown_pairs.pairs;
+        let kinds: [(usize, usize, Compare); 8] = [
             (self.done.calls, calls, Comparison::compare_board),
             (self.done.searches, searches, Comparison::compare_search),
             (self.done.files, files, Comparison::compare_write),
@@ -394,6 +412,7 @@ impl Comparison {
             (holes, searches, Comparison::compare_holes),
             (judged, calls, Comparison::compare_judged),
             (common, 2 * searches, Comparison::compare_common),
+            (pairs, searches, Comparison::compare_pairs),
         ];
         let left = kinds.into_iter().filter(|(done, wanted, _)| done < wanted);
         left.map(|(_, _, compare)| compare).collect()
@@ -426,7 +445,7 @@ fn show(case: &Case) -> bool {
     same
 }
 
-/// Where two answers differ, and where those of the way back differ.
+/// Where two answers differ, and where those of the calls that follow differ.
 fn show_answers(wanted: &Answer, found: &Answer) {
     println!(
         "returned: {} wanted, {} found",
@@ -442,8 +461,11 @@ fn show_answers(wanted: &Answer, found: &Answer) {
     show_first("cells", cells(wanted), cells(found));
     show_first("buffer", bytes(wanted), bytes(found));
     show_first("table", table(wanted), table(found));
-    for (wanted, found) in wanted.back.iter().zip(&found.back) {
-        println!("and back:");
+    for words in &found.broken {
+        println!("broken: {words}");
+    }
+    for (wanted, found) in wanted.then.iter().zip(&found.then) {
+        println!("and then:");
         show_answers(wanted, found);
     }
 }
@@ -462,7 +484,7 @@ pub fn replay_case(text: &str) -> Option<bool> {
     is_known(&case).then(|| show(&case))
 }
 
-/// Compares for so many seconds, a seventh of the time on each kind.
+/// Compares for so many seconds, an eighth of the time on each kind.
 pub fn compare_for(seconds: u64, seed: u64) {
     println!("seed {seed}");
     let mut comparison = Comparison::new(seed);
@@ -475,6 +497,7 @@ pub fn compare_for(seconds: u64, seed: u64) {
         comparison.turn(|comparison| comparison.compare_holes());
         comparison.turn(|comparison| comparison.compare_judged());
         comparison.turn(|comparison| comparison.compare_common());
+        comparison.turn(|comparison| comparison.compare_pairs());
         comparison.compare_declined();
         comparison.show_progress();
     }
@@ -483,7 +506,8 @@ pub fn compare_for(seconds: u64, seed: u64) {
 
 /// Compares until so many board calls, searches and files are done, as many
 /// searches by the rules as searches, as many writes as files, as many judged
-/// records as board calls, and twice as many calls for common copper as searches.
+/// records as board calls, twice as many calls for common copper as searches, and
+/// as many pairs of runs as searches.
 pub fn compare_counts(wanted: Counts, seed: u64) {
     println!("seed {seed}");
     let mut comparison = Comparison::new(seed);

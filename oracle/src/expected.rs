@@ -2,9 +2,9 @@
 // numbers of the documents where it is declined, for a search of a grid with
 // holes by the rules alone (holes.rs), for a file by the reader of routes.rs,
 // for a grid that is written by Rust's own digits, for a drawing by the rules
-// (judged.rs), and for a table of common copper by such a search (common.rs).
-// And what the library gives for the same case. A text that was written is
-// read back, and a grid that was read is written back.
+// (judged.rs), and for a table of common copper and for a pair of runs by such
+// searches (common.rs, pairs.rs). And what the library gives for the same case.
+// A text that was written is read back, and a grid that was read is written back.
 
 use crate::answers::{
     limited, make_call, read_state, whole, Board, Call, Pads, Run, State, BLANK, HOLE, LARGEST_CODE,
@@ -12,10 +12,16 @@ use crate::answers::{
 use crate::cases::{Asked, Case, Given, Search};
 use crate::common::{common_by_library, expected_common};
 use crate::judged::{found, lines_told};
+use crate::pairs::{expected_pair, pair_by_library};
+use crate::random::Random;
 use crate::{holes, library, routes};
 
 /// What fills each lent slice before a call, so that a stray store shows.
 pub const FILL: u8 = 7;
+
+/// So many bytes lie behind a slice that `lent_bytes` gives, and are compared
+/// with it.
+pub const BEHIND: usize = 8;
 
 const MOST_CHECKPOINTS: usize = 256;
 
@@ -28,9 +34,11 @@ pub struct Answer {
     pub cells: Vec<i64>,
     pub bytes: Vec<u8>,
     pub table: Vec<u8>,
-    /// The answers when what was written is read back, or what was read is
-    /// written back.
-    pub back: Vec<Answer>,
+    /// The answers of the calls that follow: what was written is read back, what
+    /// was read is written back, or the grid is searched again.
+    pub then: Vec<Answer>,
+    /// The words of the order that two runs break; there must be none.
+    pub broken: Vec<String>,
 }
 
 /// The refusals 7, 8 and 9 of a grid, with the index of the first bad cell.
@@ -150,6 +158,24 @@ fn expected_board(grid: &Given, lent: usize, calls: &[Asked]) -> Answer {
     answer.returned = answer.signed.len();
     answer.signed.resize(lent, FILL as i64);
     answer
+}
+
+/// What stands in slices of these lengths before a call, and behind them: bytes
+/// that are not 0, in every second case 1 to 3 only, as in a layout or a table.
+pub fn lent_bytes<const SLICES: usize>(fill: u64, lengths: [usize; SLICES]) -> [Vec<u8>; SLICES] {
+    let mut random = Random::new(fill);
+    let byte = |any: u8| match fill % 2 {
+        0 => 1 + any % 3,
+        _ => any.max(1),
+    };
+    lengths.map(|length| {
+        let mut bytes = Vec::with_capacity(length + 2 * BEHIND);
+        while bytes.len() < length + BEHIND {
+            bytes.extend(random.next().to_le_bytes().map(byte));
+        }
+        bytes.truncate(length + BEHIND);
+        bytes
+    })
 }
 
 /// Bytes written over the beginning of what stood there before.
@@ -277,7 +303,7 @@ fn write_answer(refusal: (u64, u64), text: &[u8], lent: usize, room: usize) -> A
 fn expected_file(lent: usize, cells_lent: usize, bytes: &[u8]) -> Answer {
     let mut answer = read_answer(routes::read(bytes), lent, cells_lent);
     if answer.returned > 0 && answer.numbers[0] == 0 {
-        answer.back = vec![write_answer((0, 0), bytes, 3, bytes.len())];
+        answer.then = vec![write_answer((0, 0), bytes, 3, bytes.len())];
     }
     answer
 }
@@ -317,7 +343,7 @@ fn expected_write(grid: &Given, lent: usize, room: usize) -> Answer {
     let refusal = grid_refusal(grid);
     let mut answer = write_answer(refusal, text.as_bytes(), lent, room);
     if answer.returned > 0 && refusal == (0, 0) {
-        answer.back = vec![read_answer(Ok(board_pads(grid)), 5, 256); 2];
+        answer.then = vec![read_answer(Ok(board_pads(grid)), 5, 256); 2];
     }
     answer
 }
@@ -345,7 +371,8 @@ fn expected_judge(grid: &Given, lent: usize, bytes: &[u8]) -> Answer {
 
 /// Whether it is known what the case must give. The reference knows no holes:
 /// of a board with holes it is not, of a search only where the grid is small.
-/// A table is held beside the library's own search where nothing else is known.
+/// A table and a pair are held beside the library's own search where nothing else
+/// is known.
 pub fn is_known(case: &Case) -> bool {
     match case {
         Case::Board { grid, .. } => !board_pads(grid).has_hole(),
@@ -376,6 +403,7 @@ pub fn expected(case: &Case) -> Answer {
         Case::Write { grid, lent, room } => expected_write(grid, *lent, *room),
         Case::Judge { grid, lent, bytes } => expected_judge(grid, *lent, bytes),
         Case::Common(search, table) => expected_common(search, *table),
+        Case::Pair(search, again) => expected_pair(search, *again),
     }
 }
 
@@ -420,7 +448,7 @@ fn read_and_written_back(bytes: &[u8], lent: usize, cells_lent: usize) -> Answer
         let size = (height as usize, width as usize);
         let pads = size.0.saturating_mul(size.1);
         let cells = answer.cells.iter().take(pads).copied().collect();
-        answer.back = vec![write_by_library(&Given { size, cells }, 3, bytes.len())];
+        answer.then = vec![write_by_library(&Given { size, cells }, 3, bytes.len())];
     }
     answer
 }
@@ -430,20 +458,21 @@ fn written_and_read_back(grid: &Given, lent: usize, room: usize) -> Answer {
     if let [0, 0, length, ..] = answer.numbers[..] {
         let text = &answer.bytes[..room.min(length as usize)];
         let second = read_answer(routes::read(text), 5, 256);
-        answer.back = vec![read_by_library(text, 5, 256), second];
+        answer.then = vec![read_by_library(text, 5, 256), second];
     }
     answer
 }
 
-fn solved_by_library(search: &Search) -> Answer {
+/// A search in a buffer that holds `before`, of which the room is lent.
+pub fn solved_by_library(search: &Search, before: Vec<u8>) -> Answer {
     let mut answer = Answer {
         numbers: vec![FILL as u64; search.lent],
-        bytes: vec![FILL; search.room],
+        bytes: before,
         ..Answer::default()
     };
-    let (bytes, numbers) = (&mut answer.bytes, &mut answer.numbers);
+    let (buffer, numbers) = (&mut answer.bytes[..search.room], &mut answer.numbers);
     let (grid, limit) = (&search.grid, search.limit);
-    answer.returned = library::solve(grid.size, &grid.cells, limit, bytes, numbers);
+    answer.returned = library::solve(grid.size, &grid.cells, limit, buffer, numbers);
     answer
 }
 
@@ -464,7 +493,7 @@ pub fn by_library(case: &Case) -> Answer {
             answer.signed = vec![FILL as i64; *lent];
             answer.returned = library::replay(grid.size, &grid.cells, &numbers, &mut answer.signed);
         }
-        Case::Search(search) => answer = solved_by_library(search),
+        Case::Search(search) => answer = solved_by_library(search, vec![FILL; search.room]),
         Case::Record {
             size,
             lent,
@@ -484,6 +513,7 @@ pub fn by_library(case: &Case) -> Answer {
         Case::Write { grid, lent, room } => answer = written_and_read_back(grid, *lent, *room),
         Case::Judge { grid, lent, bytes } => answer = judged_by_library(grid, *lent, bytes),
         Case::Common(search, table) => answer = common_by_library(search, *table),
+        Case::Pair(search, again) => answer = pair_by_library(search, *again),
     }
     answer
 }

@@ -174,20 +174,25 @@ pub fn every_drawing(pads: &Pads) -> impl Iterator<Item = (Vec<u8>, u64)> + '_ {
     })
 }
 
+/// What a search told in six numbers, and of its buffer the list.
+pub fn run_told(numbers: &[u64], mut bytes: Vec<u8>, length: usize) -> Run {
+    let (outcome, layouts) = (numbers[2] as u8, numbers[3] as usize);
+    bytes.truncate(layouts.saturating_mul(length));
+    Run {
+        outcome,
+        layouts,
+        visited: numbers[4],
+        fewest: numbers[5] as usize,
+        bytes,
+    }
+}
+
 /// What the library's own search gives.
 pub fn by_library(pads: &Pads, limit: u64, room: usize) -> Run {
     let (mut bytes, mut answer) = (vec![0; room], [0; 6]);
     let size = (pads.height, pads.width);
     library::solve(size, &pads.cells, limit, &mut bytes, &mut answer);
-    let [_, _, outcome, layouts, visited, fewest] = answer;
-    bytes.truncate(layouts as usize * pads.record_length());
-    Run {
-        outcome: outcome as u8,
-        layouts: layouts as usize,
-        visited,
-        fewest: fewest as usize,
-        bytes,
-    }
+    run_told(&answer, bytes, pads.record_length())
 }
 
 /// How many boards the library visits, with no limit, until a layout is due

@@ -33,6 +33,8 @@ mod judged;
 #[cfg(library)]
 mod library;
 #[cfg(library)]
+mod pairs;
+#[cfg(library)]
 mod shown;
 #[cfg(library)]
 mod smallest;
@@ -43,6 +45,7 @@ const USAGE: &str = "usage:
   oracle grids SEED STREAM ANSWERS      write a stream of grids and the answers of their searches
   oracle steps STREAM NUMBER            one sequence of a stream, call by call
   oracle routes < GRID-FILE             what the program `routes` prints
+  oracle routes LIMIT ROOM < GRID-FILE  the same with another limit and room
   oracle time GRID-FILE..               how long the reference takes
 and, where it is built with the library:
   oracle compare seconds S [SEED]       compare the library with the reference for so long
@@ -111,6 +114,18 @@ fn write(file: &str, bytes: &[u8]) {
     std::fs::write(file, bytes).unwrap_or_else(|error| panic!("{file}: {error}"));
 }
 
+/// What is printed for the file on standard input.
+fn print_routes(limit: u64, room: usize) {
+    let mut file = Vec::new();
+    std::io::stdin()
+        .read_to_end(&mut file)
+        .expect("standard input");
+    match routes::printed(&file, limit, room) {
+        Some(text) => print!("{text}"),
+        None => end_not_known(),
+    }
+}
+
 fn main() {
     let arguments: Vec<String> = std::env::args().skip(1).collect();
     let words: Vec<&str> = arguments.iter().map(String::as_str).collect();
@@ -130,16 +145,11 @@ fn main() {
             sequences::print_steps(&read(stream), number.parse().expect("a number"));
         }
         ["time", files @ ..] => time::print_times(&named(files)),
-        ["routes"] => {
-            let mut file = Vec::new();
-            std::io::stdin()
-                .read_to_end(&mut file)
-                .expect("standard input");
-            match routes::printed(&file) {
-                Some(text) => print!("{text}"),
-                None => end_not_known(),
-            }
-        }
+        ["routes"] => print_routes(grids::LIMIT, grids::ROOM),
+        ["routes", limit, room] => print_routes(
+            limit.parse().expect("a limit"),
+            room.parse().expect("a room"),
+        ),
         words => {
             if !with_library(words) {
                 eprintln!("{USAGE}");

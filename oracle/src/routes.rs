@@ -1,10 +1,10 @@
-// What the program `routes` prints for a file, where the grid has no holes.
+// What the program `routes` prints for a file, where the grid has no holes, with
+// its own limit and room or with others.
 // The file is read here in another way than by a walk over its bytes: every
 // refusal of the documents is looked for by itself, and the one at the first
 // byte counts, there the one that is tested first.
 
 use crate::answers::{limited, Pads, Run, BLANK, HOLE, LARGEST_CODE, LINE};
-use crate::grids::{LIMIT, ROOM};
 
 /// The numbers in the order in which they are tested at one byte.
 const TESTED: [usize; 8] = [6, 1, 13, 15, 2, 3, 4, 5];
@@ -206,10 +206,10 @@ fn list(pads: &Pads, run: &Run) -> String {
 }
 
 /// Nothing where the grid has holes: the reference cannot search it.
-pub fn printed(file: &[u8]) -> Option<String> {
+pub fn printed(file: &[u8], limit: u64, room: usize) -> Option<String> {
     match read(file) {
         Ok(pads) if pads.has_hole() => None,
-        Ok(pads) => Some(list(&pads, &limited(&pads, LIMIT, ROOM))),
+        Ok(pads) => Some(list(&pads, &limited(&pads, limit, room))),
         Err((number, line, field)) => Some(format!("refused,{number},{line},{field}\n")),
     }
 }

@@ -2,9 +2,10 @@
 // there were of each kind and of each answer.
 
 use crate::answers::{Pads, Run, HOLE, LARGEST_ASKED, LARGEST_CODE};
-use crate::cases::{Asked, Case, Given};
+use crate::cases::{Again, Asked, Case, Given, Search};
 use crate::common::{lister, Lister};
 use crate::expected::{board_pads, written_text, Answer};
+use crate::holes::is_small;
 use crate::judged::Found;
 use std::collections::BTreeMap;
 
@@ -58,6 +59,7 @@ impl ShownWide {
             Case::Write { grid, .. } => ("write", &grid.cells),
             Case::Judge { grid, .. } => ("judge", &grid.cells),
             Case::Common(search, _) => ("common", &search.grid.cells),
+            Case::Pair(search, _) => ("pair", &search.grid.cells),
             Case::Record { .. } => return,
         };
         let wide = LARGEST_ASKED + 1..=LARGEST_CODE;
@@ -86,9 +88,9 @@ impl ShownNumbers {
         if answer.returned > 0 {
             *self.numbers.entry(answer.numbers[0]).or_default() += 1;
         }
-        let mut grids = answer.back.iter().chain([answer]);
+        let mut grids = answer.then.iter().chain([answer]);
         self.with_holes += grids.any(|grid| grid.cells.contains(&HOLE)) as usize;
-        self.back += !answer.back.is_empty() as usize;
+        self.back += !answer.then.is_empty() as usize;
     }
 
     pub fn figures(&self) -> String {
@@ -258,5 +260,75 @@ impl ShownCommon {
             "tables by layouts: {:?}; their places by byte: {:?}",
             self.tables, self.places
         );
+    }
+}
+
+/// Pairs of runs: those of accepted grids by their two outcomes, those of
+/// declined grids by number, and how many were of which kind; and those whose
+/// answer was too short.
+#[derive(Default)]
+pub struct ShownPairs {
+    pub turns: usize,
+    pub pairs: usize,
+    outcomes: BTreeMap<[&'static str; 2], usize>,
+    declined: BTreeMap<u64, usize>,
+    kinds: BTreeMap<&'static str, usize>,
+    too_short: usize,
+}
+
+const OUTCOMES: [&str; 3] = ["complete", "spent", "full"];
+
+impl ShownPairs {
+    pub fn count(&mut self, case: &Case, answer: &Answer) {
+        self.pairs += 1;
+        let (Case::Pair(search, again), [then]) = (case, &answer.then[..]) else {
+            return;
+        };
+        if answer.returned == 0 {
+            self.too_short += 1;
+        } else if answer.numbers[0] != 0 {
+            *self.declined.entry(answer.numbers[0]).or_default() += 1;
+        } else {
+            self.count_accepted(search, *again, &answer.numbers, &then.numbers);
+        }
+    }
+
+    fn count_accepted(&mut self, search: &Search, again: Again, told: &[u64], then: &[u64]) {
+        let outcomes = [told, then].map(|numbers| OUTCOMES[numbers[2] as usize]);
+        *self.outcomes.entry(outcomes).or_default() += 1;
+        let pads = board_pads(&search.grid);
+        let (same_limit, same_room) = (search.limit == again.limit, search.room == again.room);
+        let kinds = [
+            ("with holes", pads.has_hole()),
+            ("with holes, large", pads.has_hole() && !is_small(&pads)),
+            ("with layouts in the first", told[3] > 0),
+            ("with layouts in the second", then[3] > 0),
+            ("with more layouts in the second", then[3] > told[3]),
+            ("equal limits", same_limit),
+            ("equal rooms", same_room),
+            ("both equal", same_limit && same_room),
+            (
+                "not spent, same room, higher limit",
+                told[2] != 1 && same_room && !same_limit,
+            ),
+            ("limit past 32 bits", again.limit >> 32 > 0),
+            ("limit 2^64-1", again.limit == u64::MAX),
+            ("lent what the first left", again.left),
+            (
+                "lent what the first left, equal rooms",
+                again.left && same_room,
+            ),
+        ];
+        for (kind, is_so) in kinds {
+            *self.kinds.entry(kind).or_default() += is_so as usize;
+        }
+    }
+
+    pub fn print(&self) {
+        println!(
+            "{} pairs of runs by outcomes: {:?}; declined by number: {:?}; {} answers too short",
+            self.pairs, self.outcomes, self.declined, self.too_short
+        );
+        println!("of the accepted pairs: {:?}", self.kinds);
     }
 }

@@ -1,9 +1,9 @@
 // Makes a failing case smaller as long as it still fails: calls left out,
 // rows and columns cut off, holes filled, codes blanked or shortened, bytes of
-// a file left out, chains rubbed out, less room, shorter tables.
+// a file left out, chains rubbed out, less room, shorter tables, lower limits.
 
 use crate::answers::{Pads, BLANK, HOLE, LINE, NONE, UNDECIDED};
-use crate::cases::{Asked, Case, Given, Search, Table};
+use crate::cases::{Again, Asked, Case, Given, Search, Table};
 use crate::expected::{
     board_pads, board_room, by_library, expected, grid_refusal, is_known, written_text,
 };
@@ -15,8 +15,10 @@ use std::time::{Duration, Instant};
 /// Whether a search of the case ends within a reasonable limit, if it has none
 /// itself: that of a smaller grid might go on for ever.
 fn soon_ends(case: &Case) -> bool {
-    let (Case::Search(search) | Case::Common(search, _)) = case else {
-        return true;
+    let search = match case {
+        Case::Search(search) | Case::Common(search, _) => search,
+        Case::Pair(search, again) => &search.again(*again),
+        _ => return true,
     };
     let run = || holes::by_library(&board_pads(&search.grid), LIMIT, search.room);
     search.limit <= LIMIT || run().outcome != 1
@@ -72,6 +74,7 @@ fn smaller_cases(case: &Case) -> Vec<Case> {
         Case::Write { grid, lent, room } => smaller_writes(grid, *lent, *room),
         Case::Judge { grid, lent, bytes } => smaller_judges(grid, *lent, bytes),
         Case::Common(search, table) => smaller_commons(search, *table),
+        Case::Pair(search, again) => smaller_pairs(search, *again),
         Case::Record { .. } => Vec::new(),
     }
 }
@@ -154,6 +157,44 @@ fn smaller_commons(search: &Search, table: Table) -> Vec<Case> {
     found.extend(shorter.map(|length| case(search.clone(), length, table.fill)));
     let fills = (0..2).filter(|fill| *fill < table.fill);
     found.extend(fills.map(|fill| case(search.clone(), table.length, fill)));
+    found
+}
+
+/// The pair with a smaller second search; the first has no more than that.
+fn pair_within(search: &Search, again: Again, second: Search) -> Case {
+    let (limit, room) = (second.limit, second.room);
+    let first = Search {
+        limit: search.limit.min(limit),
+        room: search.room.min(room),
+        ..second
+    };
+    let again = Again {
+        limit,
+        room,
+        ..again
+    };
+    Case::Pair(first, again)
+}
+
+/// A smaller grid for both searches, a lower limit or less room for the first or
+/// for both; the smallest fills, and a buffer of its own for the second.
+fn smaller_pairs(search: &Search, again: Again) -> Vec<Case> {
+    let seconds = smaller_searches(&search.again(again)).into_iter();
+    let within = |second| pair_within(search, again, second);
+    let mut found: Vec<Case> = seconds.map(within).collect();
+    let firsts = smaller_searches(search).into_iter();
+    let on_grid = firsts.filter(|first| first.grid == search.grid);
+    found.extend(on_grid.map(|first| Case::Pair(first, again)));
+    let lent = (again.fill, again.left);
+    let others = [(0, again.left), (1, again.left), (again.fill, false)];
+    for (fill, left) in others.into_iter().filter(|other| *other < lent) {
+        let again = Again {
+            fill,
+            left,
+            ..again
+        };
+        found.push(Case::Pair(search.clone(), again));
+    }
     found
 }
 
