@@ -67,7 +67,7 @@ module _ (limit limit′ size : ℕ) (higher : limit ≤ limit′) where
         list-goes-on = record { rest = on .list-goes-on .rest; parted = ap (λ l. r ∷ l) (on .list-goes-on .parted) };
         visited-never-falls = on .visited-never-falls;
         complete-stays = λ o. ap (with-record r) (on .complete-stays o);
-        ended-stays = λ o e. ap (with-record r) (on .ended-stays o (ap (λ n. n - size) e));
+        ended-stays = λ o e. ap (with-record r) (on .ended-stays o (omega (arith, e)));
       }
 
       go : (b : Bool) → ltb room size ≡ b → (b′ : Bool) → ltb room′ size ≡ b′ → Continued (room - size) (room′ - size) (scan limit size visited (room - size) events) (scan limit′ size visited (room′ - size) events)

@@ -19,8 +19,11 @@ says NoLimit = model.no-limit
 abbrev pub first-limit : ℕ → ℕ
 first-limit limit = least routes-limit limit
 
+abbrev pub times : ℕ
+times = 4
+
 abbrev pub next-limit : (reached limit : ℕ) → ℕ
-next-limit reached limit = least (reached * 4) limit
+next-limit reached limit = least (reached * times) limit
 
 pub the-first : (a b : ℕ) → a ≤ b → a ≡ least a b
 the-first a b h = rw (le-leb a b h, least) refl
@@ -41,8 +44,8 @@ first-reached limit = elim (decLe routes-limit limit) [
 
 -- the next one is larger, as long as the last is not reached
 pub next-reached : (reached limit : ℕ) → Reached reached limit → reached < limit → (reached < next-limit reached limit) × Reached (next-limit reached limit) limit
-next-reached reached limit so-far below = elim (decLe (reached * 4) limit) [
+next-reached reached limit so-far below = elim (decLe (reached * times) limit) [
   | yes h ↦ let many = so-far .some below in
-      rw (← (the-first (reached * 4) limit h)) (omega (arith, many), record { within = h; some = λ below′. omega (arith, many) })
-  | no h ↦ rw (← (the-second (reached * 4) limit (omega (arith, h)))) (below, record { within = omega arith; some = λ below′. absurd (omega (arith, below′)) })
+      rw (← (the-first (reached * times) limit h)) (omega (arith, many), record { within = h; some = λ below′. omega (arith, many) })
+  | no h ↦ rw (← (the-second (reached * times) limit (omega (arith, h)))) (below, record { within = omega arith; some = λ below′. absurd (omega (arith, below′)) })
 ]
