@@ -113,6 +113,11 @@ size_t hunekowha_write(size_t height, size_t width, const int64_t *cells, size_t
  *   answer[4]  how many boards were visited
  *   answer[5]  the fewest lines of a written layout, 481 where none was written
  * The bytes of the buffer after the last record keep their values.
+ *
+ * A search that was spent may be started again. A second call for the same grid, with at least the limit and at least the
+ * buffer_length of the first, whatever the two buffers hold before: the records that the first has written are, byte for byte,
+ * the first ones that the second writes; its answer[4] is no lower and its answer[5] no higher; and if the first list was
+ * complete, the second has the same list and the same answer.
  */
 size_t hunekowha_solve(size_t height, size_t width, const int64_t *cells, size_t cells_length, uint64_t limit,
                        uint8_t *buffer, size_t buffer_length, uint64_t *answer, size_t answer_length);

@@ -2,16 +2,15 @@
 -- limit into the buffer as it was at first (`headed-again`). And a run that is not spent has the head and the buffer of any higher limit
 -- (`headed-last`). Both rest on what a second run keeps of the first (exact's TwoRuns.antt).
 use Prim.Native.Nat.{ℕ, zero, suc, _+_, _*_, _≤_}
-use mathlib.Core.Path.{_≡_, refl, sym, ap, _∙_}
+use mathlib.Core.Path.{_≡_, refl, ap, _∙_}
 use mathlib.Core.List.{List, [], _++_}
 use native.Mathlib.Omega.{arith}
 use lib.ListN.{length, take, drop, length-append, length-drop}
 use lib.Seq.{drop-drop, drop-append-add}
-use Rattle.rules.specs.Grid.{grid-of, places, Accepted}
+use Rattle.rules.specs.Grid.{grid-of, places}
 use Rattle.model.specs.HasRecord.{concat-append, concat-length}
-use Rattle.model.specs.Search.{scan, search, fewest, concat, Run}
+use Rattle.model.specs.Search.{Run, scan, search, concat}
 use Rattle.model.specs.GridFile.{Reading, read}
-use Rattle.model.specs.Printed.{Found}
 use Rattle.model.specs.Routes.{found-within}
 use Rattle.exact.specs.Events.{Beginning}
 use Rattle.exact.specs.Runs.{records-fit}

@@ -4,7 +4,7 @@ use mathlib.Core.Path.{_≡_, refl}
 use mathlib.Core.List.{List, [], _∷_, _++_}
 use lib.ListN.{replicate}
 use lib.IntN.{ℤ, pos}
-use Rattle.rules.specs.Grid.{cell-of, blank-cell, hole-cell, grid-of, place-at, parity}
+use Rattle.rules.specs.Grid.{cell-of, hole-cell, grid-of, place-at, parity}
 use Rattle.rules.specs.Record.{drawing-of, field, record-lines, tabulate}
 use Rattle.model.specs.Bounds.{is-size, most-digits}
 use Rattle.model.specs.Refusals.{is-cell, first-bad-cell, grid-refusal}
@@ -16,11 +16,10 @@ use Rattle.model.specs.Routes.{found-within}
 use Rattle.model.specs.JoinedEnds.{unjoinable, joined-ends, put-end, put-end-at}
 use Rattle.model.specs.Board.{fresh, prepared, shut-at, shut, bare, decide, check, after-store, cannot-join, join-ends, check-items, settled, decide-first, degree, undecideds, lines, keep-aparts, around, do-item, do-items, shape-items, barred, set-flag, set-edge, enough}
 use Rattle.model.specs.Search.{declined-search, scan, search, search-from, fewest, concat, backtrack, try, degree-so-far, next-pad, board-record}
+use Rattle.model.specs.SmallGrids.{o}
+use Rattle.model.specs.KnownJudged.{pair, below}
 use Rattle.model.specs.Common.{Common, all-have, none-has, common-byte, common-table, common}
 use Rattle.model.specs.CommonText.{row-lines, table-lines, common-found-text, common-text}
-
-abbrev pub o : ℤ
-o = blank-cell
 
 -- four pads of floor 5: two wirings, side by side, and one above the other
 abbrev pub four : List ℤ
@@ -31,13 +30,6 @@ beside = 0 ∷ 1 ∷ 0 ∷ 2 ∷ 0 ∷ 2 ∷ 0 ∷ 1 ∷ 0 ∷ []
 
 abbrev pub above : List ℕ
 above = 0 ∷ 2 ∷ 0 ∷ 1 ∷ 0 ∷ 1 ∷ 0 ∷ 2 ∷ 0 ∷ []
-
--- a pair in opposite corners, and its one wiring
-abbrev pub pair : List ℤ
-pair = pos 5 ∷ o ∷ o ∷ pos 5 ∷ []
-
-abbrev pub below : List ℕ
-below = 0 ∷ 2 ∷ 0 ∷ 1 ∷ 0 ∷ 2 ∷ 0 ∷ 1 ∷ 0 ∷ []
 
 -- lent bytes, by which a change would show
 abbrev pub lent : ℕ → List ℕ

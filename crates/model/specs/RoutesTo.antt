@@ -2,7 +2,7 @@
 -- with that limit and a larger answer buffer. An argument that is no limit is refused with a line that says so. And what it says on standard
 -- error after each of its runs. It rests on Routes.antt.
 use Prim.Native.Nat.{ℕ, _+_, _*_, _-_}
-use mathlib.Core.Bool.{Bool, true, false, _&&_}
+use mathlib.Core.Bool.{Bool, true, _&&_}
 use mathlib.Core.List.{List, [], _∷_, _++_}
 use lib.Dec.{leb}
 use lib.ListN.{length}

@@ -8,7 +8,7 @@ use mathlib.Core.List.{List, [], _++_, append-assoc}
 use native.Mathlib.Omega.{arith}
 use native.Mathlib.Nat.{zero-mul}
 use native.Mathlib.Decide.{ℕ-discrete}
-use lib.ListN.{length, take, drop, getD, length-append, List·getD-append}
+use lib.ListN.{length, take, getD, length-append, List·getD-append}
 use lib.Seq.{take-at}
 use lib.IntN.{ℤ}
 use Rattle.rules.specs.Grid.{grid-of, places, Accepted}
@@ -33,8 +33,9 @@ pub record SameResult (first second : Solved) : Type 0 where
   pub fewest-lines : second .fewest-lines ≡ first .fewest-lines
 
 pub record SecondRun (height width : ℕ) (first second : Solved) : Type 0 where
-  -- the first list is a beginning of the second: its records are the first records of the second, byte for byte
+  -- the first list is a beginning of the second: its records, which lie in its buffer, are the first records of the second, byte for byte
   pub no-fewer-layouts : first .layouts ≤ second .layouts
+  pub in-buffer : first .layouts * places height width ≤ length (first .buffer)
   pub same-bytes : take (first .layouts * places height width) (second .buffer) ≡ take (first .layouts * places height width) (first .buffer)
   pub same-records : (k : ℕ) → k < first .layouts → record-at height width (second .layouts) k (second .buffer) ≡ record-at height width (first .layouts) k (first .buffer)
   -- visited never falls, fewest never rises
@@ -56,6 +57,7 @@ module _ (height width : ℕ) (cells : List ℤ) (limit limit′ : ℕ) (higher 
     refused-twice : SecondRun height width first second
     refused-twice = rw (solve-is-declined height width cells refused limit buffer, solve-is-declined height width cells refused limit′ buffer′) (record {
       no-fewer-layouts = omega arith;
+      in-buffer = rw zero-mul (omega arith);
       same-bytes = rw zero-mul refl;
       same-records = λ k below. absurd (omega (arith, below));
       visited-never-falls = omega arith;
@@ -86,8 +88,11 @@ module _ (height width : ℕ) (cells : List ℤ) (limit limit′ : ℕ) (higher 
       more-layouts : length (two .records) ≡ length (one .records ++ more)
       more-layouts = ap length (on .list-goes-on .parted)
 
+      its-length : length (concat (one .records)) ≡ length (one .records) * places height width
+      its-length = concat-length (places height width) (one .records) (records-long height width cells accepted limit buffer)
+
       list-bytes : (rest : List ℕ) → take (length (one .records) * places height width) (concat (one .records) ++ rest) ≡ concat (one .records)
-      list-bytes rest = take-at (concat (one .records)) rest _ (concat-length (places height width) (one .records) (records-long height width cells accepted limit buffer))
+      list-bytes rest = take-at (concat (one .records)) rest _ its-length
 
       begins : (rest : List ℕ) → concat (two .records) ++ rest ≡ concat (one .records) ++ (concat more ++ rest)
       begins rest = ap (λ (l : List (List ℕ)). concat l ++ rest) (on .list-goes-on .parted) ∙ ap (λ (l : List ℕ). l ++ rest) (concat-append (one .records) more) ∙ append-assoc (concat (one .records)) (concat more) rest
@@ -100,6 +105,7 @@ module _ (height width : ℕ) (cells : List ℤ) (limit limit′ : ℕ) (higher 
       accepted-twice : SecondRun height width first second
       accepted-twice = record {
         no-fewer-layouts = rw (solve-is-run height width cells accepted limit buffer, solve-is-run height width cells accepted limit′ buffer′, more-layouts, length-append) (omega arith);
+        in-buffer = rw (solve-is-run height width cells accepted limit buffer, length-append) (omega (arith, its-length));
         same-bytes = rw (solve-is-run height width cells accepted limit buffer, solve-is-run height width cells accepted limit′ buffer′, begins) (list-bytes _ ∙ sym (list-bytes _));
         same-records = λ k below. let low : k < length (one .records) = (rw (solve-is-run height width cells accepted limit buffer) at below) in
             record-k limit′ buffer′ k (rw (more-layouts, length-append) (omega (arith, low)))
