@@ -1,5 +1,5 @@
--- The limits of the runs: the first is that of `routes`, each next one is four times as large, and none is larger than the last. And what a text says,
--- as the model's limit. Assumes nothing.
+-- The limits of the runs: the first is that of `routes`, each next one is four times as large, and none is larger than the last, which is reached in the end.
+-- And what a text says, as the model's limit (RoutesTo.antt there).
 use Prim.Native.Nat.{ℕ, _*_, _≤_, _<_}
 use mathlib.Core.Path.{_≡_, refl}
 use native.Mathlib.Omega.{arith}
@@ -16,6 +16,8 @@ abbrev pub says : Limit → model.Limit
 says (Boards limit) = model.boards limit
 says NoLimit = model.no-limit
 
+-- ## The limits of the runs
+
 abbrev pub first-limit : ℕ → ℕ
 first-limit limit = least routes-limit limit
 
@@ -25,6 +27,7 @@ times = 4
 abbrev pub next-limit : (reached limit : ℕ) → ℕ
 next-limit reached limit = least (reached * times) limit
 
+-- the smaller of two numbers is the first or the second
 pub the-first : (a b : ℕ) → a ≤ b → a ≡ least a b
 the-first a b h = rw (le-leb a b h, least) refl
 
