@@ -5,8 +5,8 @@ use mathlib.Core.List.{List}
 use Prim.Native.Nat.{ℕ, _+_, _-_}
 use lib.ListN.{getD, drop}
 use Rattle.model.specs.Bounds.{is-size}
-use Rattle.model.specs.GridFile.{start, read-from, read, no-cells}
-use Rattle.reading.specs.FieldSteps.{field-start, declined-reading, header-too-short, header-goes-on, header-too-long, bad-height, bad-width, header-ends}
+use Rattle.model.specs.GridFile.{start, declined-reading, read-from, read, no-cells}
+use Rattle.reading.specs.FieldSteps.{field-start, header-too-short, header-goes-on, header-too-long, bad-height, bad-width, header-ends}
 use Rattle.gridfile.specs.Fields.{field-at}
 use Rattle.gridfile.specs.declared.Field.the-variants.{Value, Refused}
 use Rattle.gridfile.proofs.ReadLaws.{Ended, value-ended, comma-there, header-read, by-refusal, by-ending}

@@ -16,8 +16,8 @@ use borrow.Author.Tests.{ltb-false, ne-eqb, eqb-true}
 use Rattle.rules.specs.Grid.{largest-code}
 use Rattle.model.specs.Bounds.{most-digits}
 use Rattle.model.specs.GridFile as model
-use Rattle.model.specs.GridFile.{Standing, is-digit, is-comma, is-line-end, is-hole-sign, begins-hole, is-allowed, disallowed-number, is-zero-alone, in-header, is-complete, declined, read-from, no-cells}
-use Rattle.reading.specs.FieldSteps.{Part, some-digits, hole-alone, field-start, in-field, field-ending, declined-reading, drop-next, place-inside, byte-there, byte-refused, end-early, still-open, refusal-15, refusal-2, refusal-disallowed, refusal-3, digit-read, hole-read, row-open, header-open}
+use Rattle.model.specs.GridFile.{Standing, is-digit, is-comma, is-line-end, is-hole-sign, begins-hole, is-allowed, disallowed-number, is-zero-alone, in-header, is-complete, declined-reading, declined, read-from, no-cells}
+use Rattle.reading.specs.FieldSteps.{Part, some-digits, hole-alone, field-start, in-field, field-ending, drop-next, place-inside, byte-there, byte-refused, end-early, still-open, refusal-15, refusal-2, refusal-disallowed, refusal-3, digit-read, hole-read, row-open, header-open}
 use Rattle.gridfile.specs.Fields.{ended-field, field-from, field-at, hole-from, row-field-at, field-number, part-of}
 use Rattle.gridfile.specs.declared.Field.{Field}
 use Rattle.gridfile.specs.declared.Field.the-variants.{Value, Refused}
@@ -38,11 +38,11 @@ module _ (s : Standing) (open-yet : is-complete s ≡ false) (bytes : List ℕ) 
     here = in-field s part
 
     three : is-comma byte || is-line-end byte ≡ true → ltb largest-code (part .value) ≡ true → read-from here (byte ∷ rest) ≡ declined-reading 3 (s .line) (s .field)
-    unfolding declined declined-reading in-field
+    unfolding declined in-field
     three c v = byte-refused here byte rest (refusal-3 s open-yet byte part c v)
 
     one-or-thirteen : is-allowed here byte ≡ false → read-from here (byte ∷ rest) ≡ declined-reading (disallowed-number (part .digits)) (s .line) (s .field)
-    unfolding disallowed-number declined declined-reading in-field
+    unfolding disallowed-number declined in-field
     one-or-thirteen a = go (eqb (part .digits) 0) refl
       where
         go : (first : Bool) → eqb (part .digits) 0 ≡ first → read-from here (byte ∷ rest) ≡ declined-reading (disallowed-number (part .digits)) (s .line) (s .field)
@@ -73,7 +73,7 @@ module _ (s : Standing) (open-yet : is-complete s ≡ false) (bytes : List ℕ) 
 
     -- from any byte of the field on
     rest-read : (rest : List ℕ) (at value : ℕ) → drop at bytes ≡ rest → from ≤ at → read-from (in-field s (some-digits (at - from) value)) rest ≡ field-read s bytes from false (field-from rest at (at - from) value)
-    unfolding declined declined-reading field-read field-from in-field is-allowed
+    unfolding declined field-read field-from in-field is-allowed
     rest-read [] at value e h = end-early (in-field s (some-digits (at - from) value)) (still-open s open-yet (some-digits (at - from) value))
     rest-read (byte ∷ rest) at value e h = go (is-digit byte) (is-zero-alone (at - from) value) (eqb (at - from) most-digits) refl refl refl (rest-read rest (at + 1) (value * 10 + (byte - 48)) (drop-next bytes byte rest at e) (omega arith))
       where
@@ -91,7 +91,7 @@ module _ (s : Standing) (open-yet : is-complete s ≡ false) (bytes : List ℕ) 
 
   -- a field after the sign of a hole
   hole-ended : (rest : List ℕ) (at : ℕ) → drop at bytes ≡ rest → read-from (in-field s hole-alone) rest ≡ field-read s bytes from true (hole-from rest at)
-  unfolding declined declined-reading field-read hole-from in-field is-allowed begins-hole
+  unfolding declined field-read hole-from in-field is-allowed begins-hole
   hole-ended [] at e = end-early (in-field s hole-alone) (still-open s open-yet hole-alone)
   hole-ended (byte ∷ rest) at e = ended-read true hole-alone byte rest at e refl (λ c l. simp (c, l, and-false))
 

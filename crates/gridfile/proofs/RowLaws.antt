@@ -13,8 +13,8 @@ use Rattle.rules.specs.Grid.{largest-code}
 use Rattle.model.specs.Bounds.{is-size}
 use Rattle.model.specs.RefusalLaws.{size-of-test}
 use Rattle.model.specs.GridFile as model
-use Rattle.model.specs.GridFile.{is-hole-sign, is-complete, in-header, refusal, accepted, declined, read-from, no-cells}
-use Rattle.reading.specs.FieldSteps.{Part, field-start, field-ending, cell-of, declined-reading, byte-refused, end-complete, row-too-short, row-ends, row-too-long, row-goes-on}
+use Rattle.model.specs.GridFile.{is-hole-sign, is-complete, in-header, refusal, accepted, declined-reading, declined, read-from, no-cells}
+use Rattle.reading.specs.FieldSteps.{Part, field-start, field-ending, cell-of, byte-refused, end-complete, row-too-short, row-ends, row-too-long, row-goes-on}
 use Rattle.gridfile.specs.Fields.{row-field-at, part-of}
 use Rattle.gridfile.specs.declared.Field.the-variants.{Value, Refused}
 use Rattle.gridfile.proofs.ReadLaws.{Ended, comma-there, FieldRead, row-read, by-refusal, by-ending}
@@ -118,7 +118,7 @@ module _ (bytes : List ℕ) (from height width : ℕ) (cells : List ℤ) (index 
   all-read = simp (ne-eqb line 1 (λ (e : line ≡ 1). omega (arith, r .in-rows)), eq-eqb line (height + 2) (omega (arith, r .within, none-left)))
 
   pub byte-after : at < length bytes → declined-reading 6 line field ≡ read-from (field-start 2 1 height width no-cells) (drop from bytes)
-  unfolding refusal declined declined-reading field-start
+  unfolding refusal declined field-start
   byte-after h = sym (rw (drop-cons bytes at 0 h) (byte-refused (field-start line field height width cells) (getD bytes at 0) (drop (suc at) bytes) {number = 5} (simp all-read))) ∙ r .same
 
   pub file-ends : length bytes ≤ at → record { number = 0; line = 0; field = 0; height = height; width = width; cells = cells } ≡ read-from (field-start 2 1 height width no-cells) (drop from bytes)

@@ -8,10 +8,10 @@ ghost use Prim.Native.Nat.{_+_, _-_, _*_, _≤_, _<_};
 ghost use lib.ListN.{length, getD, drop, set};
 ghost use Rattle.rules.specs.Grid.{largest-code};
 ghost use Rattle.model.specs.Bounds.{is-size};
-ghost use Rattle.model.specs.GridFile.{is-digit, is-hole-sign, disallowed-number, is-zero-alone, no-cells, read-from, read};
+ghost use Rattle.model.specs.GridFile.{is-digit, is-hole-sign, disallowed-number, is-zero-alone, no-cells, declined-reading, read-from, read};
 ghost use Rattle.model.specs.Writing.{cell-text, rows-text, grid-text, write};
 ghost use Rattle.text.specs.Put.{Put};
-ghost use Rattle.reading.specs.FieldSteps.{field-start, cell-of, declined-reading};
+ghost use Rattle.reading.specs.FieldSteps.{field-start, cell-of};
 ghost use Rattle.gridfile.specs.Fields.{field-at, row-field-at, ended-field, field-number, part-of};
 ghost use Rattle.gridfile.specs.Answers.{reading-says, writing-says};
 
@@ -147,7 +147,7 @@ fn field_number(field: Field) -> u8
 }
 
 // 256 blank cells.
-fn no_cells() -> [i64; 256]
+pub fn no_cells() -> [i64; 256]
     ensures { λ r. ⌜ r ≡ no-cells ⌝ }
 {
     [grid::BLANK; 256]
@@ -168,7 +168,7 @@ fn store_cell(cells: &mut [i64; 256], index: usize, hole: bool, digits: usize, v
 }
 
 // The answer of a declined file.
-fn declined(number: u8, line: usize, field: usize) -> Reading
+pub fn declined(number: u8, line: usize, field: usize) -> Reading
     ensures { λ r. ⌜ reading-says r ≡ declined-reading number line field ⌝ }
 {
     Reading {

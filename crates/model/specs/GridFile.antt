@@ -4,8 +4,8 @@
 use Rattle.model.specs.Choice.{if_then_else_}
 use Prim.Native.Nat.{ℕ, zero, suc, _+_, _*_, _-_}
 use mathlib.Core.Bool.{Bool, true, false, not, _&&_, _||_}
-use mathlib.Core.List.{List, [], _∷_}
-use lib.ListN.{set, replicate}
+use mathlib.Core.List.{List, [], _∷_, _++_}
+use lib.ListN.{length, set, replicate}
 use lib.IntN.{ℤ, pos, negsuc}
 use lib.Dec.{eqb, ltb, leb}
 use Rattle.rules.specs.Grid.{largest-code}
@@ -187,17 +187,19 @@ unfoldable pub accepted : Standing → Reading
 accepted s =
     record { number = 0; line = 0; field = 0; height = s .height; width = s .width; cells = s .cells }
 
+-- a grid: H, W, its cells, and blank past them
+abbrev pub grid-reading : ℕ → ℕ → List ℤ → Reading
+grid-reading height width cells =
+    record { number = 0; line = 0; field = 0; height = height; width = width; cells = cells ++ replicate (256 - length cells) blank }
+
+-- a refusal at a line and a field
+abbrev pub declined-reading : ℕ → ℕ → ℕ → Reading
+declined-reading number line field =
+    record { number = number; line = line; field = field; height = 0; width = 0; cells = no-cells }
+
 -- a refusal names the field being read or ended, and 5 the first bad one of the header
 unfoldable pub declined : ℕ → Standing → Reading
-declined number s =
-    record {
-      number = number;
-      line = s .line;
-      field = if eqb number 5 then bad-size s else s .field;
-      height = 0;
-      width = 0;
-      cells = no-cells;
-    }
+declined number s = declined-reading number (s .line) (if eqb number 5 then bad-size s else s .field)
 
 -- 6 also where the file ends before the last row does
 unfoldable pub read-from : Standing → List ℕ → Reading

@@ -18,12 +18,14 @@ pub mod GridFile
 pub mod Decimal
 pub mod DecimalLaws
 pub mod Writing
+pub mod Packed
 pub mod Printed
 pub mod Routes
 pub mod RoutesTo
 pub mod LimitLaws
 pub mod KnownFiles
 pub mod KnownWrites
+pub mod KnownPacked
 pub mod KnownCalls
 pub mod Known
 pub mod KnownRoutes

@@ -16,7 +16,7 @@ use borrow.Author.Tests.{leb-true, lt-ltb, le-ltb, ne-eqb, eq-eqb, eqb-true}
 use Rattle.rules.specs.Grid.{largest-code}
 use Rattle.rules.specs.Tests.{both, either}
 use Rattle.model.specs.Bounds.{is-size, most-digits}
-use Rattle.model.specs.GridFile.{Standing, Reading, is-digit, is-comma, is-line-end, is-hole-sign, begins-hole, is-allowed, disallowed-number, is-zero-alone, blank, hole, no-cells, is-complete, in-header, fields-due, field-cell, bad-size, refusal, with-digit, with-hole, begun, after, accepted, declined, read-from}
+use Rattle.model.specs.GridFile.{Standing, Reading, is-digit, is-comma, is-line-end, is-hole-sign, begins-hole, is-allowed, disallowed-number, is-zero-alone, blank, hole, no-cells, is-complete, in-header, fields-due, field-cell, bad-size, refusal, with-digit, with-hole, begun, after, accepted, declined-reading, declined, read-from}
 
 -- ## Where the reading stands
 
@@ -68,18 +68,6 @@ field-ending line field height width cells part = in-field (field-start line fie
 -- the cell that a field stands for: `#` for a hole, empty for blank
 unfoldable pub cell-of : Part → ℤ
 cell-of part = if part .drilled then hole else if eqb (part .digits) 0 then blank else pos (part .value)
-
--- a refusal at a line and a field, beside 0, 0 and all blank
-unfoldable pub declined-reading : ℕ → ℕ → ℕ → Reading
-declined-reading number line field =
-    record {
-      number = number;
-      line = line;
-      field = field;
-      height = 0;
-      width = 0;
-      cells = no-cells;
-    }
 
 -- ## One byte
 
@@ -191,7 +179,7 @@ module _ (line field height width : ℕ) (cells : List ℤ) (in-rows : 2 ≤ lin
     here-open = still-open (field-start line field height width cells) row-open part
 
     pub row-too-short : field < width → read-from (field-ending line field height width cells part) (10 ∷ rest) ≡ declined-reading 4 line field
-    unfolding refusal declined declined-reading field-start in-field in-header fields-due is-digit is-comma is-line-end is-allowed
+    unfolding refusal declined field-start in-field in-header fields-due is-digit is-comma is-line-end is-allowed
     row-too-short h = byte-refused _ 10 rest (simp (here-open, le-ltb _ _ sound, no-header, lt-ltb _ _ h))
 
     pub row-ends : width ≤ field → read-from (field-ending line field height width cells part) (10 ∷ rest) ≡ read-from (field-start (line + 1) 1 height width (set cells ((line - 2) * width + (field - 1)) (cell-of part))) rest
@@ -199,7 +187,7 @@ module _ (line field height width : ℕ) (cells : List ℤ) (in-rows : 2 ≤ lin
     row-ends h = byte-accepted _ 10 rest (simp (here-open, le-ltb _ _ sound, no-header, le-ltb _ _ h)) ∙ simp no-header
 
     pub row-too-long : field ≡ width → read-from (field-ending line field height width cells part) (44 ∷ rest) ≡ declined-reading 4 line field
-    unfolding refusal declined declined-reading field-start in-field in-header fields-due is-digit is-comma is-line-end is-allowed
+    unfolding refusal declined field-start in-field in-header fields-due is-digit is-comma is-line-end is-allowed
     row-too-long h = byte-refused _ 44 rest (simp (here-open, le-ltb _ _ sound, no-header, eq-eqb _ _ h))
 
     pub row-goes-on : (field ≡ width → ⊥) → read-from (field-ending line field height width cells part) (44 ∷ rest) ≡ read-from (field-start line (field + 1) height width (set cells ((line - 2) * width + (field - 1)) (cell-of part))) rest
@@ -213,7 +201,7 @@ header-open field height = refl
 
 module _ (digits value : ℕ) (rest : List ℕ) (sound : value ≤ largest-code) where
   pub header-too-short : read-from (field-ending 1 1 0 0 no-cells (some-digits digits value)) (10 ∷ rest) ≡ declined-reading 4 1 1
-  unfolding refusal declined declined-reading field-start in-field is-complete in-header fields-due is-digit is-comma is-line-end is-allowed
+  unfolding refusal declined field-start in-field is-complete in-header fields-due is-digit is-comma is-line-end is-allowed
   header-too-short = byte-refused _ 10 rest (simp (le-ltb _ _ sound))
 
   pub header-goes-on : read-from (field-ending 1 1 0 0 no-cells (some-digits digits value)) (44 ∷ rest) ≡ read-from (field-start 1 2 value 0 no-cells) rest
@@ -222,15 +210,15 @@ module _ (digits value : ℕ) (rest : List ℕ) (sound : value ≤ largest-code)
 
   module _ (height : ℕ) where
     pub header-too-long : read-from (field-ending 1 2 height 0 no-cells (some-digits digits value)) (44 ∷ rest) ≡ declined-reading 4 1 2
-    unfolding refusal declined declined-reading field-start in-field is-complete in-header fields-due is-digit is-comma is-line-end is-allowed
+    unfolding refusal declined field-start in-field is-complete in-header fields-due is-digit is-comma is-line-end is-allowed
     header-too-long = byte-refused _ 44 rest (simp (le-ltb _ _ sound))
 
     pub bad-height : is-size height ≡ false → read-from (field-ending 1 2 height 0 no-cells (some-digits digits value)) (10 ∷ rest) ≡ declined-reading 5 1 1
-    unfolding refusal declined declined-reading field-start in-field bad-size is-complete in-header fields-due is-digit is-comma is-line-end is-allowed
+    unfolding refusal declined field-start in-field bad-size is-complete in-header fields-due is-digit is-comma is-line-end is-allowed
     bad-height h = byte-refused _ 10 rest {number = 4} (simp (le-ltb _ _ sound, h)) ∙ simp h
 
     pub bad-width : is-size height ≡ true → is-size value ≡ false → read-from (field-ending 1 2 height 0 no-cells (some-digits digits value)) (10 ∷ rest) ≡ declined-reading 5 1 2
-    unfolding refusal declined declined-reading field-start in-field bad-size is-complete in-header fields-due is-digit is-comma is-line-end is-allowed
+    unfolding refusal declined field-start in-field bad-size is-complete in-header fields-due is-digit is-comma is-line-end is-allowed
     bad-width h w = byte-refused _ 10 rest {number = 4} (simp (le-ltb _ _ sound, h, w)) ∙ simp (h, w)
 
     pub header-ends : is-size height ≡ true → is-size value ≡ true → read-from (field-ending 1 2 height 0 no-cells (some-digits digits value)) (10 ∷ rest) ≡ read-from (field-start 2 1 height value no-cells) rest

@@ -7,3 +7,7 @@ pub mod FirstFault
 pub mod ReadBack
 pub mod WrittenBack
 pub mod WriteRead
+pub mod PadSteps
+pub mod PackedPads
+pub mod PackedSlices
+pub mod SlicesAndFiles

@@ -19,7 +19,7 @@ use Rattle.model.specs.Bounds.{most-digits}
 use Rattle.model.specs.RefusalLaws.{test-of-size}
 use Rattle.model.specs.Decimal.{digit-byte, decimal}
 use Rattle.model.specs.DecimalLaws.{decimal-short, decimal-long, decimal-length, decimal-some, digit-is-digit}
-use Rattle.model.specs.GridFile.{Standing, Reading, is-zero-alone, blank, hole, no-cells, start, in-header, is-complete, accepted, read-from, read}
+use Rattle.model.specs.GridFile.{Standing, Reading, is-zero-alone, blank, hole, no-cells, start, in-header, is-complete, accepted, grid-reading, read-from, read}
 use Rattle.model.specs.Writing.{cell-text, rows-text, grid-text}
 use Rattle.reading.specs.FieldSteps.{Part, some-digits, hole-alone, field-start, in-field, cell-of, end-complete, digit-read, hole-read, row-open, row-ends, row-goes-on, header-goes-on, header-ends, header-open}
 
@@ -178,10 +178,6 @@ module _ (height width : ℕ) where
       go false t again = rw (t, rows-text) (other-read cell rest cells line field from left first again count (range 0 (omega arith)) (λ v below. range (suc v) (omega arith)) (eqb-false field width t) last)
 
 -- ## The whole text
-
--- the reading of a grid: H, W, its cells, and blank past them
-abbrev pub grid-reading : ℕ → ℕ → List ℤ → Reading
-grid-reading height width cells = record { number = 0; line = 0; field = 0; height = height; width = width; cells = cells ++ replicate (256 - length cells) blank }
 
 module _ (height width : ℕ) (cells : List ℤ) where
   pub text-parts : grid-text height width cells ≡ decimal height ++ 44 ∷ (decimal width ++ 10 ∷ rows-text width 1 cells)

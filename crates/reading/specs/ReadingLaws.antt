@@ -17,7 +17,7 @@ use Rattle.rules.specs.Grid.{Size, largest-code, blank-cell, CellInRange, Accep
 use Rattle.rules.specs.Tests.{both, conflict}
 use Rattle.model.specs.Bounds.{is-size, most-digits}
 use Rattle.model.specs.RefusalLaws.{size-of-test}
-use Rattle.model.specs.GridFile.{Standing, Reading, is-digit, is-comma, is-line-end, is-hole-sign, begins-hole, is-allowed, disallowed-number, is-zero-alone, blank, hole, no-cells, start, in-header, fields-due, is-complete, field-cell, bad-size, refusal, with-digit, with-hole, begun, after, accepted, declined, read-from, read}
+use Rattle.model.specs.GridFile.{Standing, Reading, is-digit, is-comma, is-line-end, is-hole-sign, begins-hole, is-allowed, disallowed-number, is-zero-alone, blank, hole, no-cells, start, in-header, fields-due, is-complete, field-cell, bad-size, refusal, with-digit, with-hole, begun, after, accepted, declined-reading, declined, read-from, read}
 
 -- ## What the number at a byte says
 
@@ -351,9 +351,9 @@ accepted-sound s sound c = record { cell-count = sound .cell-count; in-range = �
           cells-in-range = λ v below. rw (getD-take (s .height * s .width) (s .cells) v blank-cell below) (sound .cells-in-range v);
         }
 
-declined-sound : (number : ℕ) (s : Standing) → SoundReading (declined (suc number) s)
-unfolding declined no-cells blank
-declined-sound number s =
+pub declined-sound : (number line field : ℕ) → SoundReading (declined-reading (suc number) line field)
+unfolding no-cells blank
+declined-sound number line field =
     record {
       cell-count = length-replicate 256 blank-cell;
       in-range = λ (e : suc number ≡ 0). absurd (omega arith);
@@ -361,17 +361,17 @@ declined-sound number s =
     }
 
 pub read-from-sound : (s : Standing) (bytes : List ℕ) → Sound s → SoundReading (read-from s bytes)
-unfolding read-from
+unfolding read-from declined
 read-from-sound s [] sound = go (is-complete s) refl
   where
     go : (c : Bool) → is-complete s ≡ c → SoundReading (read-from s [])
     go true c = rw (c, read-from) (accepted-sound s sound c)
-    go false c = rw (c, read-from) (declined-sound 5 s)
+    go false c = rw (c, read-from) (declined-sound 5 _ _)
 read-from-sound s (byte ∷ bytes) sound = go (refusal s byte) refl (λ t. read-from-sound (after s byte) bytes t)
   where
     go : (n : ℕ) → refusal s byte ≡ n → (Sound (after s byte) → SoundReading (read-from (after s byte) bytes)) → SoundReading (read-from s (byte ∷ bytes))
     go zero r next = rw (r, read-from) (next (after-sound s sound byte r))
-    go (suc n) r next = rw (r, read-from) (declined-sound n s)
+    go (suc n) r next = rw (r, read-from) (declined-sound n _ _)
 
 -- 256 cells; where the file is accepted, its H, W and first HW cells are a grid in range
 pub read-sound : (bytes : List ℕ) → SoundReading (read bytes)

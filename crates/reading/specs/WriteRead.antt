@@ -15,10 +15,10 @@ use borrow.Author.Tests.{eqb-true, eqb-false, lt-ltb, le-ltb, ltb-true, ltb-fals
 use Rattle.rules.specs.Grid.{Accepted}
 use Rattle.model.specs.Refusals.{grid-refusal}
 use Rattle.model.specs.RefusalLaws.{not-refused, accepted-is-not-refused}
-use Rattle.model.specs.GridFile.{Reading, blank, read}
+use Rattle.model.specs.GridFile.{Reading, blank, grid-reading, read}
 use Rattle.model.specs.Writing.{grid-text, turned-away, written, write}
 use Rattle.reading.specs.ReadingLaws.{read-sound}
-use Rattle.reading.specs.ReadBack.{grid-reading, text-is-read, longest-text}
+use Rattle.reading.specs.ReadBack.{text-is-read, longest-text}
 use Rattle.reading.specs.WrittenBack.{pads-read, text-is-file}
 
 -- ## When a grid is written

@@ -1,5 +1,4 @@
 -- `gridfile::declined` meets its contract, from that of `no_cells`. Assumes nothing.
-use Rattle.reading.specs.FieldSteps.{declined-reading}
 use borrow.Author.Needs.{needs}
 use Rattle.gridfile.proofs.declined.Statement.{statement}
 use Rattle.gridfile.proofs.declined.Tie as tie
@@ -8,7 +7,6 @@ no-cells-requires : tie.Need-no-cells-requires
 no-cells-requires c κs = search needs
 
 returns : tie.Need-returns
-unfolding declined-reading
 returns c = rw (c .no-cells .ensures)
 
 pub declined-spec : {M : Type 1} → statement M
