@@ -1,81 +1,11 @@
 // Reads the grid files of standard input, each behind its length in two bytes, and prints the answer of each: the line of a
-// refused file, or the grid as it is written back. oracle/gridfile_cases.py makes the input and what must be printed.
-ghost use Prim.Native.Nat.{_+_, _*_, _≤_, _<_};
-ghost use lib.ListN.{length};
+// refused file, or the grid as it is written back; the crate `reader_cases` does this. oracle/gridfile_cases.py makes the input
+// and what must be printed.
 use libc::STDIN_FILENO;
-use libc::STDOUT_FILENO;
-
-fn wide(byte: u8) -> usize
-    ensures { λ r. ⌜ r < 256 ⌝ }
-{
-    byte as usize
-}
-
-fn print_refusal(number: u8, line: usize, field: usize) {
-    let text = printed::refusal_line(number, line as u64, field as u64);
-    let bytes = text.bytes;
-    let length = text.length;
-    io::write_all(STDOUT_FILENO, &bytes[..length]);
-}
-
-// The grid of an accepted file, as it is written back.
-fn print_grid(height: usize, width: usize, cells: &[i64]) {
-    let mut text = [0; gridfile::LONGEST_TEXT];
-    let writing = gridfile::write(height, width, cells, &mut text);
-    let length = writing.length;
-    io::write_all(STDOUT_FILENO, &text[..length]);
-}
-
-// A line for each cell past the pads that is not blank.
-fn print_past(cells: &[i64], pads: usize) {
-    let mut index = pads;
-    while index < cells.len() {
-        if cells[index] != grid::BLANK {
-            io::write_all(STDOUT_FILENO, b"past\n");
-        }
-        index += 1;
-    }
-}
-
-fn print_answer(file: &[u8]) {
-    let reading = gridfile::read(file);
-    if reading.number != 0 {
-        print_refusal(reading.number, reading.line, reading.field);
-        return;
-    }
-    let cells = reading.cells;
-    let pads = reading.height * reading.width;
-    print_grid(reading.height, reading.width, &cells[..pads]);
-    print_past(&cells, pads);
-}
-
-// The case at a place; the place after it, or the end where the input stops short.
-fn run_case(input: &[u8], at: usize) -> usize
-    requires { ⌜ at < length (now input) ⌝ }
-    ensures { λ r. ⌜ (at < r) × (r ≤ length (now (input .entry))) ⌝ }
-{
-    if input.len() - at < 2 {
-        return input.len();
-    }
-    let long = wide(input[at]) * 256 + wide(input[at + 1]);
-    let start = at + 2;
-    if input.len() - start < long {
-        return input.len();
-    }
-    let end = start + long;
-    print_answer(&input[start..end]);
-    end
-}
-
-fn run_all(input: &[u8]) {
-    let mut at = 0;
-    while at < input.len() {
-        at = run_case(input, at);
-    }
-}
+use reader_cases::Reader;
 
 fn main() {
     let mut input = io::large_buffer();
     let n = io::read_full(STDIN_FILENO, &mut input);
-    run_all(&input[..n]);
+    reader_cases::run_all(&input[..n], Reader::File);
 }

@@ -12,11 +12,11 @@ use lib.IntN.{ℤ}
 use borrow.Author.Tests.{le-leb, lt-leb, leb-true}
 use Rattle.rules.specs.Tests.{both}
 use Rattle.model.specs.Bounds.{is-size}
-use Rattle.model.specs.GridFile.{Reading, read}
+use Rattle.model.specs.GridFile.{Reading}
 use Rattle.model.specs.Writing.{Writing, write}
 use Rattle.model.specs.Records.{record-length, has-record, record-at}
 use Rattle.model.specs.Judge.{Judged, judge}
-use Rattle.hunekowha.specs.Lent.{written, read-numbers, read-gives, write-numbers, write-gives, record-place, record-gives, judge-numbers, judge-gives, solve-numbers, solve-gives, common-gives}
+use Rattle.hunekowha.specs.Lent.{written, ReadGives, read-numbers, reading-gives, write-numbers, write-gives, record-place, record-gives, judge-numbers, judge-gives, solve-numbers, solve-gives, common-gives}
 use Rattle.model.specs.Search.{Solved, solve}
 use Rattle.model.specs.Common.{Common, common}
 
@@ -25,21 +25,25 @@ pub front : {A : Type 0} (old new : List A) → paste old 0 new (length new) ≡
 front old new = rw (take-length, zero-add)
 
 -- READ
-module _ (file answer : List ℕ) (cells : List ℤ) where
-  pub read-short-answer : length answer < 5 → read-gives file answer cells ≡ record { returned = 0; answer = answer; cells = cells }
-  unfolding read-gives
+module _ (reading : Reading) (answer : List ℕ) (cells : List ℤ) where
+  pub read-short-answer : length answer < 5 → reading-gives reading answer cells ≡ record { returned = 0; answer = answer; cells = cells }
+  unfolding reading-gives
   read-short-answer short = rw (lt-leb 5 (length answer) short)
 
-  pub read-short-cells : 5 ≤ length answer → length cells < 256 → read-gives file answer cells ≡ record { returned = 0; answer = answer; cells = cells }
-  unfolding read-gives
+  pub read-short-cells : 5 ≤ length answer → length cells < 256 → reading-gives reading answer cells ≡ record { returned = 0; answer = answer; cells = cells }
+  unfolding reading-gives
   read-short-cells long short = rw (le-leb 5 (length answer) long, lt-leb 256 (length cells) short)
 
-  pub read-whole : 5 ≤ length answer → 256 ≤ length cells → (r : Reading) → r ≡ read file → (answer-after : List ℕ) (cells-after : List ℤ)
-      → answer-after ≡ paste answer 0 (read-numbers r) 5 → cells-after ≡ paste cells 0 (r .cells) (length (r .cells))
-      → read-gives file answer cells ≡ record { returned = 5; answer = answer-after; cells = cells-after }
-  unfolding read-gives
-  read-whole long long-cells r same answer-after cells-after put put-cells =
-      rw (le-leb 5 (length answer) long, le-leb 256 (length cells) long-cells, put, put-cells, front cells (r .cells), same)
+  pub read-whole : 5 ≤ length answer → 256 ≤ length cells → (answer-after : List ℕ) (cells-after : List ℤ)
+      → answer-after ≡ paste answer 0 (read-numbers reading) 5 → cells-after ≡ paste cells 0 (reading .cells) (length (reading .cells))
+      → reading-gives reading answer cells ≡ record { returned = 5; answer = answer-after; cells = cells-after }
+  unfolding reading-gives
+  read-whole long long-cells answer-after cells-after put put-cells =
+      rw (le-leb 5 (length answer) long, le-leb 256 (length cells) long-cells, put, put-cells, front cells (reading .cells))
+
+-- the same of a reading that is known to be another
+pub reading-put : {reading same : Reading} (answer : List ℕ) (cells : List ℤ) {gives : ReadGives} → reading ≡ same → reading-gives reading answer cells ≡ gives → reading-gives same answer cells ≡ gives
+reading-put answer cells e put = rw (← e) put
 
 -- WRITE
 module _ (height width : ℕ) (cells : List ℤ) (text answer : List ℕ) where

@@ -7,7 +7,7 @@ use mathlib.Core.List.{List, [], _∷_, _++_}
 use lib.Dec.{leb}
 use lib.ListN.{length, drop}
 use lib.IntN.{ℤ}
-use Rattle.model.specs.GridFile.{Reading, read}
+use Rattle.model.specs.GridFile.{Reading}
 use Rattle.model.specs.Writing.{Writing, write}
 use Rattle.model.specs.Records.{record-length, has-record}
 use Rattle.model.specs.Judge.{Judged, judge}
@@ -20,7 +20,7 @@ use Rattle.solver.specs.Answers.{answer-says}
 abbrev pub written : {A : Type 0} → List A → List A → List A
 written new old = new ++ drop (length new) old
 
--- READ: what is returned, and the two lent slices after the call
+-- READ, a grid file or packed decimal: what is returned, and the two lent slices after the call
 pub record ReadGives : Type 0 where
   pub returned : ℕ
   pub answer : List ℕ
@@ -29,10 +29,10 @@ pub record ReadGives : Type 0 where
 abbrev pub read-numbers : Reading → List ℕ
 read-numbers r = r .number ∷ r .line ∷ r .field ∷ r .height ∷ r .width ∷ []
 
-unfoldable pub read-gives : List ℕ → List ℕ → List ℤ → ReadGives
-read-gives file answer cells =
+unfoldable pub reading-gives : Reading → List ℕ → List ℤ → ReadGives
+reading-gives reading answer cells =
     if leb 5 (length answer) && leb 256 (length cells)
-    then record { returned = 5; answer = written (read-numbers (read file)) answer; cells = written (read file .cells) cells }
+    then record { returned = 5; answer = written (read-numbers reading) answer; cells = written (reading .cells) cells }
     else record { returned = 0; answer = answer; cells = cells }
 
 -- WRITE: what is returned, and the text and the numbers after the call

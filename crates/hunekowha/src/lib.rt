@@ -1,9 +1,12 @@
-// The router for other languages: reading and writing a grid file, the search, the copper common to all layouts, a record's place, a drawing
-// judged, and board calls replayed.
+// The router for other languages: reading and writing a grid file, reading packed decimal, the search, the copper common to all layouts, a
+// record's place, a drawing judged, and board calls replayed.
 // hunekowha.h beside this folder explains each function, argument and number. Each result, and every lent number and byte after the call, is
 // what specs/Lent.antt says. No function asks anything of its caller beyond what the types say.
 ghost use mathlib.Core.Path.{_≡_};
 ghost use Rattle.model.specs.Calls as model;
+ghost use Rattle.model.specs.GridFile.{read};
+ghost use Rattle.model.specs.Packed.{read-packed};
+ghost use Rattle.gridfile.specs.Answers.{reading-says};
 ghost use Rattle.board.specs.Held.{Held, IsBoard, Says};
 ghost use Rattle.hunekowha.specs.Replay.{state-asked, called, block, block-size, all-blocks, Writable, Replayable};
 ghost use Prim.Native.Nat.{_≤_};
@@ -12,14 +15,14 @@ ghost use lib.Seq.{paste};
 use board::Answer;
 use board::Board;
 use grid::Edge;
+use gridfile::Reading;
 use solver::Solved;
-ghost use Rattle.hunekowha.specs.Lent.{read-gives, write-gives, record-gives, judge-gives, search-numbers, solve-gives, common-gives};
+ghost use Rattle.hunekowha.specs.Lent.{reading-gives, write-gives, record-gives, judge-gives, search-numbers, solve-gives, common-gives};
 ghost use Rattle.hunekowha.specs.Replay.{replay-gives};
 
-// Reads a grid file into five numbers and 256 cells.
-#[no_mangle]
-pub extern "C" fn hunekowha_read(file: &[u8], answer: &mut [u64], cells: &mut [i64]) -> usize
-    ensures { λ r. ⌜ read-gives (now (file .entry)) (now (answer .entry)) (now (cells .entry)) ≡ record { returned = r; answer = now (answer .exit); cells = now (cells .exit) } ⌝ }
+// Writes what a reading gives: five numbers and 256 cells.
+fn put_reading(reading: Reading, answer: &mut [u64], cells: &mut [i64]) -> usize
+    ensures { λ r. ⌜ reading-gives (reading-says reading) (now (answer .entry)) (now (cells .entry)) ≡ record { returned = r; answer = now (answer .exit); cells = now (cells .exit) } ⌝ }
 {
     if answer.len() < 5 {
         return 0;
@@ -27,7 +30,6 @@ pub extern "C" fn hunekowha_read(file: &[u8], answer: &mut [u64], cells: &mut [i
     if cells.len() < 256 {
         return 0;
     }
-    let reading = gridfile::read(file);
     let numbers = [
         reading.number as u64,
         reading.line as u64,
@@ -39,6 +41,26 @@ pub extern "C" fn hunekowha_read(file: &[u8], answer: &mut [u64], cells: &mut [i
     let read_cells = reading.cells;
     lend::put_signed(cells, 0, &read_cells);
     5
+}
+
+// Reads a grid file into five numbers and 256 cells.
+#[no_mangle]
+pub extern "C" fn hunekowha_read(file: &[u8], answer: &mut [u64], cells: &mut [i64]) -> usize
+    ensures { λ r. ⌜ reading-gives (read (now (file .entry))) (now (answer .entry)) (now (cells .entry)) ≡ record { returned = r; answer = now (answer .exit); cells = now (cells .exit) } ⌝ }
+{
+    put_reading(gridfile::read(file), answer, cells)
+}
+
+// Reads packed decimal into the same numbers and cells.
+#[no_mangle]
+pub extern "C" fn hunekowha_read_packed(
+    bytes: &[u8],
+    answer: &mut [u64],
+    cells: &mut [i64],
+) -> usize
+    ensures { λ r. ⌜ reading-gives (read-packed (now (bytes .entry))) (now (answer .entry)) (now (cells .entry)) ≡ record { returned = r; answer = now (answer .exit); cells = now (cells .exit) } ⌝ }
+{
+    put_reading(packed::read_packed(bytes), answer, cells)
 }
 
 // Writes a grid as a grid file into the lent text, and three numbers.

@@ -1,35 +1,14 @@
--- `hunekowha_read` meets its contract: a slice is too short, or the reading is written. Assumes nothing.
-use Rattle.hunekowha.proofs.Short.{read-short-answer, read-short-cells, read-whole}
-use lib.ListN.{length}
-use native.Mathlib.Omega.{arith}
-use mathlib.Core.Path.{_≡_}
+-- `hunekowha_read` meets its contract, from those of `gridfile::read` and `put_reading`. Assumes nothing.
 use borrow.Author.Needs.{needs}
+use Rattle.hunekowha.proofs.Short.{reading-put}
 use Rattle.hunekowha.proofs.hunekowha_read.Statement.{statement}
 use Rattle.hunekowha.proofs.hunekowha_read.Tie as tie
-
-returns : tie.Need-returns
-returns c = read-short-answer _ _ _ (c .if1 .taken)
-
-returns-2 : tie.Need-returns-2
-returns-2 c = read-short-cells _ _ _ (c .before .if1 .left) (c .if2 .taken)
 
 read-requires : tie.Need-read-requires
 read-requires c κs = search needs
 
-cast-t9 : tie.Need-cast-t9
-cast-t9 c = search needs
-
-slice-aggregate-put-numbers : tie.Need-slice-aggregate-put-numbers
-slice-aggregate-put-numbers c = search needs
-
-put-numbers-requires : tie.Need-put-numbers-requires
-put-numbers-requires c κs = search needs
-
-slice-aggregate-put-signed : tie.Need-slice-aggregate-put-signed
-slice-aggregate-put-signed c = search needs
-
-put-signed-requires : tie.Need-put-signed-requires
-put-signed-requires c κs = let long : length (c .before .before .before .before .before .before .before .before .before .read .result .cells) ≡ 256 = search needs in omega arith
+put-reading-requires : tie.Need-put-reading-requires
+put-reading-requires c κs = search needs
 
 same-length : tie.Need-same-length
 same-length c = search needs
@@ -37,21 +16,9 @@ same-length c = search needs
 same-length-2 : tie.Need-same-length-2
 same-length-2 c = search needs
 
-returns-3 : tie.Need-returns-3
-returns-3 c = read-whole _ _ _ (c .before .before .before .before .before .before .before .before .before .before .before .before .before .if1 .left) (c .before .before .before .before .before .before .before .before .before .before .before .before .if2 .left) _ (c .before .before .before .before .before .before .before .before .before .before .before .read .ensures) _ _ (c .before .before .before .before .before .before .before .put-numbers .ensures) (c .before .put-signed .ensures)
+returns : tie.Need-returns
+returns c = reading-put _ _ (c .before .before .before .before .before .before .read .ensures) (c .before .before .before .put-reading .ensures)
 
 pub hunekowha-read-spec : {M : Type 1} → statement M
 hunekowha-read-spec =
-    tie.close
-    (tie.spec
-    returns
-    returns-2
-    read-requires
-    cast-t9
-    slice-aggregate-put-numbers
-    put-numbers-requires
-    slice-aggregate-put-signed
-    put-signed-requires
-    same-length
-    same-length-2
-    returns-3)
+    tie.close (tie.spec read-requires put-reading-requires same-length same-length-2 returns)

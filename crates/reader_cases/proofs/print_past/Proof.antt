@@ -1,10 +1,10 @@
--- `gridfile_cases::print_past` is safe and ends: the cells that are left fall. Assumes nothing.
+-- `reader_cases::print_past` is safe and ends: the cells that are left fall. Assumes nothing.
 use lib.ListN.{length}
 use Prim.Native.Nat.{_-_}
 use native.Mathlib.Omega.{arith}
 use borrow.Author.Needs.{needs}
-use Rattle.gridfile_cases.proofs.print_past.Statement.{statement}
-use Rattle.gridfile_cases.proofs.print_past.Tie as tie
+use Rattle.reader_cases.proofs.print_past.Statement.{statement}
+use Rattle.reader_cases.proofs.print_past.Tie as tie
 
 abbrev Inv-loop : tie.InvT-loop
 Inv-loop cells pads index₀ t3 index = Unit {0}

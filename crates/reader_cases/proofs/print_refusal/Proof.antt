@@ -1,9 +1,9 @@
--- `gridfile_cases::print_refusal` is safe: a refusal's line fits its array. Assumes nothing.
+-- `reader_cases::print_refusal` is safe: a refusal's line fits its array. Assumes nothing.
 use lib.Seq.{length-take-le}
 use mathlib.Core.Path.{sym}
 use borrow.Author.Needs.{needs}
-use Rattle.gridfile_cases.proofs.print_refusal.Statement.{statement}
-use Rattle.gridfile_cases.proofs.print_refusal.Tie as tie
+use Rattle.reader_cases.proofs.print_refusal.Statement.{statement}
+use Rattle.reader_cases.proofs.print_refusal.Tie as tie
 
 refusal-line-requires : tie.Need-refusal-line-requires
 refusal-line-requires c κs = search needs

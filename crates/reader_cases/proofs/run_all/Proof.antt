@@ -1,15 +1,15 @@
--- `gridfile_cases::run_all` is safe and ends: each case moves on. Assumes nothing.
+-- `reader_cases::run_all` is safe and ends: each case moves on. Assumes nothing.
 use lib.ListN.{length}
 use Prim.Native.Nat.{_-_, _≤_}
 use native.Mathlib.Omega.{arith}
-use Rattle.gridfile_cases.proofs.run_all.Statement.{statement}
-use Rattle.gridfile_cases.proofs.run_all.Tie as tie
+use Rattle.reader_cases.proofs.run_all.Statement.{statement}
+use Rattle.reader_cases.proofs.run_all.Tie as tie
 
 abbrev Inv-loop : tie.InvT-loop
-Inv-loop input at₀ at = at ≤ length input
+Inv-loop input reader at₀ at = at ≤ length input
 
 abbrev μ-loop : tie.MeasureT-loop
-μ-loop input at₀ at = length input - at
+μ-loop input reader at₀ at = length input - at
 
 loop-holds : tie.Need-loop-holds Inv-loop μ-loop
 loop-holds c = omega arith

@@ -1,4 +1,4 @@
--- `gridfile_cases::print_grid` is safe: what is written lies in its array. Assumes nothing.
+-- `reader_cases::print_grid` is safe: what is written lies in its array. Assumes nothing.
 use Rattle.model.specs.Writing.{Writing, write}
 use Rattle.reading.specs.WriteRead.{written-within}
 use lib.ListN.{length}
@@ -8,8 +8,8 @@ use mathlib.Core.Path.{_≡_, sym}
 use mathlib.Core.List.{List}
 use Prim.Native.Nat.{ℕ, _≤_}
 use borrow.Author.Needs.{needs}
-use Rattle.gridfile_cases.proofs.print_grid.Statement.{statement}
-use Rattle.gridfile_cases.proofs.print_grid.Tie as tie
+use Rattle.reader_cases.proofs.print_grid.Statement.{statement}
+use Rattle.reader_cases.proofs.print_grid.Tie as tie
 
 within : (height width : ℕ) (cells : List ℤ) (buffer : List ℕ) {r : Writing} → r ≡ write height width cells buffer → r .length ≤ length (r .buffer)
 within height width cells buffer e = rw e (written-within height width cells buffer)

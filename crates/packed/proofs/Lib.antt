@@ -1,0 +1,3 @@
+-- Laws that the proofs of the crate cite.
+mod PadLaws
+mod SliceLaws
