@@ -99,13 +99,22 @@ def reading(file):
     return min(found)[2:] if found else (0, 0, 0)
 
 
+def refused(number, line, field):
+    return b"refused,%d,%d,%d\n" % (number, line, field)
+
+
 def answer(file):
     refusal = reading(file)
-    return b"refused,%d,%d,%d\n" % refusal if refusal[0] else file
+    return refused(*refusal) if refusal[0] else file
+
+
+def grid_file(height, width, fields):
+    rows = [b",".join(fields[row * width:(row + 1) * width]) + b"\n" for row in range(height)]
+    return b"%d,%d\n" % (height, width) + b"".join(rows)
 
 
 def grid(height, width, cell=b""):
-    return b"%d,%d\n" % (height, width) + (b",".join([cell] * width) + b"\n") * height
+    return grid_file(height, width, [cell] * (height * width))
 
 
 def in_each_field(text):
@@ -268,18 +277,23 @@ def cases():
         yield bytes(file)
 
 
-def main():
-    folder = sys.argv[1]
-    files = list(cases())
+def write_cases(folder, inputs, answers, most):
+    """Writes `stdin`, each input behind its length, at most so many bytes in all, and `stdout`."""
     with open(folder + "/stdin", "wb") as out:
-        for file in files:
-            out.write(bytes([len(file) // 256, len(file) % 256]) + file)
+        for given in inputs:
+            out.write(len(given).to_bytes(2, "big") + given)
         size = out.tell()
     with open(folder + "/stdout", "wb") as out:
-        for file in files:
-            out.write(answer(file))
-    assert size <= 65536, size
-    print("%d files, %d bytes, %d of them accepted" % (len(files), size, sum(reading(f)[0] == 0 for f in files)))
+        out.write(b"".join(answers))
+    assert size <= most, size
+    accepted = sum(not text.startswith(b"refused") for text in answers)
+    print("%d cases, %d bytes, %d of them accepted" % (len(inputs), size, accepted))
 
 
-main()
+def main():
+    files = list(cases())
+    write_cases(sys.argv[1], files, [answer(file) for file in files], 65536)
+
+
+if __name__ == "__main__":
+    main()

@@ -5,6 +5,7 @@
 //   search H,W CELLS LENT LIMIT ROOM
 //   record H,W LENT COUNT K ROOM
 //   file LENT CELLS-LENT HEXADECIMAL
+//   packed LENT CELLS-LENT HEXADECIMAL
 //   write H,W CELLS LENT ROOM
 //   judge H,W CELLS LENT HEXADECIMAL
 //   common H,W CELLS LENT LIMIT ROOM TABLE FILL
@@ -72,6 +73,15 @@ pub struct Table {
     pub fill: u64,
 }
 
+/// Bytes to be read, and how many numbers are lent for the answer and for the
+/// cells.
+#[derive(Clone, Debug, PartialEq, Eq)]
+pub struct Reading {
+    pub lent: usize,
+    pub cells_lent: usize,
+    pub bytes: Vec<u8>,
+}
+
 #[derive(Clone, Debug, PartialEq, Eq)]
 pub enum Case {
     Board {
@@ -87,11 +97,8 @@ pub enum Case {
         k: usize,
         room: usize,
     },
-    File {
-        lent: usize,
-        cells_lent: usize,
-        bytes: Vec<u8>,
-    },
+    File(Reading),
+    Packed(Reading),
     Write {
         grid: Given,
         lent: usize,
@@ -137,6 +144,13 @@ impl std::fmt::Display for Given {
     }
 }
 
+impl std::fmt::Display for Reading {
+    fn fmt(&self, out: &mut std::fmt::Formatter<'_>) -> std::fmt::Result {
+        let (lent, cells_lent) = (self.lent, self.cells_lent);
+        write!(out, "{lent} {cells_lent} {}", hexadecimal(&self.bytes))
+    }
+}
+
 impl std::fmt::Display for Search {
     fn fmt(&self, out: &mut std::fmt::Formatter<'_>) -> std::fmt::Result {
         let (grid, lent) = (&self.grid, self.lent);
@@ -165,11 +179,8 @@ impl std::fmt::Display for Case {
                 k,
                 room,
             } => write!(out, "record {height},{width} {lent} {count} {k} {room}"),
-            Case::File {
-                lent,
-                cells_lent,
-                bytes,
-            } => write!(out, "file {lent} {cells_lent} {}", hexadecimal(bytes)),
+            Case::File(reading) => write!(out, "file {reading}"),
+            Case::Packed(reading) => write!(out, "packed {reading}"),
             Case::Write { grid, lent, room } => write!(out, "write {grid} {lent} {room}"),
             Case::Judge { grid, lent, bytes } => {
                 write!(out, "judge {grid} {lent} {}", hexadecimal(bytes))
@@ -217,6 +228,19 @@ fn read_hexadecimal(text: &str) -> Vec<u8> {
     (0..text.len() / 2)
         .map(|at| u8::from_str_radix(&text[2 * at..2 * at + 2], 16).expect("hexadecimal"))
         .collect()
+}
+
+/// The bytes of the word at a place, or none where there is no such word.
+fn read_bytes(words: &[&str], at: usize) -> Vec<u8> {
+    words.get(at).copied().map_or(Vec::new(), read_hexadecimal)
+}
+
+fn read_reading(words: &[&str]) -> Reading {
+    Reading {
+        lent: number(words[1]),
+        cells_lent: number(words[2]),
+        bytes: read_bytes(words, 3),
+    }
 }
 
 fn read_calls(text: &str) -> Vec<Asked> {
@@ -274,11 +298,6 @@ fn read_record(words: &[&str]) -> Case {
 pub fn read_case(text: &str) -> Case {
     let words: Vec<&str> = text.split_whitespace().collect();
     let grid = || read_grid(&words);
-    let bytes = |at: usize| {
-        words
-            .get(at)
-            .map_or(Vec::new(), |text| read_hexadecimal(text))
-    };
     match words[0] {
         "board" => Case::Board {
             grid: grid(),
@@ -287,11 +306,8 @@ pub fn read_case(text: &str) -> Case {
         },
         "search" => Case::Search(read_search(&words)),
         "record" => read_record(&words),
-        "file" => Case::File {
-            lent: number(words[1]),
-            cells_lent: number(words[2]),
-            bytes: bytes(3),
-        },
+        "file" => Case::File(read_reading(&words)),
+        "packed" => Case::Packed(read_reading(&words)),
         "write" => Case::Write {
             grid: grid(),
             lent: number(words[3]),
@@ -300,7 +316,7 @@ pub fn read_case(text: &str) -> Case {
         "judge" => Case::Judge {
             grid: grid(),
             lent: number(words[3]),
-            bytes: bytes(4),
+            bytes: read_bytes(&words, 4),
         },
         "common" => {
             let (length, fill) = (number(words[6]), number(words[7]));

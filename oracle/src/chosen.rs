@@ -7,7 +7,7 @@
 
 use crate::answers::{Call, Pads, BLANK, HOLE, LARGEST_ASKED, LARGEST_CODE, LINE, NONE};
 use crate::calls::grids_and_calls;
-use crate::cases::{Asked, Case, Given, Search};
+use crate::cases::{Asked, Case, Given, Reading, Search};
 use crate::expected::{board_room, grid_text, written_text};
 use crate::random::{any_pads, any_plan, wired_pads, Chooser, Random};
 use crate::sequences::checkpoint_calls;
@@ -439,6 +439,15 @@ fn damage(random: &mut Random, file: &mut Vec<u8>) {
     }
 }
 
+/// Bytes to be read, mostly with enough numbers for the answer and the cells.
+pub fn any_reading(random: &mut Random, bytes: Vec<u8>) -> Reading {
+    Reading {
+        lent: any_lent(random, 5),
+        cells_lent: any_lent(random, 256),
+        bytes,
+    }
+}
+
 pub fn file_case(random: &mut Random) -> Case {
     let (height, width) = if random.chance(70) {
         (2 + random.below(3), 2 + random.below(3))
@@ -460,11 +469,7 @@ pub fn file_case(random: &mut Random) -> Case {
     for _ in 0..random.choose(&[0, 1, 1, 1, 1, 2, 3]) {
         damage(random, &mut bytes);
     }
-    Case::File {
-        lent: any_lent(random, 5),
-        cells_lent: any_lent(random, 256),
-        bytes,
-    }
+    Case::File(any_reading(random, bytes))
 }
 
 /// Any code with as many digits as the power of ten `least`.
@@ -475,7 +480,7 @@ fn code_from(random: &mut Random, least: i64) -> i64 {
 
 /// A code with one to ten digits; often a power of ten or one less, or one about
 /// the edges of 31 and 32 bits.
-fn any_code(random: &mut Random) -> i64 {
+pub fn any_code(random: &mut Random) -> i64 {
     let least = 10_i64.pow(random.below(10) as u32);
     match random.below(8) {
         0 => 0,
@@ -488,8 +493,8 @@ fn any_code(random: &mut Random) -> i64 {
 }
 
 /// A grid with blank pads and any codes; some are all blank, some have ten
-/// digits at every pad, and some have holes, few or nothing else.
-fn grid_to_write(random: &mut Random, (height, width): (usize, usize)) -> Given {
+/// digits at every pad.
+pub fn coded_grid(random: &mut Random, (height, width): (usize, usize)) -> Given {
     let blank = random.choose(&[0, 0, 20, 20, 50, 50, 90, 100]);
     let long = random.chance(25);
     let mut cell = || {
@@ -501,13 +506,18 @@ fn grid_to_write(random: &mut Random, (height, width): (usize, usize)) -> Given 
             any_code(random)
         }
     };
-    let mut cells: Vec<i64> = (0..height * width).map(|_| cell()).collect();
-    let holes = random.choose(&[0, 0, 0, 5, 20, 50, 90, 100]);
-    drill(random, &mut cells, holes, false);
     Given {
         size: (height, width),
-        cells,
+        cells: (0..height * width).map(|_| cell()).collect(),
     }
+}
+
+/// Such a grid, some with holes, few or nothing else.
+fn grid_to_write(random: &mut Random, size: (usize, usize)) -> Given {
+    let mut grid = coded_grid(random, size);
+    let holes = random.choose(&[0, 0, 0, 5, 20, 50, 90, 100]);
+    drill(random, &mut grid.cells, holes, false);
+    grid
 }
 
 /// A room for a text: mostly one short of it, equal to it or one beyond it.

@@ -1,8 +1,9 @@
 // Compares the proved library with the reference: board calls, searches,
 // records, files, writes and tables of common copper, chosen by a seed, until
-// the time or the counts are reached; searches of grids with holes, and drawings
-// that are judged, with the rules alone; and pairs of runs with each other. The
-// first case that differs is made smaller and printed.
+// the time or the counts are reached; packed slices with a second reader; searches
+// of grids with holes, and drawings that are judged, with the rules alone; and
+// pairs of runs with each other. The first case that differs is made smaller and
+// printed.
 
 use crate::answers::{limited, Call, Pads, Run};
 use crate::cases::{read_case, Case, Search};
@@ -19,11 +20,12 @@ use crate::expected::{by_library, expected, is_known, judge_answer, search_answe
 use crate::grids::{check_beginning, ended, runs_of};
 use crate::holes::{beginning, checked_list, every_drawing, small_pads};
 use crate::judged::{found, Found};
+use crate::packed::packed_case;
 use crate::pairs::pairs_of_turn;
 use crate::random::Random;
 use crate::shown::{
-    ShownCalls, ShownCommon, ShownHoles, ShownJudged, ShownNumbers, ShownPairs, ShownRooms,
-    ShownWide,
+    ShownCalls, ShownCommon, ShownHoles, ShownJudged, ShownNumbers, ShownPacked, ShownPairs,
+    ShownRooms, ShownWide,
 };
 use crate::smallest::smallest;
 use std::time::{Duration, Instant};
@@ -44,6 +46,7 @@ type Compare = fn(&mut Comparison);
 struct Comparison {
     shown_calls: ShownCalls,
     shown_files: ShownNumbers,
+    shown_packed: ShownPacked,
     shown_writes: ShownNumbers,
     shown_rooms: ShownRooms,
     shown_holes: ShownHoles,
@@ -60,6 +63,7 @@ struct Comparison {
     judge_numbers: Random,
     common_numbers: Random,
     pair_numbers: Random,
+    packed_numbers: Random,
     known: Vec<(Pads, Vec<Call>)>,
     done: Counts,
     whole_searches: usize,
@@ -78,6 +82,7 @@ impl Comparison {
         Comparison {
             shown_calls: ShownCalls::default(),
             shown_files: ShownNumbers::default(),
+            shown_packed: ShownPacked::default(),
             shown_writes: ShownNumbers::default(),
             shown_rooms: ShownRooms::default(),
             shown_holes: ShownHoles::default(),
@@ -94,6 +99,7 @@ impl Comparison {
             judge_numbers: Random::new(seed.wrapping_add(6 << 32)),
             common_numbers: Random::new(seed.wrapping_add(7 << 32)),
             pair_numbers: Random::new(seed.wrapping_add(8 << 32)),
+            packed_numbers: Random::new(seed.wrapping_add(9 << 32)),
             known: known_sequences(),
             done: Counts::default(),
             whole_searches: 0,
@@ -110,7 +116,7 @@ impl Comparison {
 
     fn figures(&self) -> String {
         format!(
-            "{:.0} s: {} board calls in {} sequences; {} searches ({} of them whole, against solve), {} visited boards; {} declined searches; {} records; {} files; {} writes; {} records judged; {} calls for common copper; {} pairs of runs",
+            "{:.0} s: {} board calls in {} sequences; {} searches ({} of them whole, against solve), {} visited boards; {} declined searches; {} records; {} files; {} packed slices; {} writes; {} records judged; {} calls for common copper; {} pairs of runs",
             self.started.elapsed().as_secs_f64(),
             self.done.calls,
             self.sequences,
@@ -120,6 +126,7 @@ impl Comparison {
             self.declined_searches,
             self.records,
             self.done.files,
+            self.shown_packed.slices,
             self.writes,
             self.shown_judged.records(),
             self.shown_common.calls,
@@ -131,6 +138,7 @@ impl Comparison {
         println!("{}; no difference", self.figures());
         println!("{}", self.shown_calls.figures());
         println!("files {} written back", self.shown_files.figures());
+        self.shown_packed.print();
         println!("writes {} read back", self.shown_writes.figures());
         println!("{}", self.shown_rooms.figures());
         println!("{}", self.shown_holes.figures());
@@ -245,7 +253,15 @@ impl Comparison {
         self.shown_files.count(&answer);
     }
 
-    /// Writes come before files, because they can be made smaller.
+    fn compare_packed(&mut self) {
+        let case = packed_case(&mut self.packed_numbers, self.shown_packed.slices);
+        let answer = expected(&case);
+        self.hold(&case, &answer);
+        self.shown_packed.count(&case, &answer);
+    }
+
+    /// Writes and packed slices come before files, because they can be made
+    /// smaller.
     fn compare_write(&mut self) {
         let case = write_case(&mut self.write_numbers, self.writes);
         let answer = expected(&case);
@@ -404,10 +420,12 @@ impl Comparison {
         let judged = self.shown_judged.records();
         let common = self.shown_common.calls;
         let pairs = self.shown_pairs.pairs;
-        let kinds: [(usize, usize, Compare); 8] = [
+        let packed = self.shown_packed.slices;
+        let kinds: [(usize, usize, Compare); 9] = [
             (self.done.calls, calls, Comparison::compare_board),
             (self.done.searches, searches, Comparison::compare_search),
             (self.done.files, files, Comparison::compare_write),
+            (packed, files, Comparison::compare_packed),
             (self.done.files, files, Comparison::compare_file),
             (holes, searches, Comparison::compare_holes),
             (judged, calls, Comparison::compare_judged),
@@ -484,7 +502,7 @@ pub fn replay_case(text: &str) -> Option<bool> {
     is_known(&case).then(|| show(&case))
 }
 
-/// Compares for so many seconds, an eighth of the time on each kind.
+/// Compares for so many seconds, a ninth of the time on each kind.
 pub fn compare_for(seconds: u64, seed: u64) {
     println!("seed {seed}");
     let mut comparison = Comparison::new(seed);
@@ -493,6 +511,7 @@ pub fn compare_for(seconds: u64, seed: u64) {
         comparison.turn(|comparison| comparison.compare_board());
         comparison.turn(|comparison| comparison.compare_search());
         comparison.turn(|comparison| comparison.compare_write());
+        comparison.turn(|comparison| comparison.compare_packed());
         comparison.turn(|comparison| comparison.compare_file());
         comparison.turn(|comparison| comparison.compare_holes());
         comparison.turn(|comparison| comparison.compare_judged());
@@ -505,9 +524,9 @@ pub fn compare_for(seconds: u64, seed: u64) {
 }
 
 /// Compares until so many board calls, searches and files are done, as many
-/// searches by the rules as searches, as many writes as files, as many judged
-/// records as board calls, twice as many calls for common copper as searches, and
-/// as many pairs of runs as searches.
+/// searches by the rules as searches, as many writes and as many packed slices as
+/// files, as many judged records as board calls, twice as many calls for common
+/// copper as searches, and as many pairs of runs as searches.
 pub fn compare_counts(wanted: Counts, seed: u64) {
     println!("seed {seed}");
     let mut comparison = Comparison::new(seed);

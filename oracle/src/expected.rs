@@ -1,17 +1,20 @@
 // What a case must give: by the reference where the call is accepted, by the
 // numbers of the documents where it is declined, for a search of a grid with
 // holes by the rules alone (holes.rs), for a file by the reader of routes.rs,
-// for a grid that is written by Rust's own digits, for a drawing by the rules
-// (judged.rs), and for a table of common copper and for a pair of runs by such
-// searches (common.rs, pairs.rs). And what the library gives for the same case.
-// A text that was written is read back, and a grid that was read is written back.
+// for a packed slice by that of packed.rs, for a grid that is written by Rust's
+// own digits, for a drawing by the rules (judged.rs), and for a table of common
+// copper and for a pair of runs by such searches (common.rs, pairs.rs). And what
+// the library gives for the same case. A text that was written is read back, and
+// a grid that was read is written back.
 
 use crate::answers::{
     limited, make_call, read_state, whole, Board, Call, Pads, Run, State, BLANK, HOLE, LARGEST_CODE,
 };
-use crate::cases::{Asked, Case, Given, Search};
+use crate::cases::{Asked, Case, Given, Reading, Search};
+use crate::chosen::given;
 use crate::common::{common_by_library, expected_common};
 use crate::judged::{found, lines_told};
+use crate::packed::{expected_packed, packed_by_library, slice_of};
 use crate::pairs::{expected_pair, pair_by_library};
 use crate::random::Random;
 use crate::{holes, library, routes};
@@ -298,14 +301,39 @@ fn write_answer(refusal: (u64, u64), text: &[u8], lent: usize, room: usize) -> A
     answer
 }
 
-/// A grid that was read must be written back as the file itself, in a room as
-/// long as the file.
-fn expected_file(lent: usize, cells_lent: usize, bytes: &[u8]) -> Answer {
-    let mut answer = read_answer(routes::read(bytes), lent, cells_lent);
-    if answer.returned > 0 && answer.numbers[0] == 0 {
-        answer.then = vec![write_answer((0, 0), bytes, 3, bytes.len())];
+/// The answer of a reading whose grid or refusal is known, and of the calls that
+/// follow where a grid is told.
+pub fn reading_answer(
+    reading: &Reading,
+    read: Result<Pads, (usize, usize, usize)>,
+    then: impl Fn(Given) -> Vec<Answer>,
+) -> Answer {
+    let grid = read.as_ref().ok().map(given);
+    let mut answer = read_answer(read, reading.lent, reading.cells_lent);
+    if let (Some(grid), 5) = (grid, answer.returned) {
+        answer.then = then(grid);
     }
     answer
+}
+
+/// What follows a file: its grid is written back, and where that has no holes,
+/// the slice of its codes is read.
+fn after_file(grid: &Given, written: Answer, packed: impl Fn() -> Answer) -> Vec<Answer> {
+    match board_pads(grid).has_hole() {
+        true => vec![written],
+        false => vec![written, packed()],
+    }
+}
+
+/// A grid that was read must be written back as the file itself, in a room as
+/// long as the file, and must be the one that the slice gives.
+fn expected_file(reading: &Reading) -> Answer {
+    let bytes = &reading.bytes;
+    reading_answer(reading, routes::read(bytes), |grid| {
+        let written = write_answer((0, 0), bytes, 3, bytes.len());
+        let packed = || read_answer(Ok(board_pads(&grid)), 5, 256);
+        after_file(&grid, written, packed)
+    })
 }
 
 /// The text of a grid, its codes as `digits` gives them, its blank pads empty,
@@ -335,7 +363,7 @@ pub fn written_text(grid: &Given) -> String {
 
 /// A text that was written must give the grid when it is read back, by the
 /// library and by the reader of routes.rs.
-fn expected_write(grid: &Given, lent: usize, room: usize) -> Answer {
+pub fn expected_write(grid: &Given, lent: usize, room: usize) -> Answer {
     let text = written_text(grid);
     if text.len() > room {
         return write_answer((14, 0), &[], lent, room);
@@ -395,11 +423,8 @@ pub fn expected(case: &Case) -> Answer {
             k,
             room,
         } => expected_record(*size, *lent, (*count, *k), *room),
-        Case::File {
-            lent,
-            cells_lent,
-            bytes,
-        } => expected_file(*lent, *cells_lent, bytes),
+        Case::File(reading) => expected_file(reading),
+        Case::Packed(reading) => expected_packed(reading),
         Case::Write { grid, lent, room } => expected_write(grid, *lent, *room),
         Case::Judge { grid, lent, bytes } => expected_judge(grid, *lent, bytes),
         Case::Common(search, table) => expected_common(search, *table),
@@ -421,13 +446,33 @@ fn call_numbers(calls: &[Asked]) -> Vec<u64> {
         .collect()
 }
 
-fn read_by_library(bytes: &[u8], lent: usize, cells_lent: usize) -> Answer {
+/// A function of the library that reads bytes.
+type Reader = fn(&[u8], &mut [u64], &mut [i64]) -> usize;
+
+fn read_by(reader: Reader, bytes: &[u8], lent: usize, cells_lent: usize) -> Answer {
     let mut answer = Answer {
         numbers: vec![FILL as u64; lent],
         cells: vec![FILL as i64; cells_lent],
         ..Answer::default()
     };
-    answer.returned = library::read(bytes, &mut answer.numbers, &mut answer.cells);
+    answer.returned = reader(bytes, &mut answer.numbers, &mut answer.cells);
+    answer
+}
+
+/// What a function of the library reads, and the calls that follow where it
+/// tells a grid.
+pub fn reading_by(
+    reader: Reader,
+    reading: &Reading,
+    then: impl Fn(Given) -> Vec<Answer>,
+) -> Answer {
+    let mut answer = read_by(reader, &reading.bytes, reading.lent, reading.cells_lent);
+    if let [0, 0, 0, height, width, ..] = answer.numbers[..] {
+        let size = (height as usize, width as usize);
+        let pads = size.0.saturating_mul(size.1);
+        let cells = answer.cells.iter().take(pads).copied().collect();
+        answer.then = then(Given { size, cells });
+    }
     answer
 }
 
@@ -442,23 +487,20 @@ fn write_by_library(grid: &Given, lent: usize, room: usize) -> Answer {
     answer
 }
 
-fn read_and_written_back(bytes: &[u8], lent: usize, cells_lent: usize) -> Answer {
-    let mut answer = read_by_library(bytes, lent, cells_lent);
-    if let [0, 0, 0, height, width, ..] = answer.numbers[..] {
-        let size = (height as usize, width as usize);
-        let pads = size.0.saturating_mul(size.1);
-        let cells = answer.cells.iter().take(pads).copied().collect();
-        answer.then = vec![write_by_library(&Given { size, cells }, 3, bytes.len())];
-    }
-    answer
+fn file_by_library(reading: &Reading) -> Answer {
+    reading_by(library::read, reading, |grid| {
+        let written = write_by_library(&grid, 3, reading.bytes.len());
+        let packed = || read_by(library::read_packed, &slice_of(&grid), 5, 256);
+        after_file(&grid, written, packed)
+    })
 }
 
-fn written_and_read_back(grid: &Given, lent: usize, room: usize) -> Answer {
+pub fn written_and_read_back(grid: &Given, lent: usize, room: usize) -> Answer {
     let mut answer = write_by_library(grid, lent, room);
     if let [0, 0, length, ..] = answer.numbers[..] {
         let text = &answer.bytes[..room.min(length as usize)];
         let second = read_answer(routes::read(text), 5, 256);
-        answer.then = vec![read_by_library(text, 5, 256), second];
+        answer.then = vec![read_by(library::read, text, 5, 256), second];
     }
     answer
 }
@@ -505,11 +547,8 @@ pub fn by_library(case: &Case) -> Answer {
             let buffer = vec![FILL; *room];
             answer.returned = library::record(*size, (*count, *k), &buffer, &mut answer.numbers);
         }
-        Case::File {
-            lent,
-            cells_lent,
-            bytes,
-        } => answer = read_and_written_back(bytes, *lent, *cells_lent),
+        Case::File(reading) => answer = file_by_library(reading),
+        Case::Packed(reading) => answer = packed_by_library(reading),
         Case::Write { grid, lent, room } => answer = written_and_read_back(grid, *lent, *room),
         Case::Judge { grid, lent, bytes } => answer = judged_by_library(grid, *lent, bytes),
         Case::Common(search, table) => answer = common_by_library(search, *table),

@@ -3,14 +3,6 @@
 // is lent as a pointer and a length.
 
 extern "C" {
-    fn hunekowha_read(
-        file: *const u8,
-        file_length: usize,
-        answer: *mut u64,
-        answer_length: usize,
-        cells: *mut i64,
-        cells_length: usize,
-    ) -> usize;
     fn hunekowha_record(
         height: usize,
         width: usize,
@@ -21,19 +13,6 @@ extern "C" {
         answer: *mut u64,
         answer_length: usize,
     ) -> usize;
-}
-
-pub fn read(file: &[u8], answer: &mut [u64], cells: &mut [i64]) -> usize {
-    unsafe {
-        hunekowha_read(
-            file.as_ptr(),
-            file.len(),
-            answer.as_mut_ptr(),
-            answer.len(),
-            cells.as_mut_ptr(),
-            cells.len(),
-        )
-    }
 }
 
 pub fn record(
@@ -56,25 +35,24 @@ pub fn record(
     }
 }
 
-/// A function that is given a grid, maybe a limit, slices that it reads and
+/// A function that is given maybe a grid, maybe a limit, slices that it reads and
 /// slices that it writes, in this order.
-macro_rules! of_grid {
-    ($name:ident = $symbol:ident
-        ( $(number $limit:ident;)? $(reads $read:ident: $of:ty;)* $(writes $written:ident: $to:ty;)* )
-    ) => {
+macro_rules! function {
+    ($name:ident = $symbol:ident(
+        $(grid $cells:ident;)?
+        $(number $limit:ident;)?
+        $(reads $read:ident: $of:ty;)*
+        $(writes $written:ident: $to:ty;)*
+    )) => {
         pub fn $name(
-            (height, width): (usize, usize),
-            cells: &[i64],
+            $((height, width): (usize, usize), $cells: &[i64],)?
             $($limit: u64,)?
             $($read: &[$of],)*
             $($written: &mut [$to],)*
         ) -> usize {
             extern "C" {
                 fn $symbol(
-                    height: usize,
-                    width: usize,
-                    cells: *const i64,
-                    cells_length: usize,
+                    $(height: usize, width: usize, $cells: *const i64, _: usize,)?
                     $($limit: u64,)?
                     $($read: *const $of, _: usize,)*
                     $($written: *mut $to, _: usize,)*
@@ -82,10 +60,7 @@ macro_rules! of_grid {
             }
             unsafe {
                 $symbol(
-                    height,
-                    width,
-                    cells.as_ptr(),
-                    cells.len(),
+                    $(height, width, $cells.as_ptr(), $cells.len(),)?
                     $($limit,)?
                     $($read.as_ptr(), $read.len(),)*
                     $($written.as_mut_ptr(), $written.len(),)*
@@ -95,10 +70,16 @@ macro_rules! of_grid {
     };
 }
 
-of_grid!(write = hunekowha_write(writes text: u8; writes answer: u64;));
-of_grid!(solve = hunekowha_solve(number limit; writes buffer: u8; writes answer: u64;));
-of_grid!(common = hunekowha_common(
-    number limit; writes buffer: u8; writes table: u8; writes answer: u64;
+function!(read = hunekowha_read(reads file: u8; writes answer: u64; writes cells: i64;));
+function!(read_packed = hunekowha_read_packed(
+    reads bytes: u8; writes answer: u64; writes cells: i64;
 ));
-of_grid!(judge = hunekowha_judge(reads record: u8; writes answer: u64;));
-of_grid!(replay = hunekowha_replay(reads calls: u64; writes answer: i64;));
+function!(write = hunekowha_write(grid cells; writes text: u8; writes answer: u64;));
+function!(solve = hunekowha_solve(
+    grid cells; number limit; writes buffer: u8; writes answer: u64;
+));
+function!(common = hunekowha_common(
+    grid cells; number limit; writes buffer: u8; writes table: u8; writes answer: u64;
+));
+function!(judge = hunekowha_judge(grid cells; reads record: u8; writes answer: u64;));
+function!(replay = hunekowha_replay(grid cells; reads calls: u64; writes answer: i64;));

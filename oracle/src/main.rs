@@ -33,6 +33,8 @@ mod judged;
 #[cfg(library)]
 mod library;
 #[cfg(library)]
+mod packed;
+#[cfg(library)]
 mod pairs;
 #[cfg(library)]
 mod shown;

@@ -1,12 +1,13 @@
 // What the cases that were compared have shown, counted and printed: how many
 // there were of each kind and of each answer.
 
-use crate::answers::{Pads, Run, HOLE, LARGEST_ASKED, LARGEST_CODE};
+use crate::answers::{Pads, Run, BLANK, HOLE, LARGEST_ASKED, LARGEST_CODE};
 use crate::cases::{Again, Asked, Case, Given, Search};
 use crate::common::{lister, Lister};
 use crate::expected::{board_pads, written_text, Answer};
 use crate::holes::is_small;
 use crate::judged::Found;
+use crate::packed::fault_numbers;
 use std::collections::BTreeMap;
 
 /// What the board calls that were compared have shown.
@@ -55,7 +56,8 @@ impl ShownWide {
         let (kind, cells) = match case {
             Case::Board { grid, .. } => ("board", &grid.cells),
             Case::Search(search) => ("search", &search.grid.cells),
-            Case::File { .. } => ("file", &answer.cells),
+            Case::File(_) => ("file", &answer.cells),
+            Case::Packed(_) => ("packed", &answer.cells),
             Case::Write { grid, .. } => ("write", &grid.cells),
             Case::Judge { grid, .. } => ("judge", &grid.cells),
             Case::Common(search, _) => ("common", &search.grid.cells),
@@ -96,6 +98,53 @@ impl ShownNumbers {
     pub fn figures(&self) -> String {
         let (numbers, with_holes, back) = (&self.numbers, self.with_holes, self.back);
         format!("by number: {numbers:?}; {with_holes} of the accepted with holes; {back} of them")
+    }
+}
+
+/// How many packed slices were accepted (number 0) and how many refused, by
+/// number; how many of the accepted had blank pads, and how many were written and
+/// read back; those with several faults by the first two in the order of the
+/// tests; and those whose answer was too short.
+#[derive(Default)]
+pub struct ShownPacked {
+    pub slices: usize,
+    numbers: BTreeMap<u64, usize>,
+    with_blank: usize,
+    back: usize,
+    several: BTreeMap<[usize; 2], usize>,
+    too_short: usize,
+}
+
+impl ShownPacked {
+    pub fn count(&mut self, case: &Case, answer: &Answer) {
+        self.slices += 1;
+        let Case::Packed(reading) = case else {
+            return;
+        };
+        if let [first, second, ..] = fault_numbers(&reading.bytes)[..] {
+            *self.several.entry([first, second]).or_default() += 1;
+        }
+        if answer.returned == 0 {
+            self.too_short += 1;
+            return;
+        }
+        let numbers = &answer.numbers;
+        *self.numbers.entry(numbers[0]).or_default() += 1;
+        let pads = (numbers[3] * numbers[4]) as usize;
+        self.with_blank += answer.cells[..pads].contains(&BLANK) as usize;
+        self.back += !answer.then.is_empty() as usize;
+    }
+
+    pub fn print(&self) {
+        println!(
+            "packed slices by number: {:?}; {} of the accepted with blank pads; {} of them written as a file and read back; {} answers too short",
+            self.numbers, self.with_blank, self.back, self.too_short
+        );
+        println!(
+            "{} packed slices with two faults or more, by the first two: {:?}",
+            self.several.values().sum::<usize>(),
+            self.several
+        );
     }
 }
 

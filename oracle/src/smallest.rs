@@ -1,15 +1,17 @@
 // Makes a failing case smaller as long as it still fails: calls left out,
 // rows and columns cut off, holes filled, codes blanked or shortened, bytes of
-// a file left out, chains rubbed out, less room, shorter tables, lower limits.
+// a file or a slice left out, chains rubbed out, less room, shorter tables, lower
+// limits.
 
 use crate::answers::{Pads, BLANK, HOLE, LINE, NONE, UNDECIDED};
-use crate::cases::{Again, Asked, Case, Given, Search, Table};
+use crate::cases::{Again, Asked, Case, Given, Reading, Search, Table};
 use crate::expected::{
     board_pads, board_room, by_library, expected, grid_refusal, is_known, written_text,
 };
 use crate::grids::LIMIT;
 use crate::holes;
 use crate::judged::Drawn;
+use crate::packed::{plain_grid, plain_slice};
 use std::time::{Duration, Instant};
 
 /// Whether a search of the case ends within a reasonable limit, if it has none
@@ -59,18 +61,18 @@ fn smaller_cases(case: &Case) -> Vec<Case> {
             let smaller = smaller_searches(search).into_iter();
             smaller.map(Case::Search).collect()
         }
-        Case::File {
-            lent,
-            cells_lent,
-            bytes,
-        } => parts(bytes)
-            .into_iter()
-            .map(|bytes| Case::File {
-                lent: *lent,
-                cells_lent: *cells_lent,
-                bytes,
-            })
-            .collect(),
+        Case::File(reading) => {
+            let smaller = parts(&reading.bytes).into_iter();
+            smaller
+                .map(|bytes| Case::File(with_bytes(reading, bytes)))
+                .collect()
+        }
+        Case::Packed(reading) => {
+            let smaller = smaller_slices(&reading.bytes).into_iter();
+            smaller
+                .map(|bytes| Case::Packed(with_bytes(reading, bytes)))
+                .collect()
+        }
         Case::Write { grid, lent, room } => smaller_writes(grid, *lent, *room),
         Case::Judge { grid, lent, bytes } => smaller_judges(grid, *lent, bytes),
         Case::Common(search, table) => smaller_commons(search, *table),
@@ -93,6 +95,29 @@ fn parts<T: Clone>(items: &[T]) -> Vec<Vec<T>> {
         }
         size /= 2;
     }
+    found
+}
+
+fn with_bytes(reading: &Reading, bytes: Vec<u8>) -> Reading {
+    Reading { bytes, ..*reading }
+}
+
+/// Slices of smaller grids, as much too short or with the same bytes behind them
+/// as this one; and this one with bytes left out.
+fn smaller_slices(bytes: &[u8]) -> Vec<Vec<u8>> {
+    let mut found = Vec::new();
+    if let Some(grid) = plain_grid(bytes) {
+        let whole = plain_slice(&grid).len();
+        let missing = whole.saturating_sub(bytes.len());
+        for smaller in smaller_grids(&grid) {
+            let mut slice = plain_slice(&smaller);
+            slice.truncate(slice.len().saturating_sub(missing));
+            slice.extend(bytes.iter().skip(whole));
+            found.push(slice);
+        }
+    }
+    found.extend(parts(bytes));
+    found.retain(|smaller| smaller != bytes);
     found
 }
 
