@@ -33,6 +33,11 @@
  *      space or a return (0D hexadecimal) behind a number
  *  15  a second digit after a leading 0, in the header too: 07 and 7 would be one number, and a maker means two doors by
  *      them. 0 alone is floor 0
+ * Reading packed decimal, with the line and field that a file would have:
+ *   3  a pad above 4294967295
+ *   5  a height or width outside 2 to 16
+ *   6  fewer than two bytes, or not five bytes for each pad
+ *  17  a half byte above 9 in a pad that is not blank
  * A grid, for a board, a search, the copper common to all layouts, a drawing to be judged or writing:
  *   7  a height or width outside 2 to 16
  *   8  the number of cells is not height * width
@@ -73,6 +78,26 @@ extern "C" {
  */
 size_t hunekowha_read(const uint8_t *file, size_t file_length, uint64_t *answer, size_t answer_length, int64_t *cells,
                       size_t cells_length);
+
+/*
+ * Reads packed decimal, as the memories of controllers hold it: one byte for the height, one for the width, both plain numbers,
+ * then five bytes for each pad in index order. A pad's code has ten digits, two to a byte, the first in the higher half; zeros in
+ * front are filling. Five bytes FF hexadecimal are a blank pad. There are no holes.
+ *
+ *   bytes, bytes_length    the bytes
+ *   answer, answer_length  at least 5 numbers
+ *   cells, cells_length    at least 256 numbers
+ *
+ * Returns 5, or 0 where `answer` or `cells` is too short. What is written is what hunekowha_read writes for a file of the same
+ * codes: answer[0] to answer[4] and the first 256 cells. The tests run in this order, and the first that fails is told:
+ *   6   fewer than two bytes: line 1, field 1
+ *   5   the height: line 1, field 1; then the width: line 1, field 2
+ *   6   too few bytes for the pads: line and field of the first pad that is not whole; too many: line height + 2, field 1
+ *   17, 3   the pads in index order; at one pad 17 before 3
+ * Pads are named as in a file: the pad with index i stands in line 2 + i / width, field 1 + i % width.
+ */
+size_t hunekowha_read_packed(const uint8_t *bytes, size_t bytes_length, uint64_t *answer, size_t answer_length, int64_t *cells,
+                             size_t cells_length);
 
 /*
  * Writes a grid as a grid file: `H,W` first, then H lines of W fields parted by commas, each line ended by 0A; a code in its

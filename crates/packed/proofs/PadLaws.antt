@@ -1,7 +1,7 @@
 -- Laws of one pad: what each of its bytes does, and what its digits give once all have been passed. Assumes nothing.
 use Rattle.model.specs.Choice.{if_then_else_}
 use mathlib.Core.Path.{_≡_, refl, sym, ap, _∙_}
-use mathlib.Core.Bool.{true, false, _||_}
+use mathlib.Core.Bool.{true, false}
 use mathlib.Core.List.{List, [], _∷_}
 use Prim.Native.Nat.{ℕ, _+_, _*_, _/_, _%_, _^_, _≤_, _<_}
 use native.Mathlib.Nat.{pow-le-pow-right}

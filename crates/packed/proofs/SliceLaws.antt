@@ -6,7 +6,6 @@ use mathlib.Core.Logic.{inl, inr}
 use mathlib.Core.List.{List, [], _∷_, _++_, append-assoc}
 use Prim.Native.Nat.{ℕ, suc, _+_, _*_, _-_, _/_, _≤_, _<_}
 use native.Mathlib.Nat.{mul-le-mul, sub-zero, min-le-left}
-use native.Mathlib.Numerals.{add-one}
 use native.Mathlib.Omega.{arith}
 use lib.ListN.{length, getD, take, drop, set, replicate, length-append, length-take, length-drop}
 use lib.Seq.{set-at, drop-drop}
@@ -16,7 +15,7 @@ use mir.Val.{SFits, toZ, ofZ}
 use mir.ValLaws.{toZ-ofZ}
 use Rattle.model.specs.Bounds.{is-size}
 use Rattle.model.specs.RefusalLaws.{size-of-test}
-use Rattle.model.specs.GridFile.{Reading, blank, no-cells, grid-reading, declined-reading}
+use Rattle.model.specs.GridFile.{Reading, blank, no-cells, declined-reading}
 use Rattle.model.specs.Packed.{cell, refused, packed-pad, declined-pad, read-pads, read-sized, read-packed}
 use Rattle.packed.specs.declared.Pad.{Pad}
 use Rattle.packed.specs.declared.Pad.the-variants.{Cell, Refused}

@@ -16,7 +16,7 @@ use borrow.Author.Tests.{leb-true, lt-ltb, le-ltb, ne-eqb, eq-eqb, eqb-true}
 use Rattle.rules.specs.Grid.{largest-code}
 use Rattle.rules.specs.Tests.{both, either}
 use Rattle.model.specs.Bounds.{is-size, most-digits}
-use Rattle.model.specs.GridFile.{Standing, Reading, is-digit, is-comma, is-line-end, is-hole-sign, begins-hole, is-allowed, disallowed-number, is-zero-alone, blank, hole, no-cells, is-complete, in-header, fields-due, field-cell, bad-size, refusal, with-digit, with-hole, begun, after, accepted, declined-reading, declined, read-from}
+use Rattle.model.specs.GridFile.{Standing, is-digit, is-comma, is-line-end, is-hole-sign, begins-hole, is-allowed, disallowed-number, is-zero-alone, blank, hole, no-cells, is-complete, in-header, fields-due, field-cell, bad-size, refusal, with-digit, with-hole, begun, after, accepted, declined-reading, declined, read-from}
 
 -- ## Where the reading stands
 

@@ -2,8 +2,8 @@
 -- Assumes nothing.
 use Rattle.model.specs.Choice.{if_then_else_}
 use mathlib.Core.Path.{_≡_, refl, sym, ap, _∙_}
-use mathlib.Core.Bool.{Bool, true, false, not, _&&_, _||_}
-use mathlib.Core.List.{List, [], _∷_, _++_, append-assoc, append-nil}
+use mathlib.Core.Bool.{Bool, true, false, not, _||_}
+use mathlib.Core.List.{List, [], _∷_, _++_, append-nil}
 use mathlib.Core.Logic.{_⊎_, inl, inr}
 use Prim.Native.Nat.{ℕ, zero, suc, _+_, _*_, _/_, _%_, _^_, _≤_, _<_}
 use native.Mathlib.Nat.{add-zero}
@@ -14,7 +14,7 @@ use lib.IntN.{ℤ, pos, negsuc}
 use lib.Dec.{eqb, ltb}
 use borrow.Author.Tests.{ltb-true, ltb-false, le-ltb, eqb-true, ne-eqb}
 use Rattle.rules.specs.Grid.{largest-code, blank-cell}
-use Rattle.rules.specs.Tests.{both, neither, conflict, not-so}
+use Rattle.rules.specs.Tests.{both, neither}
 use Rattle.model.specs.GridFile.{blank}
 use Rattle.model.specs.Packed.{half-bytes, all-FF, some-above-9, digits-value, PackedPad, cell, refused, packed-pad, packed-number, packed-cell}
 
@@ -23,18 +23,18 @@ use Rattle.model.specs.Packed.{half-bytes, all-FF, some-above-9, digits-value, 
 abbrev pub packed-value : List ℕ → ℕ
 packed-value five = digits-value 0 (half-bytes five)
 
-pub data Told (five : List ℕ) (answer : PackedPad) : Type 0 where
-  told-blank : all-FF five ≡ true → answer ≡ cell blank → Told five answer
-  told-17 : all-FF five ≡ false → some-above-9 (half-bytes five) ≡ true → answer ≡ refused 17 → Told five answer
-  told-3 : all-FF five ≡ false → some-above-9 (half-bytes five) ≡ false → largest-code < packed-value five → answer ≡ refused 3 → Told five answer
-  told-code : all-FF five ≡ false → some-above-9 (half-bytes five) ≡ false → packed-value five ≤ largest-code → answer ≡ cell (pos (packed-value five)) → Told five answer
+pub data PadTold (five : List ℕ) (answer : PackedPad) : Type 0 where
+  told-blank : all-FF five ≡ true → answer ≡ cell blank → PadTold five answer
+  told-17 : all-FF five ≡ false → some-above-9 (half-bytes five) ≡ true → answer ≡ refused 17 → PadTold five answer
+  told-3 : all-FF five ≡ false → some-above-9 (half-bytes five) ≡ false → largest-code < packed-value five → answer ≡ refused 3 → PadTold five answer
+  told-code : all-FF five ≡ false → some-above-9 (half-bytes five) ≡ false → packed-value five ≤ largest-code → answer ≡ cell (pos (packed-value five)) → PadTold five answer
 
-pub told : (five : List ℕ) → Told five (packed-pad five)
+pub pad-told : (five : List ℕ) → PadTold five (packed-pad five)
 unfolding packed-pad
-told five = go (all-FF five) (some-above-9 (half-bytes five)) (ltb largest-code (packed-value five)) refl refl refl
+pad-told five = go (all-FF five) (some-above-9 (half-bytes five)) (ltb largest-code (packed-value five)) refl refl refl
   where
     go : (f a l : Bool) → all-FF five ≡ f → some-above-9 (half-bytes five) ≡ a → ltb largest-code (packed-value five) ≡ l
-        → Told five (if f then cell blank else if a then refused 17 else if l then refused 3 else cell (pos (packed-value five)))
+        → PadTold five (if f then cell blank else if a then refused 17 else if l then refused 3 else cell (pos (packed-value five)))
     go true a l f′ a′ l′ = told-blank f′ refl
     go false true l f′ a′ l′ = told-17 f′ a′ refl
     go false false true f′ a′ l′ = told-3 f′ a′ (ltb-true _ _ l′) refl
@@ -46,19 +46,19 @@ Packable z = (z ≡ blank-cell) ⊎ ((code : ℕ) × (z ≡ pos code) × (code �
 
 pub packable : (five : List ℕ) (z : ℤ) → packed-pad five ≡ cell z → Packable z
 unfolding blank
-packable five z e = go (told five)
+packable five z e = go (pad-told five)
   where
-    go : Told five (packed-pad five) → Packable z
+    go : PadTold five (packed-pad five) → Packable z
     go (told-blank f is) = inl (cc)
     go (told-17 f a is) = let no : _≡_ {A = ℕ} 0 1 = cc in absurd (omega arith)
     go (told-3 f a l is) = let no : _≡_ {A = ℕ} 0 1 = cc in absurd (omega arith)
     go (told-code f a l is) = inr (packed-value five, cc, l)
 
 -- a refusal is 17 or 3
-pub refused-number : (five : List ℕ) (number : ℕ) → packed-pad five ≡ refused number → (number ≡ 17) ⊎ (number ≡ 3)
-refused-number five number e = go (told five)
+pub refused-with : (five : List ℕ) (number : ℕ) → packed-pad five ≡ refused number → (number ≡ 17) ⊎ (number ≡ 3)
+refused-with five number e = go (pad-told five)
   where
-    go : Told five (packed-pad five) → (number ≡ 17) ⊎ (number ≡ 3)
+    go : PadTold five (packed-pad five) → (number ≡ 17) ⊎ (number ≡ 3)
     go (told-blank f is) = let no : _≡_ {A = ℕ} 0 1 = cc in absurd (omega arith)
     go (told-17 f a is) = inl (cc)
     go (told-3 f a l is) = inr (cc)
@@ -188,12 +188,12 @@ digits-packed (byte ∷ bytes) more value a =
 -- reading five bytes and packing the cell gives the bytes
 pub pad-there : (five : List ℕ) (z : ℤ) → length five ≡ 5 → packed-pad five ≡ cell z → packed-cell z ≡ five
 unfolding packed-cell packed-number blank
-pad-there five z long e = go (told five)
+pad-there five z long e = go (pad-told five)
   where
     all : 5 ≡ 0 + length five
     all = omega arith
 
-    go : Told five (packed-pad five) → packed-cell z ≡ five
+    go : PadTold five (packed-pad five) → packed-cell z ≡ five
     go (told-blank f is) = let blank-there : z ≡ blank-cell = cc in rw blank-there (ap (λ (n : ℕ). replicate n 255) (sym long) ∙ all-FF-five five f)
     go (told-17 f a is) = let no : _≡_ {A = ℕ} 0 1 = cc in absurd (omega arith)
     go (told-3 f a l is) = let no : _≡_ {A = ℕ} 0 1 = cc in absurd (omega arith)

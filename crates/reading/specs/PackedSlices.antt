@@ -2,24 +2,24 @@
 -- accepted and gives the grid; a fault of a pad is told of the first pad that has one. It rests on what one pad gives (PackedPads.antt).
 use mathlib.Core.Path.{_≡_, refl, sym, ap, _∙_}
 use mathlib.Core.Bool.{Bool, true, false}
-use mathlib.Core.List.{List, [], _∷_, _++_, append-assoc, append-nil}
+use mathlib.Core.List.{List, [], _∷_, _++_, append-nil}
 use mathlib.Core.Logic.{_⊎_, inl, inr}
 use Prim.Native.Nat.{ℕ, zero, suc, _+_, _*_, _-_, _/_, _%_, _≤_, _<_}
 use native.Mathlib.Nat.{mul-le-mul, add-zero, zero-add, mod-lt, div-add-mod'}
 use native.Mathlib.Omega.{arith}
 use lib.ListN.{length, getD, take, drop, replicate, length-append, length-drop, length-replicate, take-append-drop}
 use lib.Seq.{take-at, drop-at, drop-drop, length-take-le, append-snoc}
-use lib.IntN.{ℤ, pos}
+use lib.IntN.{ℤ}
 use lib.Dec.{ltb}
 use borrow.Author.Tests.{ltb-true, ltb-false}
-use Rattle.rules.specs.Grid.{Size, largest-code, blank-cell, hole-cell, CellInRange, Accepted}
+use Rattle.rules.specs.Grid.{blank-cell, hole-cell, CellInRange, Accepted}
 use Rattle.model.specs.Bounds.{is-size}
 use Rattle.model.specs.RefusalLaws.{size-of-test, test-of-size}
-use Rattle.model.specs.GridFile.{Reading, blank, grid-reading, declined-reading}
-use Rattle.model.specs.Packed.{PackedPad, cell, refused, packed-pad, declined-pad, read-pads, read-sized, read-packed, packed-number, packed-cell, packed-cells, grid-slice}
+use Rattle.model.specs.GridFile.{blank, grid-reading, declined-reading}
+use Rattle.model.specs.Packed.{PackedPad, cell, refused, packed-pad, declined-pad, read-pads, read-packed, packed-cell, packed-cells, grid-slice}
 use Rattle.reading.specs.ReadingLaws.{SoundReading, declined-sound}
-use Rattle.reading.specs.PadSteps.{below-two, two-at-least, height-refused, width-refused, too-short, too-long, whole, pad-read, pad-refused}
-use Rattle.reading.specs.PackedPads.{Packable, packable, refused-number, pad-packed, pad-there, cell-length}
+use Rattle.reading.specs.PadSteps.{height-refused, width-refused, too-short, too-long, whole, pad-read, pad-refused}
+use Rattle.reading.specs.PackedPads.{Packable, packable, refused-with, pad-packed, pad-there, cell-length}
 
 -- ## The pads
 
@@ -37,14 +37,14 @@ pub record FirstRefused (bytes : List ℕ) (index number : ℕ) : Type 0 where
   pub none-before : (before : ℕ) → before < index → (other : ℕ) → packed-pad (pad-at bytes before) ≡ refused other → ⊥
 
 -- how reading the pads that are left goes: they are the bytes of cells, or one is the first that is refused
-pub data Goes (height width left : ℕ) (cells : List ℤ) (bytes : List ℕ) : Type 0 where
+pub data PadsGo (height width left : ℕ) (cells : List ℤ) (bytes : List ℕ) : Type 0 where
   all-read : (rest : List ℤ) → length rest ≡ left → AllPackable rest → packed-cells rest ≡ bytes
-      → read-pads height width left cells bytes ≡ grid-reading height width (cells ++ rest) → Goes height width left cells bytes
+      → read-pads height width left cells bytes ≡ grid-reading height width (cells ++ rest) → PadsGo height width left cells bytes
   one-refused : (index number : ℕ) → index < left → FirstRefused bytes index number
-      → read-pads height width left cells bytes ≡ declined-pad number width (length cells + index) → Goes height width left cells bytes
+      → read-pads height width left cells bytes ≡ declined-pad number width (length cells + index) → PadsGo height width left cells bytes
 
 module _ (height width : ℕ) where
-  pub pads-go : (left : ℕ) (cells : List ℤ) (bytes : List ℕ) → length bytes ≡ left * 5 → Goes height width left cells bytes
+  pub pads-go : (left : ℕ) (cells : List ℤ) (bytes : List ℕ) → length bytes ≡ left * 5 → PadsGo height width left cells bytes
   unfolding read-pads packed-cells
   pads-go zero cells [] e = all-read [] refl (λ v below. absurd (omega arith)) refl (ap (grid-reading height width) (sym (append-nil cells)))
   pads-go zero cells (byte ∷ bytes) e = absurd (omega arith)
@@ -53,7 +53,7 @@ module _ (height width : ℕ) where
       fewer : length (drop 5 bytes) ≡ left * 5
       fewer = length-drop 5 bytes ∙ (omega arith)
 
-      go : (p : PackedPad) → packed-pad (take 5 bytes) ≡ p → ((c : ℤ) → Goes height width left (cells ++ (c ∷ [])) (drop 5 bytes)) → Goes height width (suc left) cells bytes
+      go : (p : PackedPad) → packed-pad (take 5 bytes) ≡ p → ((c : ℤ) → PadsGo height width left (cells ++ (c ∷ [])) (drop 5 bytes)) → PadsGo height width (suc left) cells bytes
       go (refused number) p later =
           one-refused 0 number (omega arith) (record { here = p; none-before = λ before early other k. absurd (omega arith) })
           (pad-refused height width left cells bytes p ∙ ap (declined-pad number width) (sym (add-zero (length cells))))
@@ -65,7 +65,7 @@ module _ (height width : ℕ) where
               further : 5 + index * 5 ≡ suc index * 5
               further = omega arith
 
-          onward : Goes height width left (cells ++ (c ∷ [])) (drop 5 bytes) → Goes height width (suc left) cells bytes
+          onward : PadsGo height width left (cells ++ (c ∷ [])) (drop 5 bytes) → PadsGo height width (suc left) cells bytes
           onward (all-read rest count all there same) =
               all-read (c ∷ rest) (ap suc count) packs (ap (λ (l : List ℕ). packed-cell c ++ l) there ∙ ap (λ (l : List ℕ). l ++ drop 5 bytes) (pad-there (take 5 bytes) c five p) ∙ take-append-drop 5 bytes)
               (pad-read height width left cells bytes p ∙ same ∙ ap (grid-reading height width) (append-snoc cells c rest))
@@ -172,10 +172,10 @@ module _ (height width : ℕ) (bytes : List ℕ) (h : is-size height ≡ true) (
   unfolding read-packed
   whole-goes = go (pads-go height width (height * width) [] bytes e)
     where
-      go : Goes height width (height * width) [] bytes → SliceOfGrid (height ∷ width ∷ bytes) ⊎ RefusedPad height width bytes
+      go : PadsGo height width (height * width) [] bytes → SliceOfGrid (height ∷ width ∷ bytes) ⊎ RefusedPad height width bytes
       go (all-read rest count all there same) = inl (cells-of-grid rest count all there same)
       go (one-refused index number below first same) =
-          inr (record { index = index; number = number; inside = below; first = first; told = refused-number (pad-at bytes index) number (first .here); answer = whole height width bytes h w e ∙ same ∙ ap (declined-pad number width) (zero-add index) })
+          inr (record { index = index; number = number; inside = below; first = first; told = refused-with (pad-at bytes index) number (first .here); answer = whole height width bytes h w e ∙ same ∙ ap (declined-pad number width) (zero-add index) })
 
 -- every slice is turned away with a number, or is that of a grid
 pub data SliceGoes (slice : List ℕ) : Type 0 where
@@ -237,6 +237,15 @@ packed-sound slice = go (slice-goes slice)
     go (is-read grid) = rw (grid .reading) (grid-sound (grid .height) (grid .width) (grid .cells) (grid .in-range))
 
 -- ## The pad that a refusal names
+
+-- the first pad that is not whole
+pub record FirstNotWhole (bytes : List ℕ) (index : ℕ) : Type 0 where
+  pub cut : length bytes < index * 5 + 5
+  pub whole-before : (before : ℕ) → before < index → before * 5 + 5 ≤ length bytes
+
+-- a short slice names it, and it is one of the grid's
+pub short-named : (height width : ℕ) (bytes : List ℕ) → length bytes < height * width * 5 → FirstNotWhole bytes (length bytes / 5) × (length bytes / 5 < height * width)
+short-named height width bytes short = (record { cut = omega arith; whole-before = λ before early. omega arith }, omega arith)
 
 -- the line and the field at which a file has the pad with this index
 pub record LineAndField (width index line field : ℕ) : Type 0 where

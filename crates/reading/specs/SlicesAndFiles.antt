@@ -1,13 +1,12 @@
 -- Slices of packed decimal and grid files, held together: a slice and a file of the same codes and no holes give the same grid. For every
 -- accepted slice the file that `write` makes of its grid is read as the slice is; for every accepted file without holes the slice of its
 -- codes is read as the file is; and no two accepted slices have one grid.
-use mathlib.Core.Path.{_≡_, refl, sym, ap, _∙_}
+use mathlib.Core.Path.{_≡_, sym, ap, _∙_}
 use mathlib.Core.List.{List}
 use Prim.Native.Nat.{ℕ, _*_, _-_, _≤_}
 use native.Mathlib.Nat.{le-trans}
 use lib.ListN.{length, take, replicate}
 use lib.Seq.{take-at}
-use lib.IntN.{ℤ}
 use Rattle.rules.specs.Grid.{Accepted}
 use Rattle.model.specs.GridFile.{Reading, blank, grid-reading, read}
 use Rattle.model.specs.Writing.{Writing, grid-text, written, write}

@@ -1,7 +1,7 @@
 -- `packed::read_pads` meets its contract. The loop keeps `Reached`: reading on from here is what reading all pads comes to.
 -- Assumes nothing.
 use Prim.Native.Nat.{_+_, _*_, _-_}
-use mathlib.Core.Path.{sym, _∙_}
+use mathlib.Core.Path.{_∙_}
 use native.Mathlib.Omega.{arith}
 use Rattle.packed.proofs.SliceLaws.{pad-part, part-short, told-refused, told-cell, cell-back, pads-fit, Reached, pads-begin, inside, all-read, refused-here, read-here}
 use Rattle.packed.proofs.read_pads.Statement.{statement}
