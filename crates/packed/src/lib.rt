@@ -4,7 +4,7 @@
 ghost use mathlib.Core.Path.{_≡_};
 ghost use mathlib.Core.Bool.{true};
 ghost use mathlib.Core.List.{[]};
-ghost use Prim.Native.Nat.{_*_, _≤_, _+_};
+ghost use Prim.Native.Nat.{_+_, _*_, _≤_};
 ghost use lib.ListN.{length, drop};
 ghost use Rattle.model.specs.Bounds.{is-size};
 ghost use Rattle.model.specs.Packed.{all-FF, packed-pad, declined-pad, read-pads, read-packed};
@@ -23,6 +23,7 @@ enum Pad {
     Refused(u8),
 }
 
+// A byte as a plain number.
 fn wide(byte: u8) -> usize
     ensures { λ r. ⌜ r ≡ byte ⌝ }
 {
