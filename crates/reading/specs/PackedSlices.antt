@@ -1,5 +1,5 @@
 -- Slices of packed decimal as wholes: an accepted slice is the slice of its grid, byte for byte, and the slice of a grid without holes is
--- accepted and gives the grid; a fault of a pad is told of the first pad that has one. It rests on what one pad gives (PackedPads.antt).
+-- made of bytes, accepted, and gives the grid; a fault of a pad is told of the first pad that has one. It rests on what one pad gives (PackedPads.antt).
 use mathlib.Core.Path.{_≡_, refl, sym, ap, _∙_}
 use mathlib.Core.Bool.{Bool, true, false}
 use mathlib.Core.List.{List, [], _∷_, _++_, append-nil}
@@ -9,14 +9,14 @@ use native.Mathlib.Nat.{mul-le-mul, add-zero, zero-add, mod-lt, div-add-mod'}
 use native.Mathlib.Omega.{arith}
 use lib.ListN.{length, getD, take, drop, replicate, length-append, length-drop, length-replicate, take-append-drop}
 use lib.Seq.{take-at, drop-at, drop-drop, length-take-le, append-snoc}
-use lib.IntN.{ℤ}
+use lib.IntN.{ℤ, pos, negsuc}
 use lib.Dec.{ltb}
 use borrow.Author.Tests.{ltb-true, ltb-false}
 use Rattle.rules.specs.Grid.{blank-cell, hole-cell, CellInRange, Accepted}
 use Rattle.model.specs.Bounds.{is-size}
 use Rattle.model.specs.RefusalLaws.{size-of-test, test-of-size}
 use Rattle.model.specs.GridFile.{blank, grid-reading, declined-reading}
-use Rattle.model.specs.Packed.{PackedPad, cell, refused, packed-pad, declined-pad, read-pads, read-packed, packed-cell, packed-cells, grid-slice}
+use Rattle.model.specs.Packed.{PackedPad, cell, refused, packed-pad, declined-pad, read-pads, read-packed, packed-number, packed-cell, packed-cells, grid-slice}
 use Rattle.reading.specs.ReadingLaws.{SoundReading, declined-sound}
 use Rattle.reading.specs.PadSteps.{height-refused, width-refused, too-short, too-long, whole, pad-read, pad-refused}
 use Rattle.reading.specs.PackedPads.{Packable, packable, refused-with, pad-packed, pad-there, cell-length}
@@ -123,6 +123,43 @@ slice-is-read height width cells a none =
     whole height width (packed-cells cells) (test-of-size height (a .height-in-range)) (test-of-size width (a .width-in-range)) (cells-length cells ∙ ap (λ (n : ℕ). n * 5) (a .one-cell-a-pad))
     ∙ ap (λ (n : ℕ). read-pads height width n [] (packed-cells cells)) (sym (a .one-cell-a-pad))
     ∙ cells-read height width cells [] (packs-all height width cells a none)
+
+-- it is made of bytes: every number in it fits one
+abbrev pub InBytes : List ℕ → Type 0
+InBytes numbers = (place : ℕ) → getD numbers place 0 < 256
+
+none-yet : InBytes []
+none-yet place = omega arith
+
+one-more-byte : (byte : ℕ) (numbers : List ℕ) → byte < 256 → InBytes numbers → InBytes (byte ∷ numbers)
+one-more-byte byte numbers fits all zero = fits
+one-more-byte byte numbers fits all (suc place) = all place
+
+bytes-append : (first second : List ℕ) → InBytes first → InBytes second → InBytes (first ++ second)
+bytes-append [] second all more = more
+bytes-append (byte ∷ first) second all more = one-more-byte byte (first ++ second) (all 0) (bytes-append first second (λ place. all (suc place)) more)
+
+number-bytes : (more number : ℕ) → InBytes (packed-number more number)
+unfolding packed-number
+number-bytes zero number = none-yet
+number-bytes (suc more) number = bytes-append (packed-number more (number / 100)) _ (number-bytes more (number / 100)) (one-more-byte _ [] (omega arith) none-yet)
+
+cell-bytes : (z : ℤ) → InBytes (packed-cell z)
+unfolding packed-cell
+cell-bytes (pos code) = number-bytes 5 code
+cell-bytes (negsuc below) = five 5
+  where
+    five : (n : ℕ) → InBytes (replicate n 255)
+    five zero = none-yet
+    five (suc n) = one-more-byte 255 (replicate n 255) (omega arith) (five n)
+
+pub slice-in-bytes : (height width : ℕ) (cells : List ℤ) → Accepted height width cells → InBytes (grid-slice height width cells)
+unfolding grid-slice packed-cells
+slice-in-bytes height width cells a = one-more-byte height (width ∷ packed-cells cells) (omega (arith, a .height-in-range .1)) (one-more-byte width (packed-cells cells) (omega (arith, a .width-in-range .1)) (all cells))
+  where
+    all : (cells : List ℤ) → InBytes (packed-cells cells)
+    all [] = none-yet
+    all (z ∷ cells) = bytes-append (packed-cell z) (packed-cells cells) (cell-bytes z) (all cells)
 
 -- ## From a slice to its grid
 

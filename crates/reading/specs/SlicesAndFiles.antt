@@ -15,7 +15,7 @@ use Rattle.reading.specs.ReadingLaws.{read-sound}
 use Rattle.reading.specs.ReadBack.{text-is-read, longest-text}
 use Rattle.reading.specs.WrittenBack.{pads-read, text-is-file}
 use Rattle.reading.specs.WriteRead.{has-room, written-is-read}
-use Rattle.reading.specs.PackedSlices.{NoHoles, SliceOfGrid, slice-is-read, accepted-is-slice, packed-sound}
+use Rattle.reading.specs.PackedSlices.{NoHoles, InBytes, SliceOfGrid, slice-is-read, slice-in-bytes, accepted-is-slice, packed-sound}
 
 -- ## From a slice to a file
 
@@ -66,6 +66,10 @@ module _ (slice : List ℕ) (accepted : read-packed slice .number ≡ 0) where
 -- the slice of a file's codes
 abbrev pub slice-of-file : List ℕ → List ℕ
 slice-of-file file = grid-slice (read file .height) (read file .width) (pads-read (read file))
+
+-- it is made of bytes, so that it can be lent
+pub slice-can-be-lent : (file : List ℕ) → read file .number ≡ 0 → InBytes (slice-of-file file)
+slice-can-be-lent file accepted = slice-in-bytes (read file .height) (read file .width) (pads-read (read file)) (read-sound file .in-range accepted)
 
 -- for every accepted file without holes: the slice of its codes reads as the file does
 pub file-to-slice : (file : List ℕ) → read file .number ≡ 0 → NoHoles (pads-read (read file)) → read-packed (slice-of-file file) ≡ read file
