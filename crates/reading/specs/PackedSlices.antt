@@ -124,14 +124,17 @@ slice-is-read height width cells a none =
     ∙ ap (λ (n : ℕ). read-pads height width n [] (packed-cells cells)) (sym (a .one-cell-a-pad))
     ∙ cells-read height width cells [] (packs-all height width cells a none)
 
--- it is made of bytes: every number in it fits one
+-- it is made of bytes: every number in it is one
+abbrev pub IsByte : ℕ → Type 0
+IsByte number = number < 256
+
 abbrev pub InBytes : List ℕ → Type 0
-InBytes numbers = (place : ℕ) → getD numbers place 0 < 256
+InBytes numbers = (place : ℕ) → IsByte (getD numbers place 0)
 
 none-yet : InBytes []
 none-yet place = omega arith
 
-one-more-byte : (byte : ℕ) (numbers : List ℕ) → byte < 256 → InBytes numbers → InBytes (byte ∷ numbers)
+one-more-byte : (byte : ℕ) (numbers : List ℕ) → IsByte byte → InBytes numbers → InBytes (byte ∷ numbers)
 one-more-byte byte numbers fits all zero = fits
 one-more-byte byte numbers fits all (suc place) = all place
 
