@@ -5,7 +5,7 @@ use mathlib.Core.Path.{_≡_, refl, sym, subst}
 use mathlib.Core.Bool.{_&&_, not}
 use lib.Dec.{eqb}
 use Rattle.rules.specs.Grid.{Cell, blank, clue, hole, Grid}
-use Rattle.model.specs.Board.{isBlank, isClue, isHole}
+use Rattle.model.specs.PadTests.{isBlank, isClue, isHole}
 
 pub record Alike (g h : Grid) : Type 0 where
   pub same-height : g .height ≡ h .height

@@ -5,7 +5,7 @@ use mathlib.Core.Path.{_≡_, refl, sym, ap}
 use mathlib.Core.Bool.{Bool, true, false, _||_, not, true≢false, false≢true}
 use lib.Dec.{eqb}
 use Rattle.rules.specs.Grid.{Cell, blank, clue, hole, Grid}
-use Rattle.model.specs.Board.{isBlank, isHole}
+use Rattle.model.specs.PadTests.{isBlank, isHole}
 use Rattle.model.specs.JoinedEnds.{End, through, at-pad, at-clue, bare-end, unjoinable, pick-end, put-end, put-end-at, joined-ends}
 use Rattle.alike.specs.Alike.{Alike}
 

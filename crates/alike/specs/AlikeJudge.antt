@@ -14,7 +14,7 @@ use Rattle.rules.specs.Record.{undecided-byte, line-byte, none-byte, drawing-of
 use Rattle.rules.specs.Tests.{all-below}
 use Rattle.rules.specs.CheckedListed.{has-corner, diagonal, not-blank, corners-checked, squares-checked}
 use Rattle.model.specs.Choice.{if_then_else_}
-use Rattle.model.specs.Board.{isBlank, isHole}
+use Rattle.model.specs.PadTests.{isBlank, isHole}
 use Rattle.model.specs.JoinedEnds.{End, isThrough, isPad, unjoinable}
 use Rattle.model.specs.RefusalLaws.{accepted-is-not-refused}
 use Rattle.model.specs.Judge.{Followed, wrong, so-far, after-line, after-edge, after-place, finished, all-finished, and-then, followed, is-ordinary-record, has-listed-shape, verdict, judge}

@@ -11,8 +11,10 @@ use Rattle.rules.specs.Grid.{Edge, right, down, Cell, Grid, pads, grid-of, Acce
 use Rattle.rules.specs.Drawing.{num}
 use Rattle.rules.specs.Record.{field}
 use Rattle.model.specs.Calls.{state-byte}
-use Rattle.model.specs.Board.{EdgeState, State, isUndecided, line-or-none, has-right, has-down, decide, enough}
-use Rattle.model.specs.Search.{Event, visit, layout, board-record, next-pad, degree-so-far, try, backtrack, search-from, search, solve}
+use Rattle.model.specs.PadTests.{has-right, has-down}
+use Rattle.model.specs.Board.{EdgeState, State, isUndecided, line-or-none, decide, enough}
+use Rattle.model.specs.Runs.{Event, visit, layout, listed-by}
+use Rattle.model.specs.Search.{board-record, next-pad, degree-so-far, try, backtrack, search-from, search, solve}
 use Rattle.model.specs.Common.{common}
 use Rattle.model.specs.RefusalLaws.{accepted-is-not-refused}
 use Rattle.alike.specs.Alike.{Alike, same-clues, recoded, of-one-size}
@@ -85,9 +87,9 @@ search-alike {g} alike = of-one-size (λ k. search g ≡ search k) alike (λ cel
 pub solve-alike : (height width : ℕ) (cells others : List ℤ) → Accepted height width cells → Accepted height width others
     → Alike (grid-of height width cells) (grid-of height width others)
     → (limit : ℕ) (buffer : List ℕ) → solve height width cells limit buffer ≡ solve height width others limit buffer
-unfolding solve
+unfolding solve listed-by
 solve-alike height width cells others accepted other-accepted alike limit buffer =
-    rw (accepted-is-not-refused height width cells accepted, accepted-is-not-refused height width others other-accepted, solve) (rw (search-alike alike) refl)
+    rw (accepted-is-not-refused height width cells accepted, accepted-is-not-refused height width others other-accepted, listed-by) (rw (search-alike alike) refl)
 
 -- COMMON, at every limit and with every buffer and table
 pub common-alike : (height width : ℕ) (cells others : List ℤ) → Accepted height width cells → Accepted height width others

@@ -8,7 +8,8 @@ use lib.Dec.{eqb, ltb, leb}
 use Rattle.rules.specs.Grid.{Edge, right, down, first, second, Cell, clue, Grid, pads}
 use Rattle.rules.specs.Drawing.{Side, on-left, on-right}
 use Rattle.model.specs.JoinedEnds.{End}
-use Rattle.model.specs.Board.{EdgeState, undecided, line, none, isLine, isUndecided, sameState, sameEdge, State, set-edge, set-flag, Item, detour, corner, bar, check-pad, keep-apart, settle, isBlank, isHole, detours, when, check-end, other-clue, lines, undecideds, Decide, Check, decide-first, line-or-none, keep-aparts, has-left, has-right, has-down, has-up, on-board, has-side, diagonal, barred, shape-items, around, degree, settled, do-item, do-items, check-items, cannot-join, join-ends, after-store, decide, check, enough, bare, shut, shut-at, prepared, fresh}
+use Rattle.model.specs.PadTests.{isBlank, isHole, has-left, has-right, has-down, has-up, on-board}
+use Rattle.model.specs.Board.{EdgeState, undecided, line, none, isLine, isUndecided, sameState, sameEdge, State, set-edge, set-flag, Item, detour, corner, bar, check-pad, keep-apart, settle, detours, when, check-end, other-clue, lines, undecideds, Decide, Check, decide-first, line-or-none, keep-aparts, has-side, diagonal, barred, shape-items, around, degree, settled, do-item, do-items, check-items, cannot-join, join-ends, after-store, decide, check, enough, bare, shut, shut-at, prepared, fresh}
 use Rattle.alike.specs.Alike.{Alike, same-clues, recoded, of-one-size}
 use Rattle.alike.specs.AlikeEnds.{AlikeEnds, both-through, both-at-pad, both-at-clue, AlikeEverywhere, joined-alike, unjoinable-alike, bare-end-alike}
 

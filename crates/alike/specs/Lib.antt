@@ -6,3 +6,4 @@ pub mod AlikeSearch
 pub mod AlikeCalls
 pub mod AlikeJudge
 pub mod Lowered
+pub mod AlikeWalk

@@ -17,7 +17,7 @@ use Rattle.rules.specs.Grid.{clue, cell-of, blank-cell, CellInRange, grid-of, A
 use Rattle.rules.specs.Tests.{conflict}
 use Rattle.rules.specs.Places.{zero≢one}
 use Rattle.model.specs.Choice.{if_then_else_}
-use Rattle.model.specs.Board.{isBlank, isHole}
+use Rattle.model.specs.PadTests.{isBlank, isHole}
 use Rattle.model.specs.Search.{solve}
 use Rattle.model.specs.Common.{common}
 use Rattle.model.specs.Calls.{new}

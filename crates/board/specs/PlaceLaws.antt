@@ -6,7 +6,8 @@ use mathlib.Core.Bool.{true, false, true≢false}
 use native.Mathlib.Omega.{arith}
 use Rattle.rules.specs.Grid.{Edge, right, down, Place, edge, no-edge, place-at, field-side, Grid, pads, OnBoard}
 use Rattle.rules.specs.Places.{first-inside, zero≢one}
-use Rattle.model.specs.Board.{EdgeState, on-board}
+use Rattle.model.specs.PadTests.{on-board}
+use Rattle.model.specs.Board.{EdgeState}
 use Rattle.model.specs.BoardLaws.{on-board-test}
 use Rattle.model.specs.Calls.{edge-at}
 use Rattle.model.specs.EdgeAtLaws.{row-outside, column-outside, in-field, edge-at-on}

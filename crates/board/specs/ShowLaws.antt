@@ -17,7 +17,8 @@ use Rattle.model.specs.Calls as model
 use Rattle.boardview.specs.View.{view, grid-in, flag-in}
 use Rattle.boardview.specs.Ends.{number-of-end}
 use Rattle.model.specs.Lists.{default-free}
-use Rattle.boardview.specs.ShownRecord.{record-shown, bytes-shown, edges-only, put-bytes}
+use Rattle.model.specs.PutBytes.{put-bytes}
+use Rattle.boardview.specs.ShownRecord.{record-shown, bytes-shown, edges-only}
 use Rattle.boardview.specs.ShownRecordLaws.{one-more}
 use Rattle.board.specs.Held.{arrays-of, Held, Shows}
 use Rattle.board.specs.declared.Board.{Board}

@@ -15,7 +15,7 @@ use mir.ValLaws.{toZ-ofZ, toZ-pos}
 use borrow.Author.Tests.{lt-ltb, ltb-true}
 use Rattle.rules.specs.Grid.{CellInRange, blank-cell, cell-of, largest-code}
 use Rattle.rules.specs.Tests.{conflict}
-use Rattle.model.specs.Board.{isBlank, isClue}
+use Rattle.model.specs.PadTests.{isBlank, isClue}
 use Rattle.model.specs.Lists.{default-free}
 use Rattle.boardview.specs.Signed.{from-bits}
 use Rattle.boardbare.specs.BareArrays.{bare-end-number, end-number-at, is-clue, is-taken}

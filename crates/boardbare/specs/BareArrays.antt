@@ -9,7 +9,8 @@ use lib.ListN.{getD, length}
 use lib.IntN.{ℤ, pos, negsuc}
 use Rattle.rules.specs.Grid.{CellInRange, blank-cell, cell-of, Grid, grid-of}
 use Rattle.rules.specs.Drawing.{num, on-left, on-right}
-use Rattle.model.specs.Board.{isBlank, isClue, has-down, has-side, barred}
+use Rattle.model.specs.PadTests.{isBlank, isClue, has-down}
+use Rattle.model.specs.Board.{has-side, barred}
 use Rattle.boardview.specs.View.{pick, has-bit, taken-bit, action-entry}
 
 -- FILLED: a list of this length, which from `start` up to `size` holds what f says. The loops fill from the last index down to 0.

@@ -12,7 +12,8 @@ use borrow.Author.Tests.{ltb-true, ltb-false}
 use Rattle.rules.specs.Grid.{Edge, Cell, blank, clue, hole, Grid, pads, grid-of, cell-of, blank-cell, Accepted}
 use Rattle.rules.specs.Drawing.{Side}
 use Rattle.model.specs.JoinedEnds.{at-pad, bare-end}
-use Rattle.model.specs.Board.{undecided, none, isBlank, isClue, on-board, barred, bare}
+use Rattle.model.specs.PadTests.{isBlank, isClue, on-board}
+use Rattle.model.specs.Board.{undecided, none, barred, bare}
 use Rattle.boardview.specs.View.{pick, Arrays, slot, slot-on, state-of, end-of, end-at, view, has-bit, clue-bit, taken-bit, corner-bit, bar-bit, cell-in, grid-in, Kinds, Ready}
 use Rattle.model.specs.Lists.{default-free}
 use Rattle.boardview.specs.Bytes.{edge-on}

@@ -14,7 +14,8 @@ use Rattle.rules.specs.Grid.{Grid, pads, grid-of, blank-cell, cell-of}
 use Rattle.rules.specs.Drawing.{Side, on-left, on-right}
 use Rattle.rules.specs.Tests.{both}
 use Rattle.rules.specs.Places.{next-in-row}
-use Rattle.model.specs.Board.{isBlank, isClue, has-down, has-side, diagonal, barred}
+use Rattle.model.specs.PadTests.{isBlank, isClue, has-down}
+use Rattle.model.specs.Board.{has-side, diagonal, barred}
 use Rattle.boardview.specs.View.{pick, has-bit, clue-bit, corner-bit, bar-bit, taken-bit}
 use Rattle.boardbare.specs.BareArrays.{Filled, kind-byte, is-clue, is-taken, corner-test, barred-in, barred-below, bar-test, kind-from, kind-of}
 use Rattle.boardbare.specs.KindBits.{SixBits, six-bits}

@@ -8,7 +8,7 @@ use lib.Dec.{eqb, ltb, leb}
 use borrow.Author.Tests.{le-ltb, ltb-true, ltb-false, le-leb, lt-leb}
 use Rattle.rules.specs.Grid.{Size, right, down, Grid, pads}
 use Rattle.rules.specs.Tests.{both-off}
-use Rattle.model.specs.Board.{on-board}
+use Rattle.model.specs.PadTests.{on-board}
 use Rattle.boardview.specs.View.{pick, edge-of, slot-on}
 use Rattle.boardbare.specs.BareArrays.{right-byte, down-byte, edge-byte}
 

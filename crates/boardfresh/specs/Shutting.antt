@@ -10,7 +10,8 @@ use lib.Dec.{ltb}
 use borrow.Author.Tests.{lt-ltb}
 use Rattle.rules.specs.Grid.{Edge, right, down, hole, Grid, pads}
 use Rattle.rules.specs.Tests.{is-so}
-use Rattle.model.specs.Board.{State, none, isHole, has-left, has-right, has-up, has-down, with-edge, around, decide, enough, shut, shut-at, prepared}
+use Rattle.model.specs.PadTests.{isHole, has-left, has-right, has-up, has-down}
+use Rattle.model.specs.Board.{State, none, with-edge, around, decide, enough, shut, shut-at, prepared}
 use Rattle.boardview.specs.View.{pick, Arrays, view, edge-of, slot, slot-on, state-of, ended, has-bit, clue-bit, taken-bit, cell-in, grid-in, Ready, Decided, NoneAt}
 use Rattle.boardview.specs.Bytes.{elim-true, elim-false, slot-of-edge, on-slot, right-slot, down-slot}
 use Rattle.boardview.specs.Geometry.{slot-left, slot-right, slot-up, slot-down, edge-left, edge-up}

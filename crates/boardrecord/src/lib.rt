@@ -7,7 +7,8 @@ ghost use Rattle.rules.specs.Grid.{first, field-side, places, place-at};
 ghost use Rattle.rules.specs.Record.{byte-at-place, record-lines};
 ghost use Rattle.grid.specs.PadsAt.{place-of, IfEdge};
 ghost use Rattle.boardview.specs.View.{grid-in, Kinds};
-ghost use Rattle.boardview.specs.ShownRecord.{bytes-shown, row-shown, record-shown, slot-of-place, put-bytes};
+ghost use Rattle.model.specs.PutBytes.{put-bytes};
+ghost use Rattle.boardview.specs.ShownRecord.{bytes-shown, row-shown, record-shown, slot-of-place};
 use grid::Edge;
 use grid::Pads;
 

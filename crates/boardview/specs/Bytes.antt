@@ -13,7 +13,8 @@ use lib.IntN.{ℤ}
 use borrow.Author.Tests.{eq-eqb, ne-eqb, eqb-true, eqb-false, le-leb, leb-true}
 use Rattle.rules.specs.Grid.{Edge, right, down, Grid}
 use Rattle.rules.specs.Tests.{both}
-use Rattle.model.specs.Board.{undecided, line, none, isLine, isUndecided, sameEdge, set-edge, on-board}
+use Rattle.model.specs.PadTests.{on-board}
+use Rattle.model.specs.Board.{undecided, line, none, isLine, isUndecided, sameEdge, set-edge}
 use Rattle.boardview.specs.View.{Arrays, slot, edge-of, slot-on, state-of, view, pick, undecided-in, flag-in, end-at}
 
 -- BYTES

@@ -12,7 +12,8 @@ use borrow.Author.Tests.{eqb-true, eqb-false, eq-eqb, ne-eqb, lt-leb, le-leb, lt
 use Rattle.rules.specs.Grid.{Edge, right, down, Grid, pads}
 use Rattle.rules.specs.Tests.{not-so}
 use Rattle.model.specs.JoinedEnds.{End, through, at-pad, at-clue}
-use Rattle.model.specs.Board.{line, none, isUndecided, other-clue, State, Item, check-pad, keep-apart, settle, when, Decide, Check, with-edge, keep-aparts, has-right, has-left, has-down, has-up, around, do-item, do-items, check-items, decide, check}
+use Rattle.model.specs.PadTests.{has-right, has-left, has-down, has-up}
+use Rattle.model.specs.Board.{line, none, isUndecided, other-clue, State, Item, check-pad, keep-apart, settle, when, Decide, Check, with-edge, keep-aparts, around, do-item, do-items, check-items, decide, check}
 use Rattle.boardview.specs.View.{Arrays, flag-in, ended-in, stopped, ended, pick, edge-of, slot-on, view, end-at, grid-in, undecided-in, Ready, Since, Decided, Done, then, in-a-row, shown, check-at, NoneAt, Settled, action-around, code-number, rival, keeps-apart, keep-at}
 use Rattle.boardview.specs.Bytes.{elim-true, elim-false, right-slot, down-slot, on-slot}
 use Rattle.boardview.specs.Geometry.{slot-left, slot-right, slot-up, slot-down, edge-left, edge-up}

@@ -15,7 +15,8 @@ use Rattle.rules.specs.Grid.{Edge, right, down, first, second, Grid, pads}
 use Rattle.rules.specs.Drawing.{Side, on-left, on-right}
 use Rattle.rules.specs.Tests.{both, neither, conflict, not-so, is-so}
 use Rattle.model.specs.JoinedEnds.{End, through, at-pad, at-clue, unjoinable}
-use Rattle.model.specs.Board.{line, Item, has-right, has-left, has-down, has-up, has-side, on-board, barred, shape-items, keep-aparts, around}
+use Rattle.model.specs.PadTests.{has-right, has-left, has-down, has-up, on-board}
+use Rattle.model.specs.Board.{line, Item, has-side, barred, shape-items, keep-aparts, around}
 use Rattle.boardview.specs.View.{Arrays, logged, stopped, ended, going, pick, slot, edge-of, slot-on, state-of, end-at, second-pad, has-bit, grid-in, corner-bit, joined, undecided-in, Kinds, Ready, Decided, Done, NoneAt, Settled, pad-number, detour-at, corner-at, bar-at, check-at, code-number, keeps-apart, some-apart, clue-apart, keep-at, slot-around, past-around, action-around}
 use Rattle.model.specs.Lists.{default-free}
 use Rattle.boardview.specs.Bytes.{slot-of-edge, on-slot}

@@ -12,7 +12,8 @@ use Rattle.rules.specs.Grid.{Edge, right, down, Grid, pads}
 use Rattle.rules.specs.Drawing.{on-left, on-right}
 use Rattle.rules.specs.Tests.{both}
 use Rattle.rules.specs.Places.{next-column, next-in-row, previous-column}
-use Rattle.model.specs.Board.{Item, bar, detours, when, has-right, has-left, has-down, has-up, on-board, has-side, barred, corner-right, corner-left, shape-items}
+use Rattle.model.specs.PadTests.{has-right, has-left, has-down, has-up, on-board}
+use Rattle.model.specs.Board.{Item, bar, detours, when, has-side, barred, corner-right, corner-left, shape-items}
 use Rattle.model.specs.BoardLaws.{left-of-next}
 use Rattle.boardview.specs.View.{pick, slot, edge-of, second-pad, slot-on, detour-at, corner-at, bar-at}
 use Rattle.boardview.specs.Bytes.{right-slot, down-slot, edge-on, on-slot}

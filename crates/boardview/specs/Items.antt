@@ -14,7 +14,8 @@ use Rattle.rules.specs.Grid.{Edge, down, first, second, Grid}
 use Rattle.rules.specs.Drawing.{Side}
 use Rattle.rules.specs.Tests.{both-off, neither}
 use Rattle.model.specs.JoinedEnds.{End, through, at-pad, at-clue, isThrough, unjoinable}
-use Rattle.model.specs.Board.{EdgeState, line, none, isLine, isUndecided, isBlank, isClue, sameState, State, set-edge, set-flag, Item, corner, bar, check-pad, check-end, when, on-board, has-down, has-side, shape-items, do-items, cannot-join, join-ends, after-store, decide, check}
+use Rattle.model.specs.PadTests.{isBlank, isClue, on-board, has-down}
+use Rattle.model.specs.Board.{EdgeState, line, none, isLine, isUndecided, sameState, State, set-edge, set-flag, Item, corner, bar, check-pad, check-end, when, has-side, shape-items, do-items, cannot-join, join-ends, after-store, decide, check}
 use Rattle.boardview.specs.View.{Arrays, logged, flag-in, stopped, ended, going, slot, edge-of, slot-on, state-of, view, end-at, has-bit, clue-bit, taken-bit, cell-in, grid-in, joined, undecided-in, Kinds, Ready, Decided, Done, then, in-a-row, shown, corner-at, bar-at, check-at, beside, pad-number}
 use Rattle.model.specs.Lists.{default-free}
 use Rattle.boardview.specs.Bytes.{elim-true, elim-false, undecided-byte-test, view-stored}

@@ -3,7 +3,8 @@
 use mathlib.Core.Path.{_≡_, _∙_}
 use mathlib.Core.Bool.{Bool, true, false}
 use Rattle.rules.specs.Grid.{Edge, right, down, Grid}
-use Rattle.model.specs.Board.{EdgeState, line, on-board, line-or-none}
+use Rattle.model.specs.PadTests.{on-board}
+use Rattle.model.specs.Board.{EdgeState, line, line-or-none}
 use Rattle.boardview.specs.View.{Arrays, slot, edge-of, Decided, NoneAt}
 use Rattle.boardview.specs.Bytes.{right-slot, down-slot, edge-on}
 

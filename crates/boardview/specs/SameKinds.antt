@@ -9,7 +9,8 @@ use Rattle.rules.specs.Grid.{Edge, right, down, first, second, Cell, blank, clu
 use Rattle.rules.specs.Drawing.{num, Side, on-left, on-right}
 use Rattle.boardview.specs.View.{grid-in}
 use Rattle.model.specs.JoinedEnds.{End, through, at-pad, at-clue}
-use Rattle.model.specs.Board.{EdgeState, undecided, line, none, isLine, isUndecided, isBlank, isClue, isHole, sameState, State, set-flag, set-edge, Item, detour, corner, bar, check-pad, keep-apart, settle, check-end, line-or-none, lines, undecideds, decide-first, Decide, Check, has-down, has-side, diagonal, on-board, barred, shape-items, around, degree, settled, do-item, do-items, check-items, cannot-join, join-ends, after-store, decide, check, enough, shut, shut-at, prepared}
+use Rattle.model.specs.PadTests.{isBlank, isClue, isHole, has-down, on-board}
+use Rattle.model.specs.Board.{EdgeState, undecided, line, none, isLine, isUndecided, sameState, State, set-flag, set-edge, Item, detour, corner, bar, check-pad, keep-apart, settle, check-end, line-or-none, lines, undecideds, decide-first, Decide, Check, has-side, diagonal, barred, shape-items, around, degree, settled, do-item, do-items, check-items, cannot-join, join-ends, after-store, decide, check, enough, shut, shut-at, prepared}
 
 -- the same grid with every clue's code 0
 abbrev pub plain-cell : Cell → Cell

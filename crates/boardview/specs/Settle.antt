@@ -10,7 +10,8 @@ use lib.ListN.{getD, length}
 use borrow.Author.Tests.{eqb-true, eqb-false, eq-eqb, ne-eqb, lt-leb, le-leb, ltb-false}
 use Rattle.rules.specs.Grid.{Edge, right, down, Grid, pads}
 use Rattle.rules.specs.Drawing.{num}
-use Rattle.model.specs.Board.{EdgeState, line, none, isUndecided, State, set-flag, Decide, with-edge, has-right, has-left, has-down, has-up, lines, undecideds, decide-first, line-or-none, around, degree, settled}
+use Rattle.model.specs.PadTests.{has-right, has-left, has-down, has-up}
+use Rattle.model.specs.Board.{EdgeState, line, none, isUndecided, State, set-flag, Decide, with-edge, lines, undecideds, decide-first, line-or-none, around, degree, settled}
 use Rattle.boardview.specs.View.{Arrays, pick, edge-of, slot-on, view, grid-in, Ready, edges-around, undecided-around, degree-around, first-around, action-around}
 use Rattle.boardview.specs.Bytes.{elim-true, elim-false, right-slot, down-slot, on-slot}
 use Rattle.boardview.specs.Geometry.{slot-left, slot-right, slot-up, slot-down, edge-left, edge-up}

@@ -1,8 +1,7 @@
--- The record that a board's edges show, and bytes that are put into a buffer: what laying out a record promises. It rests on View.antt and
--- the rules' Record.antt. Nothing is proved here; the laws stand in ShownRecordLaws.antt.
-use Prim.Native.Nat.{ℕ, _+_}
-use mathlib.Core.List.{List, [], _++_}
-use lib.ListN.{length, take, drop}
+-- The record that a board's edges show: what laying out a record promises. It rests on View.antt and the rules' Record.antt. Nothing is
+-- proved here; the laws stand in ShownRecordLaws.antt.
+use Prim.Native.Nat.{ℕ}
+use mathlib.Core.List.{List, []}
 use Rattle.rules.specs.Grid.{Edge, Place, edge, no-edge, Grid}
 use Rattle.rules.specs.Record.{field}
 use Rattle.rules.specs.RecordLaws.{field-row}
@@ -28,7 +27,3 @@ record-shown g edges = field (g .height) (g .width) (bytes-shown edges)
 unfoldable pub slot-of-place : Place → ℕ
 slot-of-place no-edge = 0
 slot-of-place (edge e) = slot e
-
--- a list of bytes put at an index
-unfoldable pub put-bytes : ℕ → List ℕ → List ℕ → List ℕ
-put-bytes at bytes buffer = take at buffer ++ (bytes ++ drop (at + length bytes) buffer)

@@ -1,22 +1,22 @@
--- Laws of laying out a record from the arrays: the byte of a state and of a place, bytes put into a buffer one after the other, and their
--- lines counted. They rest on ShownRecord.antt.
+-- Laws of laying out a record from the arrays: the byte of a state and of a place, a record written byte by byte and row by row, and its
+-- lines counted. They rest on ShownRecord.antt and on the model's PutBytes.antt.
 use Prim.Native.Nat.{ℕ, zero, suc, _+_, _*_, _≤_, _<_}
 use mathlib.Core.Path.{_≡_, refl, sym, ap, _∙_}
-use mathlib.Core.List.{List, [], _∷_, _++_, append-assoc}
+use mathlib.Core.List.{List, [], _∷_, _++_}
 use native.Mathlib.Omega.{arith}
 use native.Mathlib.Nat.{add-assoc, add-zero, zero-add, suc-mul, mul-le-mul-right}
 use lib.Dec.{eqb}
-use lib.ListN.{getD, set, length, take, drop, length-set, length-append, length-drop, take-append-drop}
-use lib.Seq.{length-take-le, take-at, drop-at, drop-drop, set-split}
+use lib.ListN.{getD, set, length, length-set}
 use Rattle.rules.specs.Grid.{Edge, right, down, first, field-side, places, Place, edge, no-edge, place-at, Grid}
 use Rattle.rules.specs.Drawing.{num}
 use Rattle.rules.specs.Record.{byte-at-place, field, tabulate, record-lines, line-byte}
-use Rattle.rules.specs.RecordLaws.{plus-suc, length-tabulate, field-row, field-rows, no-rows, length-rows, next-rows}
+use Rattle.rules.specs.RecordLaws.{plus-suc, length-tabulate, field-row, field-rows, no-rows, length-rows, next-rows, length-field}
 use Rattle.rules.specs.Tests.{num-small}
 use Rattle.model.specs.Calls.{state-byte}
 use Rattle.boardview.specs.View.{slot, state-of, view}
 use Rattle.model.specs.Lists.{default-free}
-use Rattle.boardview.specs.ShownRecord.{edges-only, bytes-shown, row-shown, record-shown, slot-of-place, put-bytes}
+use Rattle.model.specs.PutBytes.{put-bytes, put-length, put-none, put-put, put-one}
+use Rattle.boardview.specs.ShownRecord.{edges-only, bytes-shown, row-shown, record-shown, slot-of-place}
 
 -- a byte is that of its state
 pub byte-back : (b : ℕ) → b ≤ 2 → state-byte (state-of b) ≡ b
@@ -61,50 +61,10 @@ unfolding tabulate
 one-more f start zero = ap (λ (k : ℕ). f k ∷ []) (sym (add-zero start))
 one-more f start (suc n) = ap (λ l. f start ∷ l) (one-more f (start + 1) n ∙ ap (λ (k : ℕ). tabulate f (start + 1) n ++ (f k ∷ [])) (plus-suc start n))
 
--- BYTES PUT INTO A BUFFER, one list after another
-pub put-length : (at : ℕ) (bytes buffer : List ℕ) → at + length bytes ≤ length buffer → length (put-bytes at bytes buffer) ≡ length buffer
-unfolding put-bytes
-put-length at bytes buffer fits =
-    length-append (take at buffer) (bytes ++ drop (at + length bytes) buffer)
-    ∙ (let a = length-take-le at buffer (omega arith) in
-    let b = length-append bytes (drop (at + length bytes) buffer) in
-    let c = length-drop (at + length bytes) buffer in omega arith)
-
-pub put-none : (at : ℕ) (buffer : List ℕ) → put-bytes at [] buffer ≡ buffer
-unfolding put-bytes
-put-none at buffer = let same : at + 0 ≡ at = omega arith in rw same (take-append-drop at buffer)
-
-pub put-put : (at : ℕ) (first second buffer : List ℕ) → at + length first ≤ length buffer
-    → put-bytes (at + length first) second (put-bytes at first buffer) ≡ put-bytes at (first ++ second) buffer
-unfolding put-bytes
-put-put at first second buffer fits =
-    rw (
-      take-both,
-      sym (drop-drop (length second) (at + length first) (take at buffer ++ (first ++ drop (at + length first) buffer))),
-      drop-both,
-      drop-drop (length second) (at + length first) buffer,
-      append-assoc,
-      length-append first second,
-      append-assoc first second,
-      add-assoc,
-    ) refl
-  where
-    joined : take at buffer ++ (first ++ drop (at + length first) buffer) ≡ (take at buffer ++ first) ++ drop (at + length first) buffer
-    joined = sym (append-assoc (take at buffer) first (drop (at + length first) buffer))
-
-    joined-length : length (take at buffer ++ first) ≡ at + length first
-    joined-length = length-append (take at buffer) first ∙ (let a = length-take-le at buffer (omega arith) in omega arith)
-
-    take-both : take (at + length first) (take at buffer ++ (first ++ drop (at + length first) buffer)) ≡ take at buffer ++ first
-    take-both = ap (take (at + length first)) joined ∙ take-at (take at buffer ++ first) (drop (at + length first) buffer) (at + length first) joined-length
-
-    drop-both : drop (at + length first) (take at buffer ++ (first ++ drop (at + length first) buffer)) ≡ drop (at + length first) buffer
-    drop-both = ap (drop (at + length first)) joined ∙ drop-at (take at buffer ++ first) (drop (at + length first) buffer) (at + length first) joined-length
-
--- one byte put at an index
-pub put-one : (at b : ℕ) (buffer : List ℕ) → at < length buffer → set buffer at b ≡ put-bytes at (b ∷ []) buffer
-unfolding put-bytes
-put-one at b buffer inside = rw (native.Mathlib.Numerals.add-one at) (set-split buffer at b inside)
+-- a record is as long as the field has places
+pub shown-length : (g : Grid) (edges : List ℕ) → length (record-shown g edges) ≡ places (g .height) (g .width)
+unfolding record-shown
+shown-length g edges = length-field (g .height) (g .width) (bytes-shown edges)
 
 -- LINES of a record that is laid out part by part
 pub lines-append : (a b : List ℕ) → record-lines (a ++ b) ≡ record-lines a + record-lines b

@@ -10,7 +10,8 @@ use lib.ListN.{getD, length}
 use borrow.Author.Tests.{eq-eqb, ne-eqb, lt-leb, le-leb}
 use Rattle.rules.specs.Grid.{Edge, Grid}
 use Rattle.rules.specs.Tests.{is-so}
-use Rattle.model.specs.Board.{EdgeState, line, none, isLine, isUndecided, isBlank, State, set-flag, Item, detour, corner, bar, when, Decide, Check, do-item, do-items, decide, check}
+use Rattle.model.specs.PadTests.{isBlank}
+use Rattle.model.specs.Board.{EdgeState, line, none, isLine, isUndecided, State, set-flag, Item, detour, corner, bar, when, Decide, Check, do-item, do-items, decide, check}
 use Rattle.boardview.specs.View.{Arrays, flag-in, ended-in, stopped, edge-of, slot-on, state-of, view, undecided-in, Ready, Decided, Done, then, in-a-row, shown, detour-at}
 use Rattle.model.specs.Lists.{default-free}
 use Rattle.boardview.specs.Bytes.{elim-true, elim-false, line-byte-test, undecided-byte-test, slot-of-edge, on-slot}

@@ -13,7 +13,8 @@ use borrow.Author.Tests.{eqb-true, eqb-false, eq-eqb, ne-eqb, lt-leb, le-leb, le
 use Rattle.rules.specs.Grid.{Edge, right, down, first, second, Grid, pads}
 use Rattle.rules.specs.Tests.{conflict}
 use Rattle.model.specs.JoinedEnds.{at-pad, isThrough, joined-ends}
-use Rattle.model.specs.Board.{set-edge, on-board, join-ends}
+use Rattle.model.specs.PadTests.{on-board}
+use Rattle.model.specs.Board.{set-edge, join-ends}
 use Rattle.boardview.specs.View.{Arrays, logged, flag-in, ended-in, stopped, ended, going, pick, slot, slot-on, state-of, view, end-of, end-at, second-pad, joined, undecided-in, Entry, Ready, Since}
 use Rattle.boardview.specs.Bytes.{edge-on, one-fewer, some-undecided, edge-stored}
 use Rattle.boardview.specs.Ends.{stay-paired, stay-near, joined-long, joined-at, unjoined-is}

@@ -10,7 +10,8 @@ use lib.ListN.{getD, length}
 use borrow.Author.Tests.{ne-eqb}
 use Rattle.rules.specs.Grid.{Edge, right, down, Grid, pads}
 use Rattle.rules.specs.Tests.{both, not-so}
-use Rattle.model.specs.Board.{on-board, has-right, enough}
+use Rattle.model.specs.PadTests.{on-board, has-right}
+use Rattle.model.specs.Board.{enough}
 use Rattle.boardview.specs.View.{Arrays, pick, slot, slot-on, edge-of, undecided-in, Ready}
 use Rattle.boardview.specs.Bytes.{on-slot, slot-of-edge}
 

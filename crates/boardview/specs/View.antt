@@ -12,7 +12,8 @@ use lib.Bits.{bitAnd}
 use Rattle.rules.specs.Grid.{Edge, right, down, Cell, blank, clue, hole, Grid, pads}
 use Rattle.rules.specs.Drawing.{num, Side, on-left, on-right}
 use Rattle.model.specs.JoinedEnds.{End, through, at-pad, at-clue, isThrough}
-use Rattle.model.specs.Board.{EdgeState, undecided, line, none, State, Item, detour, corner, bar, check-pad, keep-apart, when, has-down, on-board, has-side, barred, do-item, settled, decide, check, Decide, Check}
+use Rattle.model.specs.PadTests.{has-down, on-board}
+use Rattle.model.specs.Board.{EdgeState, undecided, line, none, State, Item, detour, corner, bar, check-pad, keep-apart, when, has-side, barred, do-item, settled, decide, check, Decide, Check}
 
 -- one of two values, by a test
 abbrev pub pick : {A : Type 0} → Bool → A → A → A

@@ -9,7 +9,7 @@ use Rattle.rules.specs.Grid.{places}
 use Rattle.rules.specs.Places.{few-places}
 use Rattle.model.specs.Refusals.{grid-refusal}
 use Rattle.model.specs.RefusalLaws.{not-refused}
-use Rattle.model.specs.Search as model
+use Rattle.model.specs.Runs as runs
 use Rattle.model.specs.Common.{with-number, common}
 use Rattle.model.specs.CommonLaws.{refused-grid, short-table, stopped-list, complete-list}
 use Rattle.solver.specs.declared.Solved.{Solved}
@@ -21,7 +21,7 @@ use Rattle.copper.specs.Answers.{common-says, not-complete}
 module _ (height width : ℕ) (cells : List ℤ) (limit : ℕ) (buffer table : List ℕ) where
   pub refused-says : (number index : ℕ) → _≡_ {A = ℕ × ℕ} (number, index) (grid-refusal height width cells) → (number ≡ 0 → ⊥)
       → common-says (declined number index) buffer table ≡ common height width cells limit buffer table
-  refused-says number index is bad = (λ i. record { searched = model.declined-search (is i .0) (is i .1) buffer; table = table })
+  refused-says number index is bad = (λ i. record { searched = runs.declined-search (is i .0) (is i .1) buffer; table = table })
       ∙ sym (refused-grid height width cells limit buffer table (λ e. bad (ap (λ (p : ℕ × ℕ). p .0) is ∙ e)))
 
   module _ (fine : grid-refusal height width cells .0 ≡ 0) where
@@ -29,22 +29,22 @@ module _ (height width : ℕ) (cells : List ℤ) (limit : ℕ) (buffer table : L
     short-says short = sym (short-table height width cells limit buffer table fine short)
 
     module _ (room : places height width ≤ length table) (r : Solved) (buffer′ : List ℕ) (solves : Solves height width cells limit buffer r buffer′) where
-      its-run : answer-says r buffer′ ≡ model.solved (run-of height width cells limit buffer) buffer
+      its-run : answer-says r buffer′ ≡ runs.solved (run-of height width cells limit buffer) buffer
       its-run = solves .of-run fine
 
       pub stopped-says : (r .outcome ≡ 0 → ⊥) → common-says (not-complete r) buffer′ table ≡ common height width cells limit buffer table
       stopped-says stopped = (λ i. record { searched = with-number 16 (its-run i); table = table })
-          ∙ sym (stopped-list height width cells limit buffer table fine room (λ e. stopped (ap (λ (s : model.Solved). s .outcome) its-run ∙ e)))
+          ∙ sym (stopped-list height width cells limit buffer table fine room (λ e. stopped (ap (λ (s : runs.Solved). s .outcome) its-run ∙ e)))
 
       pub complete-says : r .outcome ≡ 0 → (cleared : List ℕ) → cleared ≡ replicate (places height width) 0 ++ drop (places height width) table
           → (table′ : List ℕ) → table′ ≡ records-overlaid height width (r .layouts) buffer′ (r .layouts) 0 cleared
           → common-says r buffer′ table′ ≡ common height width cells limit buffer table
       complete-says complete cleared zeros table′ laid = (λ i. record {
         searched = its-run i;
-        table = (laid ∙ ap (over (answer-says r buffer′)) zeros ∙ ap (λ (s : model.Solved). over s start) (solves .equal) ∙ table-left height width cells (not-refused height width cells fine) limit buffer past) i;
-      }) ∙ sym (complete-list height width cells limit buffer table fine room (sym (ap (λ (s : model.Solved). s .outcome) its-run) ∙ complete))
+        table = (laid ∙ ap (over (answer-says r buffer′)) zeros ∙ ap (λ (s : runs.Solved). over s start) (solves .equal) ∙ table-left height width cells (not-refused height width cells fine) limit buffer past) i;
+      }) ∙ sym (complete-list height width cells limit buffer table fine room (sym (ap (λ (s : runs.Solved). s .outcome) its-run) ∙ complete))
         where
-          over : model.Solved → List ℕ → List ℕ
+          over : runs.Solved → List ℕ → List ℕ
           over s from = records-overlaid height width (s .layouts) (s .buffer) (s .layouts) 0 from
 
           past : List ℕ

@@ -13,9 +13,10 @@ use Rattle.rules.specs.Grid.{Edge, Place, edge, no-edge, place-at, field-side, 
 use Rattle.rules.specs.Record.{byte-of, tabulate, byte-at-place, field, record-of, drawing-of}
 use Rattle.rules.specs.RecordLaws.{tabulate-same, record-shows, drawing-determines}
 use Rattle.model.specs.Records.{record-at}
-use Rattle.model.specs.Search.{scan, search, Solved, solve}
+use Rattle.model.specs.Runs.{scan, Solved}
+use Rattle.model.specs.Search.{search, solve}
 use Rattle.model.specs.Common.{in-every-layout, in-no-layout, in-some-layouts, has-line, all-have, none-has, common-byte, common-table}
-use Rattle.exact.specs.Exact.{exact-run}
+use Rattle.exact.specs.Exact.{search-run}
 use Rattle.promises.specs.HeldRecords.{records-left}
 use Rattle.copper.specs.Overlay.{overlaid, records-overlaid}
 
@@ -140,7 +141,7 @@ module _ (height width : ℕ) (cells : List ℤ) (accepted : Accepted height wid
   all-shown : AllShown height width records
   unfolding record-of grid-of
   all-shown r m =
-      let l = exact-run height width cells accepted limit (length buffer) .nothing-added r m in
+      let l = search-run height width cells accepted limit (length buffer) .nothing-added r m in
       let wide = accepted .width-in-range .0 in
       let again = drawing-determines g wide (l .drawing) (drawing-of width (record-of g (l .drawing))) (λ e on. sym (record-shows g wide (l .drawing) (l .listed .ordinary .placed) e)) in
       l .shown ∙ again ∙ ap (λ (bytes : List ℕ). record-of g (drawing-of width bytes)) (sym (l .shown))

@@ -4,17 +4,18 @@ use Prim.Native.Nat.{ℕ, _+_, _-_, _%_, _≤_, _<_}
 use mathlib.Core.Path.{_≡_, refl, sym, _∙_, ap}
 use mathlib.Core.Logic.{⊎-map}
 use mathlib.Core.Bool.{Bool, true, false, _&&_, _||_}
-use mathlib.Core.List.{List, [], List·Memᴰ, List·Memᴰ·not-nil, map}
+use mathlib.Core.List.{List, []}
 use native.Mathlib.Omega.{arith}
 use native.Mathlib.Nat.{zero-add}
 use borrow.Author.Tests.{eq-eqb, ltb-true}
 use lib.Dec.{eqb}
 use Rattle.rules.specs.Grid.{Edge, Grid, pads, OnBoard, right, down}
 use Rattle.rules.specs.Drawing.{Drawing, drawn, num, Listed}
-use Rattle.rules.specs.Record.{record-of, Ascending}
 use Rattle.rules.specs.Tests.{either-on, conflict}
-use Rattle.model.specs.Board.{EdgeState, isLine, isUndecided, State, with-edge, line-or-none, has-right, has-left, has-down, has-up, around, decide, enough, undecided, line, none}
-use Rattle.model.specs.Search.{Event, next-pad, degree-so-far, try}
+use Rattle.model.specs.PadTests.{has-right, has-left, has-down, has-up}
+use Rattle.model.specs.Board.{EdgeState, isLine, isUndecided, State, with-edge, line-or-none, around, decide, enough, undecided, line, none}
+use Rattle.model.specs.Runs.{Event}
+use Rattle.model.specs.Search.{next-pad, degree-so-far, try}
 use Rattle.propagation.specs.Edges.{line-or-none-decided}
 use Rattle.propagation.specs.Objects.{AllHold}
 use Rattle.propagation.specs.Items.{Onward, onward-trans}
@@ -23,10 +24,10 @@ use Rattle.propagation.specs.Squares.{geometry}
 use Rattle.propagation.specs.Counting.{among}
 use Rattle.propagation.specs.Agreement.{Agrees, drawn-degree}
 use Rattle.propagation.specs.ListedDrawing.{its-degree}
-use Rattle.propagation.specs.ProperGrid.{Proper}
+use Rattle.rules.specs.ProperGrid.{Proper}
 use Rattle.propagation.specs.Decisions.{one-decision-sound}
 use Rattle.propagation.specs.Preparing.{HolesShut}
-use Rattle.exact.specs.Events.{layouts-of, shown-codes}
+use Rattle.runs.specs.Branches.{Lists, Coded, lists-none, lists-alike}
 use Rattle.exact.specs.Passed.{Passed, left-decided, up-decided}
 use Rattle.exact.specs.NextPad.{StandsAt, NextFrom, next-is-later}
 
@@ -34,22 +35,9 @@ module _ (g : Grid) (proper : Proper g) where
   abbrev wide : 2 ≤ g .width
   wide = proper .wide
 
-  -- A LIST OF EVENTS LISTS the drawings that agree with a board, as records and ascending
-  pub record Lists (S : State) (events : List Event) : Type 1 where
-    pub truly : (bytes : List ℕ) → List·Memᴰ bytes (layouts-of events) → (D : Drawing) × Listed g D × Agrees D S × (bytes ≡ record-of g D)
-    pub wholly : (D : Drawing) → Listed g D → Agrees D S → List·Memᴰ (record-of g D) (layouts-of events)
-    pub ascending : Ascending (map (shown-codes g) (layouts-of events))
-
-  -- a branch lists those that have r to the right and d downward at pad v
-  pub record ListsBranch (S : State) (v : ℕ) (r d : Bool) (events : List Event) : Type 1 where
-    pub truly : (bytes : List ℕ) → List·Memᴰ bytes (layouts-of events)
-        → (D : Drawing) × Listed g D × Agrees D S × (bytes ≡ record-of g D) × (D .right v ≡ r) × (D .down v ≡ d)
-    pub wholly : (D : Drawing) → Listed g D → Agrees D S → D .right v ≡ r → D .down v ≡ d → List·Memᴰ (record-of g D) (layouts-of events)
-    pub ascending : Ascending (map (shown-codes g) (layouts-of events))
-
-  no-such : (S : State) (v : ℕ) (r d : Bool) → ((D : Drawing) → Listed g D → Agrees D S → D .right v ≡ r → D .down v ≡ d → ⊥) → ListsBranch S v r d []
-  unfolding layouts-of
-  no-such S v r d h = record { truly = λ c m. absurd (List·Memᴰ·not-nil m); wholly = λ D listed a p q. absurd (h D listed a p q); ascending = unfold Ascending in tt }
+  -- a branch lists the listed drawings that agree with the board and have r to the right and d downward at pad v
+  abbrev pub ListsBranch : State → ℕ → Bool → Bool → List Event → Type 1
+  ListsBranch S v r d events = Lists g (Coded (λ D. Agrees D S) v r d) events
 
   among-with : (has : Edge → Bool) (b : Bool) (e : Edge) (u : ℕ) (l : List (Edge × ℕ)) → among has (with-edge b e u l) ≡ num (b && has e) + among has l
   unfolding among
@@ -160,21 +148,17 @@ module _ (g : Grid) (proper : Proper g) where
         record { clear = z; holds = λ o. onward .still-holds z o (at .holds o); holes-shut = still-shut; passed = p .passed; inside = p .inside; right-there = p .right-there }
 
     -- WHAT THE BRANCH LISTS
-    pub branch-lists : (continue : ℕ → State → List Event) → ((w : ℕ) (T : State) → v < w → StandsAt g proper T w → Lists T (continue w T)) → ListsBranch S v r d (try g continue v S r d)
+    pub branch-lists : (continue : ℕ → State → List Event) → ((w : ℕ) (T : State) → v < w → StandsAt g proper T w → Lists g (λ D. Agrees D T) (continue w T)) → ListsBranch S v r d (try g continue v S r d)
     unfolding try
     branch-lists continue later-lists = go (eqb tried-degree 0 || eqb tried-degree 2) refl (after-both .flag) refl
       where
         go : (b : Bool) → (eqb tried-degree 0 || eqb tried-degree 2) ≡ b → (f : Bool) → after-both .flag ≡ f → ListsBranch S v r d (try g continue v S r d)
-        go false h f z = unfold after-right after-both tried-degree in (rw (h, try) (no-such S v r d (λ D listed a p q. conflict (passes-test D listed a p q) h)))
-        go true h true z = unfold after-right after-both tried-degree in (rw (h, try) (rw z (no-such S v r d (λ D listed a p q. conflict z (goes-through D listed a p q .0)))))
+        go false h f z = unfold after-right after-both tried-degree in (rw (h, try) (lists-none g _ (λ D listed (a, p, q). conflict (passes-test D listed a p q) h)))
+        go true h true z = unfold after-right after-both tried-degree in (rw (h, try) (rw z (lists-none g _ (λ D listed (a, p, q). conflict z (goes-through D listed a p q .0)))))
         go true h false z = unfold after-right after-both tried-degree in (rw (h, try) (rw z those))
           where
-            found : Lists after-both (continue (next-pad g (pads g) v after-both) after-both)
-            found = later-lists (next-pad g (pads g) v after-both) after-both (let q = goes-on-at z .on-to in omega arith) (stands-next z)
-
             those : ListsBranch S v r d (continue (next-pad g (pads g) v after-both) after-both)
-            those = record {
-              truly = λ c m. let (D, listed, a, e) = found .truly c m in (D, listed, agrees-before D a, e, agrees-there r (right v) D a (right-set z), agrees-there d (down v) D a (down-set z));
-              wholly = λ D listed a p q. found .wholly D listed (goes-through D listed a p q .1);
-              ascending = found .ascending;
-            }
+            those = lists-alike g (λ D. Agrees D after-both) (Coded (λ D. Agrees D S) v r d) (continue (next-pad g (pads g) v after-both) after-both)
+                (λ D listed a. (agrees-before D a, agrees-there r (right v) D a (right-set z), agrees-there d (down v) D a (down-set z)))
+                (λ D listed (a, p, q). goes-through D listed a p q .1)
+                (later-lists (next-pad g (pads g) v after-both) after-both (let q = goes-on-at z .on-to in omega arith) (stands-next z))

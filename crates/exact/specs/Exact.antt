@@ -1,46 +1,31 @@
 -- DEMAND 2 on the model, for every grid of every accepted size and code, with holes or without. The layouts of the search are, as records, each listed layout
--- exactly once, ascending by codes, and nothing else; a run with a limit and room stops early exactly where one of them runs out, and its
--- list is a beginning of that one; and no decision of any caller loses a listed layout or leaves a board that is not at rest.
--- The definitions are those of the rules and of the model; this file rests on SearchLists.antt, Runs.antt and propagation's Standing.antt.
-use Prim.Native.Nat.{ℕ, _≤_}
-use mathlib.Core.Path.{_≡_, refl, sym, _∙_, ap, subst}
+-- exactly once, ascending by codes, and nothing else (what a run with a limit and room then gives: runs' ExactLists.antt); and no decision of
+-- any caller loses a listed layout or leaves a board that is not at rest.
+-- The definitions are those of the rules and of the model; this file rests on SearchLists.antt and propagation's Standing.antt.
+use Prim.Native.Nat.{ℕ}
+use mathlib.Core.Path.{_≡_}
 use mathlib.Core.Bool.{true, false}
-use mathlib.Core.List.{List, _++_, List·Memᴰ, Memᴰ·append-left, map}
-use native.Mathlib.Omega.{arith}
-use borrow.Author.Tests.{ne-eqb}
+use mathlib.Core.List.{List}
 use lib.ListN.{length}
 use lib.IntN.{ℤ}
 use Rattle.rules.specs.Grid.{places, Grid, grid-of, Accepted}
 use Rattle.rules.specs.Drawing.{Drawing, Listed}
-use Rattle.rules.specs.Record.{record-of, ListedRecord, record-lines, Ascending}
-use Rattle.rules.specs.LineCount.{record-lines-of, lines-bound}
+use Rattle.rules.specs.ProperGrid.{Proper, accepted-proper}
 use Rattle.model.specs.Board.{fresh}
 use Rattle.model.specs.Calls.{Board}
 use Rattle.model.specs.Refusals.{grid-refusal}
-use Rattle.model.specs.RefusalLaws.{accepted-is-not-refused}
-use Rattle.model.specs.Search.{search, Run, scan, fewest, solved, declined-search, solve}
+use Rattle.model.specs.Runs.{scan, solved, declined-search}
+use Rattle.model.specs.Search.{search, solve}
 use Rattle.propagation.specs.BoardAtRest.{BoardAtRest, board-at-rest}
 use Rattle.propagation.specs.Agreement.{Agrees}
-use Rattle.propagation.specs.ProperGrid.{Proper, accepted-proper}
 use Rattle.propagation.specs.Decisions.{Decision, AgreesWith}
 use Rattle.propagation.specs.Preparing.{HolesShut, agrees-with-fresh}
 use Rattle.propagation.specs.Standing.{at-rest, holes-shut, decisions-sound, flag-means-none}
 use Rattle.propagation.specs.BoardCalls.{Made}
-use Rattle.exact.specs.Events.{layouts-of, visits-of, layouts-append, shown-codes, Distinct, ascending-distinct}
-use Rattle.exact.specs.Branch.{Lists}
+use Rattle.runs.specs.Events.{layouts-of, shown-codes, ascending-distinct}
+use Rattle.runs.specs.Branches.{Lists}
+use Rattle.runs.specs.ExactLists.{Exact, ExactRun, exact-run, call-is-run, call-is-declined}
 use Rattle.exact.specs.SearchLists.{search-lists}
-use Rattle.exact.specs.Runs.{RunSays, run-says, FewestOf, fewest-of}
-
--- EXACT: the list holds each listed layout once, ascending, and nothing else
-pub record Exact (g : Grid) (layouts : List (List ℕ)) : Type 1 where
-  -- nothing is added: each is the record of a listed drawing
-  pub nothing-added : (bytes : List ℕ) → List·Memᴰ bytes layouts → ListedRecord g bytes
-  -- nothing is lost: the record of every listed drawing is there
-  pub nothing-lost : (D : Drawing) → Listed g D → List·Memᴰ (record-of g D) layouts
-  -- they ascend by the codes of the pads
-  pub ascending : Ascending (map (shown-codes g) layouts)
-  -- so none stands twice
-  pub each-once : Distinct layouts
 
 -- the layouts of the search with no limit
 pub exact : (g : Grid) → Proper g → Exact g (layouts-of (search g))
@@ -51,70 +36,26 @@ exact g p = record {
   each-once = ascending-distinct (shown-codes g) (layouts-of (search g)) (found .ascending);
 }
   where
-    found : Lists g p (fresh g) (search g)
+    found : Lists g (λ D. Agrees D (fresh g)) (search g)
     found = search-lists g p
 
--- A RUN of an accepted grid, with any limit and any room
-pub record ExactRun (g : Grid) (limit room : ℕ) (run : Run) : Type 1 where
-  -- where it stops, and what it then reports: Runs.antt
-  pub stops-where : RunSays limit (places (g .height) (g .width)) room (search g) run
-  -- its records are a beginning of the layouts
-  pub rest : List (List ℕ)
-  pub beginning : run .records ++ rest ≡ layouts-of (search g)
-  -- and each of them is listed
-  pub nothing-added : (bytes : List ℕ) → List·Memᴰ bytes (run .records) → ListedRecord g bytes
-  -- complete: they are all the layouts, and visited counts every entry
-  pub complete : run .outcome ≡ 0 → Exact g (run .records)
-  pub complete-visited : run .outcome ≡ 0 → run .visited ≡ visits-of (search g)
-  -- the fewest lines, 481 for none
-  pub fewest-lines : FewestOf (run .records) (fewest (run .records))
-
-module _ (height width : ℕ) (cells : List ℤ) (accepted : Accepted height width cells) where
-  abbrev its-grid : Grid
-  its-grid = grid-of height width cells
-
-  pub exact-run : (limit room : ℕ) → ExactRun (grid-of height width cells) limit room (scan limit (places height width) 0 room (search (grid-of height width cells)))
-  unfolding grid-of
-  exact-run limit room = record {
-    stops-where = says;
-    rest = layouts-of (says .rest);
-    beginning = ap (λ l. l ++ layouts-of (says .rest)) (says .records-are) ∙ sym (layouts-append (says .done) (says .rest)) ∙ ap layouts-of (sym (says .beginning));
-    nothing-added = listed;
-    complete = λ o. subst (Exact its-grid) (sym (says .records-are ∙ ap layouts-of (says .complete-whole o))) whole;
-    complete-visited = λ o. says .visited-is ∙ ap visits-of (says .complete-whole o);
-    fewest-lines = fewest-of (scan limit (places height width) 0 room (search its-grid) .records) few;
-  }
-    where
-      proper : Proper its-grid
-      proper = accepted-proper height width cells accepted
-
-      whole : Exact its-grid (layouts-of (search its-grid))
-      whole = exact its-grid proper
-
-      says : RunSays limit (places height width) room (search its-grid) (scan limit (places height width) 0 room (search its-grid))
-      says = run-says limit (places height width) (search its-grid) room
-
-      listed : (bytes : List ℕ) → List·Memᴰ bytes (scan limit (places height width) 0 room (search its-grid) .records) → ListedRecord its-grid bytes
-      listed bytes m = whole .nothing-added bytes (rw (says .beginning, layouts-append (says .done) (says .rest)) (Memᴰ·append-left _ (rw (says .records-are) at m)))
-
-      few : (bytes : List ℕ) → List·Memᴰ bytes (scan limit (places height width) 0 room (search its-grid) .records) → record-lines bytes ≤ 480
-      few bytes m = let r = listed bytes m in
-          let placed = r .listed .ordinary .placed in
-          let bound = lines-bound its-grid (proper .tall) (proper .wide) (r .drawing) placed (accepted .height-in-range .1) (accepted .width-in-range .1) in
-          let same = ap record-lines (r .shown) ∙ record-lines-of its-grid (proper .tall) (proper .wide) (r .drawing) placed in
-          omega (arith, bound, same)
+-- A RUN OF THE SEARCH of an accepted grid, with any limit and any room
+pub search-run : (height width : ℕ) (cells : List ℤ) → Accepted height width cells → (limit room : ℕ)
+    → ExactRun (grid-of height width cells) (search (grid-of height width cells)) limit room (scan limit (places height width) 0 room (search (grid-of height width cells)))
+search-run height width cells accepted limit room =
+    exact-run height width cells accepted (search (grid-of height width cells)) (exact (grid-of height width cells) (accepted-proper height width cells accepted)) limit room
 
 -- SOLVE of an accepted grid is such a run, with the answer buffer as room: nothing is refused
 pub solve-is-run : (height width : ℕ) (cells : List ℤ) → Accepted height width cells → (limit : ℕ) (buffer : List ℕ)
     → solve height width cells limit buffer ≡ solved (scan limit (places height width) 0 (length buffer) (search (grid-of height width cells))) buffer
 unfolding solve
-solve-is-run height width cells accepted limit buffer = rw (accepted-is-not-refused height width cells accepted, solve) refl
+solve-is-run height width cells accepted limit buffer = call-is-run (λ g. search g) height width cells accepted limit buffer
 
 -- and of a grid that is refused it is a declined search
 pub solve-is-declined : (height width : ℕ) (cells : List ℤ) → (grid-refusal height width cells .0 ≡ 0 → ⊥) → (limit : ℕ) (buffer : List ℕ)
     → solve height width cells limit buffer ≡ declined-search (grid-refusal height width cells .0) (grid-refusal height width cells .1) buffer
 unfolding solve
-solve-is-declined height width cells refused limit buffer = rw (ne-eqb (grid-refusal height width cells .0) 0 refused, solve) refl
+solve-is-declined height width cells refused limit buffer = call-is-declined (λ g. search g) height width cells refused limit buffer
 
 -- ANY CALLER: a board as the calls hand it out, with the decisions standing now
 pub record SoundBoard (b : Board) (now : List Decision) : Type 1 where

@@ -9,12 +9,13 @@ use Rattle.rules.specs.Grid.{Edge, first, Grid, pads, right, down}
 use Rattle.rules.specs.Drawing.{Drawing, drawn, Placed}
 use Rattle.rules.specs.Record.{pad-code}
 use Rattle.rules.specs.Tests.{both, both-off, second-off, conflict}
-use Rattle.model.specs.Board.{EdgeState, isLine, isUndecided, State, has-right, has-down, undecided, line, none}
+use Rattle.model.specs.PadTests.{has-right, has-down}
+use Rattle.model.specs.Board.{EdgeState, isLine, isUndecided, State, undecided, line, none}
 use Rattle.model.specs.Search.{next-pad}
 use Rattle.propagation.specs.Edges.{drawing}
 use Rattle.propagation.specs.Objects.{AtRest, Holds, AllHold, pad}
 use Rattle.propagation.specs.Agreement.{Agrees}
-use Rattle.propagation.specs.ProperGrid.{Proper}
+use Rattle.rules.specs.ProperGrid.{Proper}
 use Rattle.propagation.specs.Preparing.{HolesShut}
 use Rattle.exact.specs.Passed.{Passed, passed-edge, pass}
 

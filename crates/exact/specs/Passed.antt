@@ -12,7 +12,8 @@ use borrow.Author.Tests.{lt-ltb, ltb-true}
 use Rattle.rules.specs.Grid.{Edge, first, Grid, pads, OnBoard, right, down}
 use Rattle.rules.specs.Tests.{conflict, not-so}
 use Rattle.rules.specs.Places.{previous-column}
-use Rattle.model.specs.Board.{isUndecided, State, undecideds, has-right, has-left, has-down, has-up, around}
+use Rattle.model.specs.PadTests.{has-right, has-left, has-down, has-up}
+use Rattle.model.specs.Board.{isUndecided, State, undecideds, around}
 use Rattle.propagation.specs.Objects.{AtRest}
 use Rattle.propagation.specs.Squares.{Neighbour, neighbour, one-before, row-before, to-left, to-right, to-above, to-below}
 use Rattle.propagation.specs.Counting.{undecideds-among, one-to, some-among, right-around, down-around, around-apart}

@@ -1,43 +1,35 @@
 -- The search lists exactly the listed drawings that agree with the board it stands on: in the last row the board itself, above it what the
 -- four branches list, one after the other, which ascends because the pads before are decided alike and m rises. From the fresh board, with
 -- which every listed drawing agrees, these are all of them; where its flag is set, there are none.
-use Prim.Native.Nat.{ℕ, zero, suc, _+_, _*_, _%_, _≤_, _<_}
+use Prim.Native.Nat.{ℕ, zero, suc, _+_, _≤_, _<_}
 use mathlib.Core.Path.{_≡_, refl, sym, _∙_, ap, subst}
 use mathlib.Core.Logic.{⊎-elim}
 use mathlib.Core.Bool.{Bool, true, false}
-use mathlib.Core.List.{List, [], _∷_, _++_, List·Memᴰ, List·Memᴰ·append-cases, List·Memᴰ·cases-cons, List·Memᴰ·head, List·Memᴰ·not-nil, Memᴰ·append-left, Memᴰ·append-right}
+use mathlib.Core.List.{List, [], _∷_, _++_, List·Memᴰ·cases-cons, List·Memᴰ·head, List·Memᴰ·not-nil}
 use native.Mathlib.Omega.{arith}
-use native.Mathlib.Decide.{ℕ-discrete}
 use native.Mathlib.Nat.{mul-le-mul-right}
 use Rattle.rules.specs.Grid.{Edge, Grid, pads, OnBoard, right, down}
-use Rattle.rules.specs.Drawing.{Drawing, drawn, num, Listed}
-use Rattle.rules.specs.Record.{byte-of, tabulate, record-of, pad-code, codes, Before, Ascending, lower, later}
+use Rattle.rules.specs.Drawing.{Drawing, drawn}
+use Rattle.rules.specs.Record.{byte-of, record-of, Ascending}
 use Rattle.rules.specs.RecordLaws.{field-same}
 use Rattle.rules.specs.Tests.{conflict}
 use Rattle.rules.specs.Places.{first-inside}
-use Rattle.model.specs.Board.{EdgeState, isLine, isUndecided, State, has-down, fresh, undecided, line, none}
+use Rattle.model.specs.PadTests.{has-down}
+use Rattle.model.specs.Board.{EdgeState, isLine, isUndecided, State, fresh, undecided, line, none}
 use Rattle.model.specs.Calls.{state-byte}
-use Rattle.model.specs.Search.{Event, board-record, next-pad, backtrack, search, visit, layout}
+use Rattle.model.specs.Runs.{Event, visit, layout}
+use Rattle.model.specs.Search.{board-record, next-pad, backtrack, search}
 use Rattle.model.specs.SearchStart.{flagged-search, clear-search}
 use Rattle.propagation.specs.Edges.{drawing}
 use Rattle.propagation.specs.Agreement.{Agrees}
-use Rattle.propagation.specs.ProperGrid.{Proper}
+use Rattle.rules.specs.ProperGrid.{Proper}
 use Rattle.propagation.specs.Preparing.{fresh-rests, agrees-with-fresh, fresh-shuts-holes}
-use Rattle.exact.specs.Events.{layouts-of, layouts-append, shown-codes, codes-shown, ascending-append}
+use Rattle.runs.specs.Events.{layouts-of}
+use Rattle.runs.specs.Branches.{Lists, lists-none, lists-counted, four-branches}
 use Rattle.exact.specs.Passed.{Passed, passed-edge, pass-last-row}
 use Rattle.exact.specs.WholeBoard.{whole-listed}
 use Rattle.exact.specs.NextPad.{StandsAt, NextFrom, rest-at, same-code, next-from}
-use Rattle.exact.specs.Branch.{Lists, ListsBranch, branch-lists}
-
--- two drawings alike before w, and the first with the lower code at w
-codes-before : (D E : Drawing) (v n w : ℕ) → v ≤ w → w < v + n → ((u : ℕ) → u < w → pad-code D u ≡ pad-code E u) → pad-code D w < pad-code E w
-    → Before (tabulate (pad-code D) v n) (tabulate (pad-code E) v n)
-unfolding tabulate
-codes-before D E v zero w a b h k = absurd (omega arith)
-codes-before D E v (suc n) w a b h k = elim (ℕ-discrete v w) [
-  | yes e ↦ (let q : pad-code D v < pad-code E v = rw e k in lower q)
-  | no ne ↦ rw (h v (omega arith)) (later (codes-before D E (v + 1) n w (omega arith) (omega arith) h k))
-]
+use Rattle.exact.specs.Branch.{ListsBranch, branch-lists}
 
 -- the board's own drawing agrees with it
 agrees-itself : (S : State) → Agrees (drawing S) S
@@ -69,7 +61,7 @@ module _ (g : Grid) (proper : Proper g) where
           go none h = rw (h, a .where-none e h)
           go undecided h = conflict {b = isUndecided (S .edge e)} (ap isUndecided h) (passed-edge g wide S (pads g) passed e (first-inside g e on) on)
 
-  last-row-lists : (S : State) (v : ℕ) → StandsAt g proper S v → has-down g v ≡ false → Lists g proper S (visit ∷ layout (board-record g S) ∷ [])
+  last-row-lists : (S : State) (v : ℕ) → StandsAt g proper S v → has-down g v ≡ false → Lists g (λ D. Agrees D S) (visit ∷ layout (board-record g S) ∷ [])
   unfolding layouts-of
   last-row-lists S v at last = record {
     truly = λ c m. (
@@ -85,70 +77,22 @@ module _ (g : Grid) (proper : Proper g) where
       whole : Passed g wide S (pads g)
       whole = pass-last-row g wide S (rest-at g proper S (at .holds)) v (at .inside) last (at .passed)
 
-  -- ABOVE IT the four branches
-  module _ (S : State) (v : ℕ) (at : StandsAt g proper S v) where
-    abbrev Branch : Bool → Bool → List Event → Type 1
-    Branch r d events = ListsBranch g proper S v r d events
-
-    -- what a branch lists comes before what a branch of higher code lists
-    branch-before : {r d r′ d′ : Bool} {x y : List Event} → Branch r d x → Branch r′ d′ y → num r + 2 * num d < num r′ + 2 * num d′
-        → (a b : List ℕ) → List·Memᴰ a (layouts-of x) → List·Memᴰ b (layouts-of y) → Before (shown-codes g a) (shown-codes g b)
-    branch-before p q h a b m n =
-        let (D, listed, agrees, e, er, ed) = p .truly a m in
-        let (E, also-listed, also-agrees, f, fr, fd) = q .truly b n in
-        rw (e, f, codes-shown g wide D (listed .ordinary .placed), codes-shown g wide E (also-listed .ordinary .placed))
-        (unfold codes in (codes-before D E 0 (pads g) v (omega arith) (let k = at .inside in omega arith)
-        (λ u l. same-code g proper D (listed .ordinary .placed) S agrees v (at .passed) u l ∙ sym (same-code g proper E (also-listed .ordinary .placed) S also-agrees v (at .passed) u l))
-        (rw (er, ed, fr, fd) h)))
-
-    four-branches : {a b c d : List Event} → Branch false false a → Branch true false b → Branch false true c → Branch true true d
-        → Lists g proper S (visit ∷ (a ++ (b ++ (c ++ d))))
-    unfolding layouts-of
-    four-branches {a} {b} {c} {d} pa pb pc pd = record {
-      truly = λ x m. ⊎-elim (from pa x) (λ m. ⊎-elim (from pb x) (λ m. ⊎-elim (from pc x) (from pd x)
-          (List·Memᴰ·append-cases rc m)) (List·Memᴰ·append-cases rb m)) (List·Memᴰ·append-cases ra (rw all at m));
-      wholly = λ D listed agrees. rw all (in-branch D listed agrees (D .right v) (D .down v) refl refl);
-      ascending = rw all (ascending-append (shown-codes g) ra (rb ++ (rc ++ rd)) (pa .ascending)
-          (ascending-append (shown-codes g) rb (rc ++ rd) (pb .ascending)
-          (ascending-append (shown-codes g) rc rd (pc .ascending) (pd .ascending) (branch-before pc pd (omega arith)))
-          (λ x y m n. ⊎-elim (branch-before pb pc (omega arith) x y m) (branch-before pb pd (omega arith) x y m) (List·Memᴰ·append-cases rc n)))
-          (λ x y m n. ⊎-elim (branch-before pa pb (omega arith) x y m)
-          (λ n. ⊎-elim (branch-before pa pc (omega arith) x y m) (branch-before pa pd (omega arith) x y m) (List·Memᴰ·append-cases rc n)) (List·Memᴰ·append-cases rb n)));
-    }
-      where
-        ra : List (List ℕ)
-        ra = layouts-of a
-
-        rb : List (List ℕ)
-        rb = layouts-of b
-
-        rc : List (List ℕ)
-        rc = layouts-of c
-
-        rd : List (List ℕ)
-        rd = layouts-of d
-
-        all : layouts-of (a ++ (b ++ (c ++ d))) ≡ ra ++ (rb ++ (rc ++ rd))
-        all = layouts-append a (b ++ (c ++ d)) ∙ ap (λ x. ra ++ x) (layouts-append b (c ++ d) ∙ ap (λ x. rb ++ x) (layouts-append c d))
-
-        from : {r e : Bool} {l : List Event} → Branch r e l → (x : List ℕ) → List·Memᴰ x (layouts-of l) → (D : Drawing) × Listed g D × Agrees D S × (x ≡ record-of g D)
-        from p x m = let (D, listed, agrees, e, er, ed) = p .truly x m in (D, listed, agrees, e)
-
-        in-branch : (D : Drawing) → Listed g D → Agrees D S → (r e : Bool) → D .right v ≡ r → D .down v ≡ e → List·Memᴰ (record-of g D) (ra ++ (rb ++ (rc ++ rd)))
-        in-branch D listed agrees false false p q = Memᴰ·append-left _ (pa .wholly D listed agrees p q)
-        in-branch D listed agrees true false p q = Memᴰ·append-right ra (Memᴰ·append-left _ (pb .wholly D listed agrees p q))
-        in-branch D listed agrees false true p q = Memᴰ·append-right ra (Memᴰ·append-right rb (Memᴰ·append-left _ (pc .wholly D listed agrees p q)))
-        in-branch D listed agrees true true p q = Memᴰ·append-right ra (Memᴰ·append-right rb (Memᴰ·append-right rc (pd .wholly D listed agrees p q)))
+  -- ABOVE IT the four branches: the drawings that agree with the board have its codes before the pad
+  board-branches : (S : State) (v : ℕ) → StandsAt g proper S v → {a b c d : List Event} → ListsBranch g proper S v false false a → ListsBranch g proper S v true false b
+      → ListsBranch g proper S v false true c → ListsBranch g proper S v true true d → Lists g (λ D. Agrees D S) (visit ∷ (a ++ (b ++ (c ++ d))))
+  board-branches S v at pa pb pc pd = lists-counted g _ _ (four-branches g wide (λ D. Agrees D S) v (at .inside)
+      (λ D E placed also-placed agrees also-agrees u l. same-code g proper D placed S agrees v (at .passed) u l ∙ sym (same-code g proper E also-placed S also-agrees v (at .passed) u l))
+      pa pb pc pd)
 
   -- THE RECURSION: each entry is at a later pad
-  backtrack-lists : (n v : ℕ) (S : State) → StandsAt g proper S v → pads g ≤ v + n → Lists g proper S (backtrack g n v S)
+  backtrack-lists : (n v : ℕ) (S : State) → StandsAt g proper S v → pads g ≤ v + n → Lists g (λ D. Agrees D S) (backtrack g n v S)
   unfolding backtrack
   backtrack-lists zero v S at bound = let k = at .inside in absurd (omega arith)
   backtrack-lists (suc n) v S at bound = go (has-down g v) refl (λ w T l j. backtrack-lists n w T j (omega arith))
     where
-      go : (b : Bool) → has-down g v ≡ b → ((w : ℕ) (T : State) → v < w → StandsAt g proper T w → Lists g proper T (backtrack g n w T)) → Lists g proper S (backtrack g (suc n) v S)
+      go : (b : Bool) → has-down g v ≡ b → ((w : ℕ) (T : State) → v < w → StandsAt g proper T w → Lists g (λ D. Agrees D T) (backtrack g n w T)) → Lists g (λ D. Agrees D S) (backtrack g (suc n) v S)
       go false d deeper = rw (d, backtrack) (last-row-lists S v at d)
-      go true d deeper = rw (d, backtrack) (four-branches S v at
+      go true d deeper = rw (d, backtrack) (board-branches S v at
           (branch-lists g proper S v at d false false (λ u T. backtrack g n u T) deeper) (branch-lists g proper S v at d true false (λ u T. backtrack g n u T) deeper)
           (branch-lists g proper S v at d false true (λ u T. backtrack g n u T) deeper) (branch-lists g proper S v at d true true (λ u T. backtrack g n u T) deeper))
 
@@ -169,18 +113,13 @@ module _ (g : Grid) (proper : Proper g) where
   }
 
   -- where preparing has set the flag there is nothing to list
-  none-to-list : fresh g .flag ≡ true → Lists g proper (fresh g) []
-  unfolding layouts-of
-  none-to-list set = record {
-    truly = λ c m. absurd (List·Memᴰ·not-nil m);
-    wholly = λ D listed a. conflict set (agrees-with-fresh g proper D listed .0);
-    ascending = unfold Ascending in tt;
-  }
+  none-to-list : fresh g .flag ≡ true → Lists g (λ D. Agrees D (fresh g)) []
+  none-to-list set = lists-none g _ (λ D listed a. conflict set (agrees-with-fresh g proper D listed .0))
 
-  pub search-lists : Lists g proper (fresh g) (search g)
+  pub search-lists : Lists g (λ D. Agrees D (fresh g)) (search g)
   unfolding search
   search-lists = go (fresh g .flag) refl
     where
-      go : (b : Bool) → fresh g .flag ≡ b → Lists g proper (fresh g) (search g)
-      go true h = subst (Lists g proper (fresh g)) (sym (flagged-search g (fresh g) h)) (none-to-list h)
-      go false h = subst (Lists g proper (fresh g)) (sym (clear-search g (fresh g) h)) (backtrack-lists (pads g) (next-pad g (pads g) 0 (fresh g)) (fresh g) (stands-first h) (omega arith))
+      go : (b : Bool) → fresh g .flag ≡ b → Lists g (λ D. Agrees D (fresh g)) (search g)
+      go true h = subst (Lists g (λ D. Agrees D (fresh g))) (sym (flagged-search g (fresh g) h)) (none-to-list h)
+      go false h = subst (Lists g (λ D. Agrees D (fresh g))) (sym (clear-search g (fresh g) h)) (backtrack-lists (pads g) (next-pad g (pads g) 0 (fresh g)) (fresh g) (stands-first h) (omega arith))

@@ -12,9 +12,10 @@ use Rattle.rules.specs.Drawing.{drawn, NoLine, num, Listed}
 use Rattle.rules.specs.Places.{zero≢one, next-in-row}
 use Rattle.rules.specs.Tests.{conflict, num-none}
 use Rattle.model.specs.JoinedEnds.{End, through, at-pad, at-clue}
-use Rattle.model.specs.Board.{isLine, isUndecided, State, isClue, undecideds, around, degree, line}
-use Rattle.propagation.specs.Ends.{Room, other-room, clue-room}
-use Rattle.propagation.specs.Refutation.{finished-wired}
+use Rattle.model.specs.PadTests.{isClue}
+use Rattle.model.specs.Board.{isLine, isUndecided, State, undecideds, around, degree, line}
+use Rattle.ends.specs.Ends.{Room, other-room, clue-room}
+use Rattle.ends.specs.Refutation.{finished-wired}
 use Rattle.propagation.specs.Edges.{drawing, board-lines, edge-of}
 use Rattle.propagation.specs.Objects.{AtRest, AllHold}
 use Rattle.propagation.specs.Squares.{Neighbour, neighbour, to-left, to-right, to-above, to-below}

@@ -5,7 +5,7 @@ use mathlib.Core.Path.{_≡_, refl}
 use native.Mathlib.Omega.{arith}
 use native.Mathlib.Decide.{decLe}
 use borrow.Author.Tests.{le-leb, lt-leb}
-use Rattle.model.specs.Search.{least}
+use Rattle.model.specs.Runs.{least}
 use Rattle.model.specs.RoutesTo as model
 use Rattle.model.specs.Routes.{routes-limit}
 use Rattle.growing.specs.declared.Limit.{Limit}

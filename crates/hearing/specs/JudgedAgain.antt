@@ -1,6 +1,6 @@
 -- What `routes` prints can be judged again: the codes that it prints for the record of a drawing are codes of the right length that fit, and
 -- their record is the same record; so each layout that it prints is judged 2, with its lines. It rests on the rules' RecordLaws.antt, on the
--- definitions of what `routes` prints and of what the judge makes of codes, and on what the judge says (crate `ruletest`).
+-- definitions of what `routes` prints and of what the judge makes of codes, and on what the judge says (crate `promises`).
 use Rattle.model.specs.Choice.{if_then_else_}
 use Prim.Native.Nat.{ℕ, zero, suc, _+_, _*_, _%_, _/_, _≤_, _<_}
 use mathlib.Core.Path.{_≡_, refl, sym, ap, _∙_}
@@ -25,11 +25,12 @@ use Rattle.model.specs.GridFile.{read}
 use Rattle.model.specs.Printed.{line-at, right-line, down-line, code-of-pad, code-digits-from, code-digits, reading-text}
 use Rattle.model.specs.Judge.{judge}
 use Rattle.model.specs.JudgeText.{zero-digit, digit-at, code-at, coded, digit-fits, codes-fit, record-of-codes, judged-line, judged-text, judge-text}
-use Rattle.model.specs.Search.{scan, search}
+use Rattle.model.specs.Runs.{scan}
+use Rattle.model.specs.Search.{search}
 use Rattle.model.specs.Routes.{found-within}
 use Rattle.reading.specs.ReadingLaws.{read-sound}
 use Rattle.promises.specs.Promises.{Promised, promised}
-use Rattle.ruletest.specs.Verdicts.{judge-says}
+use Rattle.promises.specs.Verdicts.{judge-says}
 
 -- ## The codes that are printed, by their indexes
 
@@ -176,7 +177,7 @@ module _ (limit room : ℕ) (input : List ℕ) (accepted : read (take 4096 input
   sound : Accepted file-height file-width file-cells
   sound = read-sound (take 4096 input) .in-range accepted
 
-  its-promise : Promised file-grid limit room (scan limit (places file-height file-width) 0 room (search file-grid))
+  its-promise : Promised file-grid (search file-grid) limit room (scan limit (places file-height file-width) 0 room (search file-grid))
   its-promise = promised file-height file-width file-cells sound limit room
 
   -- what is printed is listed

@@ -17,7 +17,8 @@ use Rattle.model.specs.Writing.{Writing, write}
 use Rattle.model.specs.Records.{record-length, has-record, record-at}
 use Rattle.model.specs.Judge.{Judged, judge}
 use Rattle.hunekowha.specs.Lent.{written, ReadGives, read-numbers, reading-gives, write-numbers, write-gives, record-place, record-gives, judge-numbers, judge-gives, solve-numbers, solve-gives, common-gives}
-use Rattle.model.specs.Search.{Solved, solve}
+use Rattle.model.specs.Runs.{Solved}
+use Rattle.model.specs.Search.{solve}
 use Rattle.model.specs.Common.{Common, common}
 
 -- a copy of a whole list to the front

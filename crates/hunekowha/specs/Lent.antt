@@ -11,7 +11,8 @@ use Rattle.model.specs.GridFile.{Reading}
 use Rattle.model.specs.Writing.{Writing, write}
 use Rattle.model.specs.Records.{record-length, has-record}
 use Rattle.model.specs.Judge.{Judged, judge}
-use Rattle.model.specs.Search.{Solved, solve}
+use Rattle.model.specs.Runs.{Solved}
+use Rattle.model.specs.Search.{solve}
 use Rattle.model.specs.Common.{common}
 use Rattle.solver.specs.declared.Solved.{Solved as Answered}
 use Rattle.solver.specs.Answers.{answer-says}

@@ -13,7 +13,7 @@ use Rattle.model.specs.Bounds.{is-size}
 use Rattle.model.specs.RefusalLaws.{size-of-test}
 use Rattle.model.specs.Records.{has-record, record-at}
 use Rattle.model.specs.HasRecord.{HasRecord, what-a-record-has, record-is-there, that-part, this-record, record-here}
-use Rattle.model.specs.Search.{concat}
+use Rattle.model.specs.Runs.{concat}
 use Rattle.model.specs.Printed.{layout-line, layout-lines}
 use Rattle.printed.specs.Written.{Written, layout-text}
 use Rattle.listing.specs.Listing.{line-text}

@@ -1,6 +1,6 @@
 -- A SEARCH THAT IS RUN AGAIN with a higher limit, into the buffer that the run before it left: head and buffer are then those of one run with that
 -- limit into the buffer as it was at first (`headed-again`). And a run that is not spent has the head and the buffer of any higher limit
--- (`headed-last`). Both rest on what a second run keeps of the first (exact's TwoRuns.antt).
+-- (`headed-last`). Both rest on what a second run keeps of the first (runs' TwoRuns.antt).
 use Prim.Native.Nat.{ℕ, zero, suc, _+_, _*_, _≤_}
 use mathlib.Core.Path.{_≡_, refl, ap, _∙_}
 use mathlib.Core.List.{List, [], _++_}
@@ -9,12 +9,13 @@ use lib.ListN.{length, take, drop, length-append, length-drop}
 use lib.Seq.{drop-drop, drop-append-add}
 use Rattle.rules.specs.Grid.{grid-of, places}
 use Rattle.model.specs.HasRecord.{concat-append, concat-length}
-use Rattle.model.specs.Search.{Run, scan, search, concat}
+use Rattle.model.specs.Runs.{Run, scan, concat}
+use Rattle.model.specs.Search.{search}
 use Rattle.model.specs.GridFile.{Reading, read}
 use Rattle.model.specs.Routes.{found-within}
-use Rattle.exact.specs.Events.{Beginning}
-use Rattle.exact.specs.Runs.{records-fit}
-use Rattle.exact.specs.TwoRuns.{Continued, continued}
+use Rattle.runs.specs.Events.{Beginning}
+use Rattle.runs.specs.Runs.{records-fit}
+use Rattle.runs.specs.TwoRuns.{Continued, continued}
 use Rattle.promises.specs.HeldRecords.{records-long}
 use Rattle.reading.specs.ReadingLaws.{SoundReading, read-sound}
 use Rattle.listing.specs.declared.Heading.{Heading}

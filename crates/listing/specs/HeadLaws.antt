@@ -8,7 +8,7 @@ use lib.ListN.{length, take}
 use lib.IntN.{ℤ}
 use Rattle.model.specs.Refusals.{grid-refusal}
 use Rattle.model.specs.RefusalLaws.{accepted-is-not-refused}
-use Rattle.model.specs.Search as model
+use Rattle.model.specs.Runs as runs
 use Rattle.model.specs.GridFile.{Reading, Standing, read, read-from, start, accepted, declined, refusal, is-complete, after}
 use Rattle.model.specs.Printed.{summary-line}
 use Rattle.model.specs.Routes.{found-within}
@@ -43,7 +43,7 @@ module _ (file : List ℕ) (reading : Reading) (same : reading ≡ read file) wh
 
   module _ (limit : ℕ) (buffer : List ℕ) (refuses : reading .number ≡ 0 → ⊥) (r : Heading) (refused : Refused (reading .number) (reading .line) (reading .field) r) where
     pub refused-head : Headed limit file buffer r buffer
-    unfolding reading-head reading-found put-records model.concat
+    unfolding reading-head reading-found put-records runs.concat
     refused-head = go (reading .number) refl
       where
         go : (m : ℕ) → reading .number ≡ m → Headed limit file buffer r buffer
@@ -66,13 +66,13 @@ module _ (file : List ℕ) (reading : Reading) (same : reading ≡ read file) wh
     abbrev cells : List ℤ
     cells = take (reading .height * reading .width) (reading .cells)
 
-    abbrev run : model.Run
+    abbrev run : runs.Run
     run = run-of (reading .height) (reading .width) cells limit buffer
 
     not-refused : grid-refusal (reading .height) (reading .width) cells .0 ≡ 0
     not-refused = ap (λ (x : ℕ × ℕ). x .0) (accepted-is-not-refused (reading .height) (reading .width) cells (rw same (read-sound file .in-range (rw same at accepts))))
 
-    says : answer-says found buffer′ ≡ model.solved run buffer
+    says : answer-says found buffer′ ≡ runs.solved run buffer
     says = solves .of-run not-refused
 
     pub accepted-head : (bytes : List ℕ) (long : ℕ) → Written 67 (summary-line (found .layouts) (found .visited) (found .fewest) (found .outcome)) bytes long
@@ -80,12 +80,12 @@ module _ (file : List ℕ) (reading : Reading) (same : reading ≡ read file) wh
         { bytes = bytes; length = long; number = 0; height = reading .height; width = reading .width; outcome = found .outcome; layouts = found .layouts; visited = found .visited }) buffer′
     unfolding reading-head reading-found put-records grid-found found-within
     accepted-head bytes long written = record {
-      text = rw (← same, accepts) (rw (ap (λ (s : model.Solved). s .layouts) says, ap (λ (s : model.Solved). s .visited) says, ap (λ (s : model.Solved). s .fewest-lines) says, ap (λ (s : model.Solved). s .outcome) says) at written);
+      text = rw (← same, accepts) (rw (ap (λ (s : runs.Solved). s .layouts) says, ap (λ (s : runs.Solved). s .visited) says, ap (λ (s : runs.Solved). s .fewest-lines) says, ap (λ (s : runs.Solved). s .outcome) says) at written);
       number = rw (← same) (sym accepts);
       height = rw (← same) refl;
       width = rw (← same) refl;
-      outcome = rw (← same, accepts) (ap (λ (s : model.Solved). s .outcome) says);
-      layouts = rw (← same, accepts) (ap (λ (s : model.Solved). s .layouts) says);
-      visited = rw (← same, accepts) (ap (λ (s : model.Solved). s .visited) says);
-      after = rw (← same, accepts) (ap (λ (s : model.Solved). s .buffer) says);
+      outcome = rw (← same, accepts) (ap (λ (s : runs.Solved). s .outcome) says);
+      layouts = rw (← same, accepts) (ap (λ (s : runs.Solved). s .layouts) says);
+      visited = rw (← same, accepts) (ap (λ (s : runs.Solved). s .visited) says);
+      after = rw (← same, accepts) (ap (λ (s : runs.Solved). s .buffer) says);
     }

@@ -6,7 +6,7 @@ use Prim.Native.Nat.{ℕ, zero, suc, _+_, _*_}
 use mathlib.Core.Path.{_≡_}
 use mathlib.Core.List.{List, [], _++_}
 use lib.ListN.{length, take, drop}
-use Rattle.model.specs.Search.{no-fewest, concat}
+use Rattle.model.specs.Runs.{no-fewest, concat}
 use Rattle.model.specs.Records.{has-record, record-at}
 use Rattle.model.specs.GridFile.{Reading, read}
 use Rattle.model.specs.Printed.{Found, summary-line, refusal-line, layout-line, reading-text}

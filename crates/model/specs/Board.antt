@@ -1,12 +1,13 @@
 -- The board: its state, a decision step by step (a to f) and the pad check, as functions that compute. Document 01, sections 'The board',
 -- 'A decision' and 'The pad check', in the order of board.rs, exact also on boards whose flag is set. It rests on the rules' Grid.antt.
 -- A decision and a check are lists of items, done in order; an item tells whether the call ends there.
-use Prim.Native.Nat.{ℕ, zero, suc, _+_, _*_, _-_, _%_}
+use Prim.Native.Nat.{ℕ, zero, suc, _+_, _*_, _-_}
 use mathlib.Core.Bool.{Bool, true, false, _&&_, _||_, not}
 use mathlib.Core.List.{List, [], _∷_, _++_}
 use lib.Dec.{eqb, ltb, leb}
-use Rattle.rules.specs.Grid.{Edge, right, down, first, second, Cell, blank, clue, hole, Grid, pads}
+use Rattle.rules.specs.Grid.{Edge, right, down, first, second, Grid, pads}
 use Rattle.rules.specs.Drawing.{num, Side, on-left, on-right}
+use Rattle.model.specs.PadTests.{isBlank, isClue, isHole, has-right, has-left, has-down, has-up, on-board}
 use Rattle.model.specs.JoinedEnds.{End, through, at-pad, at-clue, bare-end, unjoinable, joined-ends}
 
 -- THE STATE of an edge: `EdgeState` of the Rust.
@@ -63,22 +64,6 @@ pub data Item : Type 0 where
   -- pad check: count, set the flag, or decide the first undecided edge
   settle : ℕ → Item
 
--- A PAD is blank, a clue or a hole. Blank is what corners and bars ask; clue is what the degree asks.
-abbrev pub isBlank : Cell → Bool
-isBlank blank = true
-isBlank (clue c) = false
-isBlank hole = false
-
-abbrev pub isClue : Cell → Bool
-isClue blank = false
-isClue (clue c) = true
-isClue hole = false
-
-abbrev pub isHole : Cell → Bool
-isHole blank = false
-isHole (clue c) = false
-isHole hole = true
-
 -- the other three edges of a unit square: each, if a line, makes the other two none
 abbrev pub detours : Edge → Edge → Edge → List Item
 detours a b c = detour a b c ∷ detour b a c ∷ detour c a b ∷ []
@@ -132,27 +117,10 @@ keep-aparts code [] = []
 keep-aparts code (p ∷ l) = keep-apart code (p .0) (p .1) ∷ keep-aparts code l
 
 module _ (g : Grid) where
-  -- GEOMETRY: which neighbours a pad has
-  abbrev pub has-right : ℕ → Bool
-  has-right v = ltb (v % g .width + 1) (g .width)
-
-  abbrev pub has-left : ℕ → Bool
-  has-left v = ltb 0 (v % g .width)
-
-  abbrev pub has-down : ℕ → Bool
-  has-down v = ltb (v + g .width) (pads g)
-
-  abbrev pub has-up : ℕ → Bool
-  has-up v = leb (g .width) v
-
-  abbrev pub on-board : Edge → Bool
-  on-board (right v) = has-right v && ltb v (pads g)
-  on-board (down v) = has-down v
-
   -- a neighbour on that side, and the pad diagonally below on that side
   abbrev pub has-side : Side → ℕ → Bool
-  has-side on-right v = has-right v
-  has-side on-left v = has-left v
+  has-side on-right v = has-right g v
+  has-side on-left v = has-left g v
 
   abbrev pub diagonal : Side → ℕ → ℕ
   diagonal on-right v = v + g .width + 1
@@ -161,36 +129,36 @@ module _ (g : Grid) where
   -- barred down-right (down-left): the pad and every pad on its diagonal on that side, down to the rim, is blank; n rows at most
   unfoldable pub barred : Side → ℕ → ℕ → Bool
   barred side zero v = isBlank (g .cell v)
-  barred side (suc n) v = isBlank (g .cell v) && (elim (has-down v && has-side side v) [ true ↦ barred side n (diagonal side v) | false ↦ true ])
+  barred side (suc n) v = isBlank (g .cell v) && (elim (has-down g v && has-side side v) [ true ↦ barred side n (diagonal side v) | false ↦ true ])
 
   -- STEPS d AND e as items
   -- the right+down corner at the upper left pad u of a unit square, completed by edge a; pad q is diagonally below
   abbrev pub corner-right : ℕ → Edge → Item
-  corner-right u a = let q = u + g .width + 1 in corner q a (has-down q && has-right q) (right q) (down q)
+  corner-right u a = let q = u + g .width + 1 in corner q a (has-down g q && has-right g q) (right q) (down q)
 
   -- the left+down corner at its upper right pad u + 1
   abbrev pub corner-left : ℕ → Edge → Item
-  corner-left u a = let q = u + g .width in corner q a (has-down q && has-left q) (right (q - 1)) (down q)
+  corner-left u a = let q = u + g .width in corner q a (has-down g q && has-left g q) (right (q - 1)) (down q)
 
   -- all items of steps d and e for a line at an edge, in the order of the Rust
   unfoldable pub shape-items : Edge → List Item
-  shape-items (right v) = let u = v - g .width in when (has-right v && ltb v (pads g))
-      (when (has-up v) (detours (down u) (down (u + 1)) (right u))
-      ++ (when (has-down v) (detours (down v) (down (v + 1)) (right (v + g .width)))
-      ++ when (has-down v) (corner-right v (down v) ∷ corner-left v (down (v + 1))
+  shape-items (right v) = let u = v - g .width in when (has-right g v && ltb v (pads g))
+      (when (has-up g v) (detours (down u) (down (u + 1)) (right u))
+      ++ (when (has-down g v) (detours (down v) (down (v + 1)) (right (v + g .width)))
+      ++ when (has-down g v) (corner-right v (down v) ∷ corner-left v (down (v + 1))
       ∷ bar (barred on-right (g .height) v) (down v) ∷ bar (barred on-left (g .height) (v + 1)) (down (v + 1)) ∷ [])))
-  shape-items (down v) = let u = v - 1 in when (has-down v)
-      (when (has-left v) (detours (right u) (right (u + g .width)) (down u))
-      ++ (when (has-right v) (detours (right v) (right (v + g .width)) (down (v + 1)))
-      ++ (when (has-left v) (corner-left u (right u) ∷ [])
-      ++ (when (has-right v) (corner-right v (right v) ∷ [])
-      ++ (when (has-left v) (bar (barred on-left (g .height) v) (right u) ∷ [])
-      ++ when (has-right v) (bar (barred on-right (g .height) v) (right v) ∷ []))))))
+  shape-items (down v) = let u = v - 1 in when (has-down g v)
+      (when (has-left g v) (detours (right u) (right (u + g .width)) (down u))
+      ++ (when (has-right g v) (detours (right v) (right (v + g .width)) (down (v + 1)))
+      ++ (when (has-left g v) (corner-left u (right u) ∷ [])
+      ++ (when (has-right g v) (corner-right v (right v) ∷ [])
+      ++ (when (has-left g v) (bar (barred on-left (g .height) v) (right u) ∷ [])
+      ++ when (has-right g v) (bar (barred on-right (g .height) v) (right v) ∷ []))))))
 
   -- THE PAD CHECK. The edges at a pad: left, right, up, down, each with the pad beyond it.
   unfoldable pub around : ℕ → List (Edge × ℕ)
-  around v = with-edge (has-left v) (right (v - 1)) (v - 1) (with-edge (has-right v) (right v) (v + 1)
-      (with-edge (has-up v) (down (v - g .width)) (v - g .width) (with-edge (has-down v) (down v) (v + g .width) [])))
+  around v = with-edge (has-left g v) (right (v - 1)) (v - 1) (with-edge (has-right g v) (right v) (v + 1)
+      (with-edge (has-up g v) (down (v - g .width)) (v - g .width) (with-edge (has-down g v) (down v) (v + g .width) [])))
 
   -- a pad's lines, plus 1 for a clue
   unfoldable pub degree : State → ℕ → ℕ
@@ -257,7 +225,7 @@ module _ (g : Grid) where
   unfoldable mutual
     pub decide : ℕ → Edge → EdgeState → State → State
     decide zero e m S = set-flag S
-    decide (suc f) e m S = elim (on-board e) [
+    decide (suc f) e m S = elim (on-board g e) [
       | false ↦ set-flag S
       | true ↦ elim (isUndecided (S .edge e)) [
         | true ↦ after-store (λ a k T. decide f a k T) (λ v T. check f v T) e m (set-edge S e m)
@@ -276,7 +244,7 @@ module _ (g : Grid) where
   -- THE BARE BOARD: all edges undecided, a clue's end at its code, any other pad's at itself, the flag clear. What would be an edge off
   -- the board, to the right of the last column or below the last row, holds none for ever; no call reaches it.
   unfoldable pub bare : State
-  bare = record { edge = λ e. elim (on-board e) [ true ↦ undecided | false ↦ none ]; end = λ v. bare-end v (g .cell v); flag = false }
+  bare = record { edge = λ e. elim (on-board g e) [ true ↦ undecided | false ↦ none ]; end = λ v. bare-end v (g .cell v); flag = false }
 
   -- THE FRESH BOARD is the bare one after all edges at holes have been put to a decision as none, also once the flag is set: these edges,
   -- one after another,

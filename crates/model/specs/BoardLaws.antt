@@ -1,6 +1,6 @@
--- Small laws of the definitions of the board and of the ends: a pad is blank, a clue or a hole; an edge of the board passes its test, and no
+-- Small laws of the tests of a pad and of the ends: a pad is blank, a clue or a hole; an edge of the board passes its test, and no
 -- other does; the next pad of a row has one to its left; what the tests of an end say, and that it names at most one pad; and an end that is
--- put stands at its pad and nowhere else. They rest on Board.antt and JoinedEnds.antt.
+-- put stands at its pad and nowhere else. They rest on PadTests.antt and JoinedEnds.antt.
 use Prim.Native.Nat.{ℕ, _+_, _%_, _<_}
 use mathlib.Core.Path.{_≡_, refl, sym, ap}
 use mathlib.Core.Logic.{_≢_}
@@ -13,7 +13,7 @@ use Rattle.rules.specs.Grid.{Edge, right, down, Cell, blank, clue, hole, Grid, 
 use Rattle.rules.specs.Tests.{both, both-on, conflict}
 use Rattle.rules.specs.Places.{zero≢one, next-column}
 use Rattle.model.specs.JoinedEnds.{End, through, at-pad, at-clue, isThrough, isPad, put-end, put-end-at}
-use Rattle.model.specs.Board.{isBlank, isClue, isHole, has-left, has-right, on-board}
+use Rattle.model.specs.PadTests.{isBlank, isClue, isHole, has-left, has-right, on-board}
 
 -- WHAT A PAD IS
 pub blank-of : (C : Cell) → isBlank C ≡ true → C ≡ blank

@@ -11,7 +11,8 @@ use Rattle.rules.specs.Grid.{Edge, grid-of, places}
 use Rattle.rules.specs.Drawing.{drawn}
 use Rattle.rules.specs.Record.{drawing-of, field}
 use Rattle.model.specs.Refusals.{grid-refusal}
-use Rattle.model.specs.Search.{Solved, scan, search, solved, declined-search}
+use Rattle.model.specs.Runs.{Solved, scan, solved, declined-search}
+use Rattle.model.specs.Search.{search}
 
 -- BYTES of the table: 1 a line in every layout, 2 in none, 3 in some and missing in others; 0 between the edges, and for an empty list
 abbrev pub in-every-layout : ℕ

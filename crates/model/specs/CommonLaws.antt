@@ -8,7 +8,8 @@ use lib.IntN.{ℤ}
 use borrow.Author.Tests.{eq-eqb, ne-eqb, lt-ltb, le-ltb}
 use Rattle.rules.specs.Grid.{grid-of, places}
 use Rattle.model.specs.Refusals.{grid-refusal}
-use Rattle.model.specs.Search.{Run, scan, search, solved, declined-search}
+use Rattle.model.specs.Runs.{Run, scan, solved, declined-search}
+use Rattle.model.specs.Search.{search}
 use Rattle.model.specs.Common.{common-table, with-number, common}
 
 module _ (height width : ℕ) (cells : List ℤ) (limit : ℕ) (buffer table : List ℕ) where

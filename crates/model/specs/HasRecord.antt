@@ -14,7 +14,7 @@ use Rattle.rules.specs.Record.{tabulate}
 use Rattle.rules.specs.Tests.{both}
 use Rattle.model.specs.Bounds.{is-size}
 use Rattle.model.specs.Records.{record-length, has-record, record-at}
-use Rattle.model.specs.Search.{concat}
+use Rattle.model.specs.Runs.{concat}
 
 module _ (height width count k room : ℕ) where
   -- sound sizes, k below the count, and the record ends in time

@@ -13,7 +13,8 @@ use Rattle.model.specs.KnownFiles.{K10 as Largest-code-read, K11 as Lett
 use Rattle.model.specs.Bounds.{is-size}
 use Rattle.model.specs.Refusals.{grid-refusal, is-cell, first-bad-cell}
 use Rattle.model.specs.Records.{has-record, record-length, record-at}
-use Rattle.model.specs.Search.{Solved, solve, concat, scan, search, search-from, fewest, backtrack, try, degree-so-far, next-pad, board-record}
+use Rattle.model.specs.Runs.{Solved, listed-by, concat, scan, fewest}
+use Rattle.model.specs.Search.{solve, search, search-from, backtrack, try, degree-so-far, next-pad, board-record}
 
 -- what the documents tell of a grid: layouts, visited, fewest, and the codes of each layout
 pub record Known : Type 0 where
@@ -69,5 +70,5 @@ pub record KnownGrids : Type 0 where
   pub K12 : One-row-refused
 
 pub known-grids : KnownGrids
-unfolding known solve concat grid-refusal is-size is-cell first-bad-cell has-record record-length record-at grid-of cell-of codes drawing-of field record-lines tabulate place-at parity scan search search-from fewest backtrack try degree-so-far next-pad board-record fresh prepared shut-at shut bare end-number decide check after-store cannot-join unjoinable join-ends check-items settled decide-first degree undecideds lines keep-aparts around do-item do-items shape-items barred joined-ends put-end put-end-at set-flag set-edge enough
+unfolding known solve listed-by concat grid-refusal is-size is-cell first-bad-cell has-record record-length record-at grid-of cell-of codes drawing-of field record-lines tabulate place-at parity scan search search-from fewest backtrack try degree-so-far next-pad board-record fresh prepared shut-at shut bare end-number decide check after-store cannot-join unjoinable join-ends check-items settled decide-first degree undecideds lines keep-aparts around do-item do-items shape-items barred joined-ends put-end put-end-at set-flag set-edge enough
 known-grids = record { K1 = refl; K2 = refl; K3 = refl; K4 = refl; K5 = refl; K6 = refl; K7 = refl; K8 = refl; K1-spent = refl; K1-full = refl; K9 = (refl, refl); K10 = known-files .0; K11 = known-files .1; K12 = known-files .2 }

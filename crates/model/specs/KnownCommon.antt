@@ -15,7 +15,8 @@ use Rattle.model.specs.Printed.{summary-line, refusal-line, reading-text
 use Rattle.model.specs.Routes.{found-within}
 use Rattle.model.specs.JoinedEnds.{unjoinable, joined-ends, put-end, put-end-at}
 use Rattle.model.specs.Board.{fresh, prepared, shut-at, shut, bare, decide, check, after-store, cannot-join, join-ends, check-items, settled, decide-first, degree, undecideds, lines, keep-aparts, around, do-item, do-items, shape-items, barred, set-flag, set-edge, enough}
-use Rattle.model.specs.Search.{declined-search, scan, search, search-from, fewest, concat, backtrack, try, degree-so-far, next-pad, board-record}
+use Rattle.model.specs.Runs.{declined-search, scan, fewest, concat}
+use Rattle.model.specs.Search.{search, search-from, backtrack, try, degree-so-far, next-pad, board-record}
 use Rattle.model.specs.SmallGrids.{o}
 use Rattle.model.specs.KnownJudged.{pair, below}
 use Rattle.model.specs.Common.{Common, all-have, none-has, common-byte, common-table, common}

@@ -11,7 +11,8 @@ use Rattle.model.specs.GridFile.{is-digit, is-comma, is-line-end, is-hol
 use Rattle.model.specs.Printed.{line-at, right-line, down-line, code-of-pad, code-digits-from, code-digits, summary-line, layout-line, refusal-line, layout-lines, found-text, reading-text, printed}
 use Rattle.model.specs.JoinedEnds.{unjoinable, joined-ends, put-end, put-end-at}
 use Rattle.model.specs.Board.{fresh, prepared, shut-at, shut, bare, decide, check, after-store, cannot-join, join-ends, check-items, settled, decide-first, degree, undecideds, lines, keep-aparts, around, do-item, do-items, shape-items, barred, set-flag, set-edge, enough}
-use Rattle.model.specs.Search.{scan, search, search-from, fewest, backtrack, try, degree-so-far, next-pad, board-record}
+use Rattle.model.specs.Runs.{scan, fewest}
+use Rattle.model.specs.Search.{search, search-from, backtrack, try, degree-so-far, next-pad, board-record}
 use Rattle.model.specs.Routes.{found-within, text-within, list-text, routes-text}
 use Rattle.model.specs.RoutesTo.{all-digits, value-after, is-limit, boards, no-limit, limit-of, limit-line, routes-to-text}
 

@@ -1,11 +1,14 @@
 -- The model: what the calls do, as definitions that compute, and the known answers.
 pub mod Choice
 pub mod Lists
+pub mod PutBytes
 pub mod Text
 pub mod Bounds
 pub mod Refusals
 pub mod RefusalLaws
+pub mod PadTests
 pub mod JoinedEnds
+pub mod Runs
 pub mod Board
 pub mod BoardLaws
 pub mod Calls
@@ -36,6 +39,8 @@ pub mod Judge
 pub mod JudgedGrids
 pub mod JudgeText
 pub mod KnownJudged
+pub mod Walk
+pub mod KnownWalks
 pub mod Common
 pub mod CommonLaws
 pub mod CommonText

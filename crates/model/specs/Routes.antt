@@ -6,7 +6,8 @@ use mathlib.Core.List.{List}
 use lib.ListN.{length}
 use lib.IntN.{ℤ}
 use Rattle.rules.specs.Grid.{grid-of, places}
-use Rattle.model.specs.Search.{scan, search, fewest}
+use Rattle.model.specs.Runs.{scan, fewest}
+use Rattle.model.specs.Search.{search}
 use Rattle.model.specs.Printed.{Found, found-text, printed}
 
 -- ## For a limit, and an answer buffer of so many bytes

@@ -6,7 +6,8 @@ use mathlib.Core.Bool.{Bool, true, false}
 use mathlib.Core.List.{List, []}
 use Rattle.rules.specs.Grid.{Grid, pads}
 use Rattle.model.specs.Board.{State}
-use Rattle.model.specs.Search.{Event, next-pad, backtrack, search-from}
+use Rattle.model.specs.Runs.{Event}
+use Rattle.model.specs.Search.{next-pad, backtrack, search-from}
 
 module _ (g : Grid) (S : State) where
   abbrev from : Bool → List Event

@@ -16,7 +16,8 @@ use Rattle.model.specs.JoinedEnds.{end-number, unjoinable, joined-ends, 
 use Rattle.model.specs.Board.{fresh, prepared, shut-at, shut, bare, decide, check, after-store, cannot-join, join-ends, check-items, settled, decide-first, degree, undecideds, lines, keep-aparts, around, do-item, do-items, shape-items, barred, set-flag, set-edge, enough}
 use Rattle.model.specs.Calls.{shown, fresh-board, new, edge-at, decide-edge, read-edge, add-checkpoint, undo}
 use Rattle.model.specs.Records.{has-record, record-length, record-at}
-use Rattle.model.specs.Search.{Solved, solve, concat, scan, search, search-from, fewest, backtrack, try, degree-so-far, next-pad, board-record}
+use Rattle.model.specs.Runs.{listed-by, concat, scan, fewest}
+use Rattle.model.specs.Search.{solve, search, search-from, backtrack, try, degree-so-far, next-pad, board-record}
 use Rattle.model.specs.Known.{Known, known}
 use Rattle.model.specs.Sequences.{Call, decide-call, read-call, checkpoint-call, undo-call, do-call, Seen, seen, replay, after}
 
@@ -219,5 +220,5 @@ Clear-with-limit-0 = solve 2 2 ((pos 5) ∷ hole-cell ∷ (pos 5) ∷ hole-cell 
 
 pub second-searches :
     Decided-with-the-holes × Later-start × Corner-over-a-hole × Two-layouts × Flagged × Flagged-with-limit-0 × Clear-with-limit-0
-unfolding known solve concat grid-refusal is-size is-cell first-bad-cell has-record record-length record-at grid-of cell-of codes drawing-of field record-lines tabulate place-at parity scan search search-from fewest backtrack try degree-so-far next-pad board-record fresh prepared shut-at shut bare end-number decide check after-store cannot-join unjoinable join-ends check-items settled decide-first degree undecideds lines keep-aparts around do-item do-items shape-items barred joined-ends put-end put-end-at set-flag set-edge enough
+unfolding known solve listed-by concat grid-refusal is-size is-cell first-bad-cell has-record record-length record-at grid-of cell-of codes drawing-of field record-lines tabulate place-at parity scan search search-from fewest backtrack try degree-so-far next-pad board-record fresh prepared shut-at shut bare end-number decide check after-store cannot-join unjoinable join-ends check-items settled decide-first degree undecideds lines keep-aparts around do-item do-items shape-items barred joined-ends put-end put-end-at set-flag set-edge enough
 second-searches = (refl, refl, refl, refl, refl, refl, refl)

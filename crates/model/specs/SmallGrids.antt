@@ -13,8 +13,10 @@ use Rattle.rules.specs.Drawing.{Drawing, num, square-lines}
 use Rattle.rules.specs.Record.{codes, drawing-of, field, tabulate}
 use Rattle.rules.specs.Tests.{all-below}
 use Rattle.model.specs.JoinedEnds.{unjoinable, joined-ends, put-end, put-end-at}
-use Rattle.model.specs.Board.{has-left, has-right, has-up, has-down, fresh, prepared, shut-at, shut, bare, decide, check, after-store, cannot-join, join-ends, check-items, settled, decide-first, degree, undecideds, lines, keep-aparts, around, do-item, do-items, shape-items, barred, set-flag, set-edge, enough, isBlank, isClue}
-use Rattle.model.specs.Search.{Event, visit, layout, search, search-from, backtrack, try, degree-so-far, next-pad, board-record}
+use Rattle.model.specs.PadTests.{has-left, has-right, has-up, has-down, isBlank, isClue}
+use Rattle.model.specs.Board.{fresh, prepared, shut-at, shut, bare, decide, check, after-store, cannot-join, join-ends, check-items, settled, decide-first, degree, undecideds, lines, keep-aparts, around, do-item, do-items, shape-items, barred, set-flag, set-edge, enough}
+use Rattle.model.specs.Runs.{Event, visit, layout}
+use Rattle.model.specs.Search.{search, search-from, backtrack, try, degree-so-far, next-pad, board-record}
 
 -- THE DRAWING of a list of codes, one for each pad
 unfoldable pub drawing-of-codes : List ℕ → Drawing

@@ -9,7 +9,6 @@ use mathlib.Core.Bool.{Bool, true, false}
 use mathlib.Core.List.{List, _++_, List·Memᴰ}
 use native.Mathlib.Omega.{arith}
 use native.Mathlib.Decide.{decLt, ℕ-discrete}
-use borrow.Author.Tests.{ne-eqb}
 use lib.Dec.{eqb}
 use lib.ListN.{length, getD, drop, length-append, length-drop, List·getD-append}
 use lib.Seq.{drop-at}
@@ -21,12 +20,15 @@ use Rattle.rules.specs.RecordLaws.{edge-number-in-field, edge-at-number, field-
 use Rattle.model.specs.Refusals.{grid-refusal}
 use Rattle.model.specs.RefusalLaws.{not-refused, accepted-is-not-refused}
 use Rattle.model.specs.Records.{record-at}
-use Rattle.model.specs.Search.{Run, scan, search, Solved, solved, declined-search, solve}
+use Rattle.model.specs.Runs.{Run, scan, Solved, solved, declined-search}
+use Rattle.model.specs.Search.{search, solve}
 use Rattle.model.specs.Common.{in-every-layout, in-no-layout, in-some-layouts, of-no-layout, has-line, common-byte, common-table, Common, with-number, common}
 use Rattle.model.specs.CommonLaws.{refused-grid, short-table, stopped-list, complete-list}
-use Rattle.exact.specs.Exact.{Exact, exact-run, solve-is-run}
+use Rattle.runs.specs.ExactLists.{Exact}
+use Rattle.exact.specs.Exact.{search-run, solve-is-run, solve-is-declined}
 use Rattle.promises.specs.Promises.{promised}
-use Rattle.promises.specs.HeldRecords.{Holds, held-exactly}
+use Rattle.runs.specs.HeldRecords.{Holds}
+use Rattle.promises.specs.HeldRecords.{held-exactly}
 use Rattle.promises.specs.TableLaws.{AllHave, OneHas, TellsOfList, byte-tells, is-empty, empty-byte, table-length, table-at}
 
 -- some listed drawing of the grid of which this holds
@@ -152,7 +154,7 @@ module _ (height width : ℕ) (cells : List ℤ) (limit : ℕ) (buffer table : L
   unfolding grid-of
   made-tells accepted complete some e on = let wide = accepted .width-in-range .0 in let g = grid-of height width cells in
       rw (made-at (place-number width e) (edge-number-in-field g wide e on), edge-at-number g wide e on)
-      (tells g wide (run .records) (exact-run height width cells accepted limit (length buffer) .complete complete) (solved run buffer)
+      (tells g wide (run .records) (search-run height width cells accepted limit (length buffer) .complete complete) (solved run buffer)
       (λ bytes. rw (solve-is-run height width cells accepted limit buffer) at (held-exactly height width cells accepted limit buffer bytes)) e on
       (common-byte width e (run .records)) (byte-tells width e (run .records) some))
 
@@ -192,8 +194,8 @@ module _ (height width : ℕ) (cells : List ℤ) (limit : ℕ) (buffer table : L
   -- 7, 8, 9: ANY OTHER GRID; the grid's own number, as the search has it
   pub common-refused : (grid-refusal height width cells .0 ≡ 0 → ⊥)
       → common height width cells limit buffer table ≡ record { searched = solve height width cells limit buffer; table = table }
-  unfolding solve
-  common-refused refused = refused-grid height width cells limit buffer table refused ∙ rw (ne-eqb (grid-refusal height width cells .0) 0 refused, solve) refl
+  common-refused refused = refused-grid height width cells limit buffer table refused
+      ∙ ap (λ (s : Solved). record { searched = s; table = table }) (sym (solve-is-declined height width cells refused limit buffer))
 
   -- BY THE NUMBER: whoever is answered 0 has a complete list of an accepted grid in the buffer, and its table
   pub common-filled : common height width cells limit buffer table .searched .number ≡ 0

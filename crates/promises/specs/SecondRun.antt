@@ -1,7 +1,7 @@
 -- A SECOND RUN: one grid is searched twice, the second time with at least the limit and at least the buffer of the first. `SecondRun` is what a
 -- caller can rely on who has the two results and the two buffers; `second-run` says it of every pair of calls of the model's `solve`: any grid,
 -- refused ones too, any two limits and any two buffers, whatever these held before. It rests on what a second run keeps of the first
--- (exact's TwoRuns.antt) and on what a buffer holds (HeldRecords.antt).
+-- (runs' TwoRuns.antt) and on what a buffer holds (HeldRecords.antt).
 use Prim.Native.Nat.{ℕ, _*_, _≤_, _<_}
 use mathlib.Core.Path.{_≡_, refl, sym, ap, _∙_}
 use mathlib.Core.List.{List, [], _++_, append-assoc}
@@ -17,10 +17,11 @@ use Rattle.model.specs.Refusals.{grid-refusal}
 use Rattle.model.specs.RefusalLaws.{not-refused}
 use Rattle.model.specs.Records.{record-at}
 use Rattle.model.specs.HasRecord.{concat-length, concat-append}
-use Rattle.model.specs.Search.{Run, scan, search, concat, Solved, solve}
+use Rattle.model.specs.Runs.{Run, scan, concat, Solved}
+use Rattle.model.specs.Search.{search, solve}
 use Rattle.exact.specs.Exact.{solve-is-run, solve-is-declined}
-use Rattle.exact.specs.Runs.{fewest-append}
-use Rattle.exact.specs.TwoRuns.{Continued, continued}
+use Rattle.runs.specs.Runs.{fewest-append}
+use Rattle.runs.specs.TwoRuns.{Continued, continued}
 use Rattle.promises.specs.HeldRecords.{records-long, records-left}
 
 -- two searches answer the same

@@ -12,7 +12,8 @@ use lib.Dec.{eqb}
 use Rattle.rules.specs.Grid.{Edge, Grid}
 use Rattle.rules.specs.Drawing.{Drawing, drawn, num}
 use Rattle.rules.specs.Tests.{num-small, num-none}
-use Rattle.model.specs.Board.{EdgeState, isLine, isUndecided, State, isClue, lines, undecideds, around, degree, undecided, line, none}
+use Rattle.model.specs.PadTests.{isClue}
+use Rattle.model.specs.Board.{EdgeState, isLine, isUndecided, State, lines, undecideds, around, degree, undecided, line, none}
 use Rattle.propagation.specs.Counting.{among, undecideds-among, some-among}
 
 pub record Agrees (D : Drawing) (S : State) : Type 0 where

@@ -15,9 +15,10 @@ use Rattle.rules.specs.Drawing.{Drawing, drawn, num, Listed}
 use Rattle.rules.specs.Places.{zero≢one}
 use Rattle.rules.specs.Tests.{both-on, both-off, not-so, num-small}
 use Rattle.model.specs.JoinedEnds.{at-pad, at-clue}
-use Rattle.model.specs.Board.{isLine, isUndecided, isClue, with-edge, lines, undecideds, has-right, has-left, has-down, has-up, on-board, around, degree, bare, undecided, line, none}
+use Rattle.model.specs.PadTests.{isClue, has-right, has-left, has-down, has-up, on-board}
+use Rattle.model.specs.Board.{isLine, isUndecided, with-edge, lines, undecideds, around, degree, bare, undecided, line, none}
 use Rattle.model.specs.BoardLaws.{clue-is-clue}
-use Rattle.propagation.specs.Storing.{bare-ends}
+use Rattle.ends.specs.Storing.{bare-ends}
 use Rattle.propagation.specs.Edges.{board-lines, edge-of}
 use Rattle.propagation.specs.Objects.{AtRest, Holds, AllHold, rule, pad, chains, board}
 use Rattle.propagation.specs.Squares.{left-on, right-on, up-on}

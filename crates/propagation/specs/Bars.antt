@@ -11,7 +11,8 @@ use Rattle.rules.specs.Grid.{Grid, pads, blank}
 use Rattle.rules.specs.Drawing.{Drawing, drawn, Placed, Side, LineBeside, DiagonallyBelow, Corner, NotBlank, on-left, on-right}
 use Rattle.rules.specs.Places.{next-column}
 use Rattle.rules.specs.Tests.{both, both-on}
-use Rattle.model.specs.Board.{isBlank, has-side, diagonal, barred}
+use Rattle.model.specs.PadTests.{isBlank}
+use Rattle.model.specs.Board.{has-side, diagonal, barred}
 use Rattle.model.specs.BoardLaws.{blank-of}
 use Rattle.propagation.specs.Squares.{edge-beside}
 use Rattle.propagation.specs.Counting.{right-column, down-in}

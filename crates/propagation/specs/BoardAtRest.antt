@@ -14,8 +14,9 @@ use Rattle.rules.specs.Grid.{Edge, Cell, Grid, pads, OnBoard, right, down, blan
 use Rattle.rules.specs.Drawing.{Placed, num, square-lines, Side, DiagonallyBelow, Corner, NotBlank, on-left, on-right}
 use Rattle.rules.specs.Places.{zero≢one}
 use Rattle.rules.specs.Tests.{both, conflict, num-small}
-use Rattle.model.specs.Board.{isLine, State, Item, isBlank, has-right, on-board, barred, shape-items, line, none, detour, corner}
-use Rattle.propagation.specs.Ends.{Ends}
+use Rattle.model.specs.PadTests.{isBlank, has-right, on-board}
+use Rattle.model.specs.Board.{isLine, State, Item, barred, shape-items, line, none, detour, corner}
+use Rattle.ends.specs.Ends.{Ends}
 use Rattle.propagation.specs.Edges.{is-line, drawing, board-lines}
 use Rattle.propagation.specs.Objects.{AtRest, Achieved, Holds, AllHold, rule, pad, chains, board}
 use Rattle.propagation.specs.Squares.{SquareAt, square-at, corner-pad, lower-pad, edge-beside, corner-item, square-items, corner-items-across, upper-edge, right-edge}

@@ -17,7 +17,7 @@ use Rattle.model.specs.Calls.{Board, fresh-board, blank-board, new, edge-at, de
 use Rattle.model.specs.EdgeAtLaws.{edge-at-on}
 use Rattle.model.specs.Refusals.{grid-refusal}
 use Rattle.model.specs.RefusalLaws.{not-refused}
-use Rattle.propagation.specs.ProperGrid.{Proper, accepted-proper}
+use Rattle.rules.specs.ProperGrid.{Proper, accepted-proper}
 use Rattle.propagation.specs.Decisions.{Decision, none-yet, one-more}
 use Rattle.propagation.specs.Standing.{Stands}
 

@@ -10,7 +10,8 @@ use borrow.Author.Tests.{le-leb, lt-ltb}
 use Rattle.rules.specs.Grid.{Edge, Grid, pads, OnBoard, right, down}
 use Rattle.rules.specs.Drawing.{Drawing, drawn, Placed, Line, num, rightward, leftward, downward, upward}
 use Rattle.rules.specs.Places.{next-column}
-use Rattle.model.specs.Board.{isLine, isUndecided, State, with-edge, lines, undecideds, has-right, has-left, has-down, has-up, around}
+use Rattle.model.specs.PadTests.{has-right, has-left, has-down, has-up}
+use Rattle.model.specs.Board.{isLine, isUndecided, State, with-edge, lines, undecideds, around}
 use Rattle.propagation.specs.Squares.{mem-with-edge, Neighbour, neighbour, one-before, row-before, to-left, to-right, to-above, to-below}
 
 -- how many edges of the list have the property

@@ -9,7 +9,8 @@ use native.Mathlib.Decide.{ℕ-discrete}
 use Rattle.rules.specs.Grid.{Edge, first, second, Grid}
 use Rattle.rules.specs.Places.{zero≢one}
 use Rattle.model.specs.JoinedEnds.{End, through, at-pad, at-clue}
-use Rattle.model.specs.Board.{EdgeState, isUndecided, State, set-edge, set-flag, Item, check-end, Decide, Check, on-board, shape-items, do-items, cannot-join, after-store, line, none, detour, corner, bar, check-pad}
+use Rattle.model.specs.PadTests.{on-board}
+use Rattle.model.specs.Board.{EdgeState, isUndecided, State, set-edge, set-flag, Item, check-end, Decide, Check, shape-items, do-items, cannot-join, after-store, line, none, detour, corner, bar, check-pad}
 use Rattle.propagation.specs.Undecided.{DecidedStay}
 use Rattle.propagation.specs.Edges.{same-or-not, set-here, set-elsewhere, decided-elsewhere, set-stays}
 use Rattle.propagation.specs.Objects.{AtRest, Achieved, Object, Holds, guard, Plain, Geometry, same-rest, rule, pad, chains, board, is-detour, is-corner, is-bar}

@@ -19,7 +19,7 @@ use Rattle.propagation.specs.Squares.{geometry}
 use Rattle.propagation.specs.BoardAtRest.{ends-say}
 use Rattle.propagation.specs.Agreement.{Agrees}
 use Rattle.propagation.specs.Sound.{sound}
-use Rattle.propagation.specs.ProperGrid.{Proper}
+use Rattle.rules.specs.ProperGrid.{Proper}
 
 -- an edge, and whether it was decided to be a line
 abbrev pub Decision : Type 0

@@ -11,7 +11,8 @@ use native.Mathlib.Decide.{decLe}
 use lib.Dec.{eqb, leb, ltb}
 use Rattle.rules.specs.Grid.{Edge, Grid}
 use Rattle.model.specs.JoinedEnds.{End, through, at-pad, at-clue}
-use Rattle.model.specs.Board.{EdgeState, isLine, isUndecided, State, set-edge, Item, isBlank, other-clue, undecideds, Decide, Check, decide-first, line-or-none, keep-aparts, on-board, around, degree, settled, do-item, do-items, check-items, cannot-join, join-ends, after-store, decide, check, enough, undecided, line, none, detour, corner, bar, check-pad, keep-apart, settle}
+use Rattle.model.specs.PadTests.{isBlank, on-board}
+use Rattle.model.specs.Board.{EdgeState, isLine, isUndecided, State, set-edge, Item, other-clue, undecideds, Decide, Check, decide-first, line-or-none, keep-aparts, around, degree, settled, do-item, do-items, check-items, cannot-join, join-ends, after-store, decide, check, enough, undecided, line, none, detour, corner, bar, check-pad, keep-apart, settle}
 use Rattle.propagation.specs.Undecided.{undecided-edges, undecided-no-more, undecided-less, enough-is-more}
 use Rattle.propagation.specs.Edges.{set-here, set-stays, line-or-none-decided}
 use Rattle.propagation.specs.Items.{Onward, CallsKeep, item-done}

@@ -7,7 +7,8 @@ use mathlib.Core.Bool.{Bool, true, false, _&&_}
 use mathlib.Core.List.{List, [], _∷_, List·Memᴰ, List·Memᴰ·cases-cons, List·Memᴰ·head, List·Memᴰ·tail}
 use Rattle.rules.specs.Grid.{Edge, Grid}
 use Rattle.rules.specs.Places.{zero≢one}
-use Rattle.model.specs.Board.{EdgeState, isLine, isUndecided, State, set-flag, Item, isBlank, other-clue, Decide, Check, settled, do-item, do-items, line, none, detour, corner, bar, check-pad, keep-apart, settle}
+use Rattle.model.specs.PadTests.{isBlank}
+use Rattle.model.specs.Board.{EdgeState, isLine, isUndecided, State, set-flag, Item, other-clue, Decide, Check, settled, do-item, do-items, line, none, detour, corner, bar, check-pad, keep-apart, settle}
 use Rattle.propagation.specs.Undecided.{DecidedStay}
 use Rattle.propagation.specs.Objects.{AtRest, Achieved, Object, Holds}
 

@@ -8,7 +8,8 @@ use mathlib.Core.List.{List, [], _∷_, _++_, List·Memᴰ, List·Memᴰ·cases-
 use Rattle.rules.specs.Grid.{Edge, Grid}
 use Rattle.rules.specs.Places.{zero≢one}
 use Rattle.model.specs.JoinedEnds.{End, through, at-pad, at-clue}
-use Rattle.model.specs.Board.{EdgeState, isUndecided, sameState, State, set-flag, Item, keep-aparts, on-board, around, check-items, decide, check, undecided, line, none, keep-apart, settle}
+use Rattle.model.specs.PadTests.{on-board}
+use Rattle.model.specs.Board.{EdgeState, isUndecided, sameState, State, set-flag, Item, keep-aparts, around, check-items, decide, check, undecided, line, none, keep-apart, settle}
 use Rattle.propagation.specs.Edges.{same-state}
 use Rattle.propagation.specs.Objects.{AtRest, Achieved, Holds, Geometry, pad}
 use Rattle.propagation.specs.Items.{Onward, onward-refl, onward-flag, CallsKeep, items-onward, items-achieved}

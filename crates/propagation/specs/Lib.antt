@@ -1,9 +1,5 @@
 -- What a decision keeps and makes, and that it loses no listed layout; bottom up.
 pub mod Undecided
-pub mod Ends
-pub mod EndsKept
-pub mod Storing
-pub mod Refutation
 pub mod Edges
 pub mod Objects
 pub mod Items
@@ -18,7 +14,6 @@ pub mod BoardAtRest
 pub mod Agreement
 pub mod ListedDrawing
 pub mod Sound
-pub mod ProperGrid
 pub mod BareBoard
 pub mod Decisions
 pub mod Preparing

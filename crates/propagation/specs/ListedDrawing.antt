@@ -11,7 +11,8 @@ use Rattle.rules.specs.Grid.{Edge, first, second, Cell, Grid, pads, right, down
 use Rattle.rules.specs.Drawing.{Drawing, drawn, Placed, Line, NoLine, OneLine, TwoLines, Joined, num, square-lines, Side, DiagonallyBelow, Corner, Listed, here, more, on-left, on-right}
 use Rattle.rules.specs.Places.{first-inside, second-inside}
 use Rattle.rules.specs.Tests.{both-on, not-so, num-none}
-use Rattle.model.specs.Board.{State, isBlank, has-down, on-board, has-side, barred, shape-items, around, detour, corner, bar}
+use Rattle.model.specs.PadTests.{isBlank, has-down, on-board}
+use Rattle.model.specs.Board.{State, has-side, barred, shape-items, around, detour, corner, bar}
 use Rattle.model.specs.BoardLaws.{blank-of, on-board-of-test}
 use Rattle.propagation.specs.Edges.{board-lines, edge-of}
 use Rattle.rules.specs.Chains.{line-forward}

@@ -7,8 +7,9 @@ use mathlib.Core.Logic.{_≢_, _⊎_}
 use mathlib.Core.Bool.{Bool, true}
 use mathlib.Core.List.{List, [], _∷_, List·Memᴰ, List·Memᴰ·head, List·Memᴰ·tail}
 use Rattle.rules.specs.Grid.{Edge, first, second, Grid, right}
-use Rattle.model.specs.Board.{State, Item, isBlank, lines, undecideds, on-board, shape-items, around, degree, line, none, detour, corner, bar, check-pad, keep-apart, settle}
-use Rattle.propagation.specs.Ends.{Ends}
+use Rattle.model.specs.PadTests.{isBlank, on-board}
+use Rattle.model.specs.Board.{State, Item, lines, undecideds, shape-items, around, degree, line, none, detour, corner, bar, check-pad, keep-apart, settle}
+use Rattle.ends.specs.Ends.{Ends}
 use Rattle.propagation.specs.Edges.{board-lines}
 
 -- A PAD AT REST: nothing undecided and degree 0 or 2; or at least two edges undecided and degree at most 1

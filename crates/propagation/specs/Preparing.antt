@@ -12,13 +12,14 @@ use Rattle.rules.specs.Grid.{Edge, Cell, blank, clue, hole, Grid, pads, OnBoard
 use Rattle.rules.specs.Drawing.{Drawing, drawn, Listed}
 use Rattle.rules.specs.Places.{zero≢one}
 use Rattle.rules.specs.Tests.{conflict, not-so}
-use Rattle.model.specs.Board.{State, isHole, none, around, bare, shut, shut-at, prepared, fresh}
+use Rattle.model.specs.PadTests.{isHole}
+use Rattle.model.specs.Board.{State, none, around, bare, shut, shut-at, prepared, fresh}
 use Rattle.model.specs.BoardLaws.{on-board-of-test, hole-of}
 use Rattle.propagation.specs.Objects.{AllHold}
 use Rattle.propagation.specs.Squares.{around-on}
 use Rattle.propagation.specs.Counting.{leads}
 use Rattle.propagation.specs.Agreement.{Agrees}
-use Rattle.propagation.specs.ProperGrid.{Proper}
+use Rattle.rules.specs.ProperGrid.{Proper}
 use Rattle.propagation.specs.BareBoard.{bare-holds, agrees-with-bare}
 use Rattle.propagation.specs.Decisions.{Decision, After, none-yet, one-more, AgreesWith, decisions-there, rests-after, sound-after}
 

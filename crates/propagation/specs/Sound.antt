@@ -14,11 +14,12 @@ use Rattle.rules.specs.Drawing.{Drawing, drawn, Line, Joined, Wired, Listed, mo
 use Rattle.rules.specs.Places.{zero≢one}
 use Rattle.rules.specs.Tests.{both, either, conflict, not-so}
 use Rattle.model.specs.JoinedEnds.{End, through, at-pad, at-clue}
-use Rattle.model.specs.Board.{EdgeState, isLine, isUndecided, sameState, State, set-edge, Item, isBlank, check-end, other-clue, undecideds, Decide, Check, line-or-none, keep-aparts, on-board, shape-items, around, degree, settled, do-item, do-items, check-items, cannot-join, join-ends, after-store, decide, check, undecided, line, none, detour, corner, bar, check-pad, keep-apart, settle}
+use Rattle.model.specs.PadTests.{isBlank, on-board}
+use Rattle.model.specs.Board.{EdgeState, isLine, isUndecided, sameState, State, set-edge, Item, check-end, other-clue, undecideds, Decide, Check, line-or-none, keep-aparts, shape-items, around, degree, settled, do-item, do-items, check-items, cannot-join, join-ends, after-store, decide, check, undecided, line, none, detour, corner, bar, check-pad, keep-apart, settle}
 use Rattle.propagation.specs.Undecided.{undecided-edges, undecided-no-more, undecided-less}
 use Rattle.rules.specs.Chains.{Symmetric, join-trans, join-sym, join-mono, line-back}
-use Rattle.propagation.specs.Ends.{Ends}
-use Rattle.propagation.specs.Refutation.{nothing-against}
+use Rattle.ends.specs.Ends.{Ends}
+use Rattle.ends.specs.Refutation.{nothing-against}
 use Rattle.propagation.specs.Edges.{same-or-not, set-here, set-elsewhere, set-stays, is-line, line-or-none-decided, drawing, board-lines, Along, edge-of, is-way}
 use Rattle.propagation.specs.Objects.{Holds, Plain, is-detour, is-corner, is-bar}
 use Rattle.propagation.specs.Items.{Onward, CallsKeep, item-done, goes-on}

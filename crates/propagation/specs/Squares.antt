@@ -12,9 +12,10 @@ use borrow.Author.Tests.{le-leb, leb-true, lt-ltb, ltb-true}
 use lib.Dec.{ltb}
 use Rattle.rules.specs.Grid.{Edge, first, second, Grid, pads, right, down}
 use Rattle.rules.specs.Drawing.{Side, on-left, on-right}
-use Rattle.rules.specs.Places.{zero≢one, edge-of-pads, no-edge-back, next-in-row, previous-column}
+use Rattle.rules.specs.Places.{zero≢one, pads-apart, one-edge, next-in-row, previous-column}
 use Rattle.rules.specs.Tests.{both, both-on}
-use Rattle.model.specs.Board.{Item, detours, when, with-edge, has-right, has-left, has-down, has-up, on-board, has-side, barred, corner-right, corner-left, shape-items, around, detour, corner, bar}
+use Rattle.model.specs.PadTests.{has-right, has-left, has-down, has-up, on-board}
+use Rattle.model.specs.Board.{Item, detours, when, with-edge, has-side, barred, corner-right, corner-left, shape-items, around, detour, corner, bar}
 use Rattle.model.specs.BoardLaws.{left-of-next}
 use Rattle.propagation.specs.Objects.{Plain, Geometry, is-detour, is-corner, is-bar}
 
@@ -351,18 +352,10 @@ module _ (g : Grid) (wide : 2 ≤ g .width) where
   -- WHAT THE INDUCTION ASKS of the geometry
   pub geometry : Geometry g
   geometry = record {
-    apart = apart;
-    one-edge = one-edge;
+    apart = pads-apart g wide;
+    one-edge = one-edge g wide;
     near = near;
     plain = λ x it m. kind-of x it (standing x it m);
     detour-turned = detour-turned;
     corner-turned = corner-turned;
   }
-    where
-      apart : (e : Edge) → first e ≢ second (g .width) e
-      apart (right v) h = omega arith
-      apart (down v) h = omega arith
-
-      one-edge : (a e : Edge) → ((first e ≡ first a) × (second (g .width) e ≡ second (g .width) a)) ⊎ ((first e ≡ second (g .width) a) × (second (g .width) e ≡ first a)) → a ≡ e
-      one-edge a e (inl (p, q)) = edge-of-pads g wide a e (sym p) (sym q)
-      one-edge a e (inr (p, q)) = absurd (no-edge-back g wide e a p q)

@@ -11,7 +11,7 @@ use Rattle.rules.specs.Tests.{conflict}
 use Rattle.model.specs.Board.{State, isUndecided, fresh}
 use Rattle.propagation.specs.Objects.{AllHold}
 use Rattle.propagation.specs.Agreement.{Agrees}
-use Rattle.propagation.specs.ProperGrid.{Proper}
+use Rattle.rules.specs.ProperGrid.{Proper}
 use Rattle.propagation.specs.Decisions.{Decision, After, AgreesWith, was-clear, decided-stay, rests-after, sound-after}
 use Rattle.propagation.specs.Preparing.{HolesShut, fresh-rests, agrees-with-fresh, fresh-shuts-holes}
 

@@ -6,11 +6,12 @@ use mathlib.Core.Bool.{true, false}
 use Rattle.rules.specs.Grid.{Edge, first, second, Grid}
 use Rattle.rules.specs.Tests.{conflict}
 use Rattle.model.specs.JoinedEnds.{End, joined-ends}
-use Rattle.model.specs.Board.{EdgeState, isLine, isUndecided, State, set-edge, on-board, cannot-join, join-ends, line, none}
+use Rattle.model.specs.PadTests.{on-board}
+use Rattle.model.specs.Board.{EdgeState, isLine, isUndecided, State, set-edge, cannot-join, join-ends, line, none}
 use Rattle.propagation.specs.Undecided.{DecidedStay}
 use Rattle.rules.specs.Chains.{line-back}
-use Rattle.propagation.specs.Ends.{Added}
-use Rattle.propagation.specs.Storing.{joined-say}
+use Rattle.ends.specs.Ends.{Added}
+use Rattle.ends.specs.Storing.{joined-say}
 use Rattle.propagation.specs.Edges.{same-or-not, set-here, set-elsewhere, decided-elsewhere, is-line, is-undecided, drawing, same-drawing, board-lines, edge-of, forward, line-of}
 use Rattle.propagation.specs.Objects.{Holds, Geometry, chains, board}
 

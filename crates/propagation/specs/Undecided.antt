@@ -10,7 +10,8 @@ use lib.Dec.{ltb}
 use Rattle.rules.specs.Grid.{Edge, first, Grid, pads, right, down}
 use Rattle.rules.specs.Drawing.{num, count}
 use Rattle.rules.specs.Tests.{both, conflict, is-so, num-small}
-use Rattle.model.specs.Board.{isUndecided, State, has-right, on-board, enough}
+use Rattle.model.specs.PadTests.{has-right, on-board}
+use Rattle.model.specs.Board.{isUndecided, State, enough}
 
 count-small : (f : ℕ → Bool) (n : ℕ) → count f n ≤ n
 unfolding count

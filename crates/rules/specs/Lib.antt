@@ -13,3 +13,4 @@ pub mod Checked
 pub mod CheckedListed
 pub mod Examples
 pub mod Loops
+pub mod ProperGrid

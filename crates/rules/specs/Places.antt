@@ -3,6 +3,7 @@
 -- pads stands in PadsOfEdges.antt. Among them stand small laws that other files cite: how many places there are, and the columns of the pads.
 use Prim.Native.Nat.{ℕ, zero, suc, _+_, _*_, _-_, _%_, _/_, _≤_, _<_}
 use mathlib.Core.Path.{_≡_, refl, sym, _∙_, ap}
+use mathlib.Core.Logic.{_≢_, _⊎_, inl, inr}
 use native.Mathlib.Numerals.{add-one}
 use native.Mathlib.Omega.{arith}
 use native.Mathlib.Decide.{ℕ-discrete}
@@ -198,3 +199,12 @@ module _ (g : Grid) (wide : 2 ≤ g .width) where
   no-edge-back (right u) (down v) p q = omega arith
   no-edge-back (down u) (right v) p q = omega arith
   no-edge-back (down u) (down v) p q = omega arith
+
+  -- so the two pads of an edge are two, and edges with the same two pads, in either order, are one
+  pub pads-apart : (e : Edge) → first e ≢ second (g .width) e
+  pads-apart (right v) h = omega arith
+  pads-apart (down v) h = omega arith
+
+  pub one-edge : (a e : Edge) → ((first e ≡ first a) × (second (g .width) e ≡ second (g .width) a)) ⊎ ((first e ≡ second (g .width) a) × (second (g .width) e ≡ first a)) → a ≡ e
+  one-edge a e (inl (p, q)) = edge-of-pads a e (sym p) (sym q)
+  one-edge a e (inr (p, q)) = absurd (no-edge-back e a p q)

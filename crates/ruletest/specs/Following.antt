@@ -1,6 +1,6 @@
 -- What is known while a record is followed place by place. The lines of its first places are a drawing of their own; as long as nothing was
 -- wrong, the bytes so far are what a record may hold, and the ends say what they should of these lines. And a record of an ordinary drawing
--- is never found wrong. It rests on the theory of ends in the crate `propagation`, which knows lines between pads and no board.
+-- is never found wrong. It rests on the theory of ends (crate `ends`), which knows lines between pads and no board.
 use Prim.Native.Nat.{ℕ, zero, suc, _%_, _/_, _≤_, _<_}
 use mathlib.Core.Path.{_≡_, refl, sym, _∙_, ap}
 use mathlib.Core.Logic.{_≢_, _⊎_, inl, inr}
@@ -14,19 +14,18 @@ use lib.ListN.{getD}
 use Rattle.rules.specs.Grid.{Edge, right, down, first, second, Place, edge, no-edge, place-at, field-side, places, Cell, blank, clue, hole, Grid, pads, OnBoard}
 use Rattle.rules.specs.Drawing.{Drawing, drawn, Line, Placed, Ordinary}
 use Rattle.rules.specs.Record.{undecided-byte, line-byte, none-byte, byte-of, byte-at-place, field, record-of, place-number}
-use Rattle.rules.specs.Places.{zero≢one}
+use Rattle.rules.specs.Places.{zero≢one, pads-apart, one-edge}
 use Rattle.rules.specs.Tests.{both, both-on, conflict, not-so}
 use Rattle.rules.specs.Chains.{Along, edge-of-line, line-forward, line-of-edge, line-back}
 use Rattle.rules.specs.RecordLaws.{edge-number-in-field, edge-at-number, number-of-edge, getD-from-zero}
 use Rattle.model.specs.Choice.{if_then_else_}
 use Rattle.model.specs.JoinedEnds.{End, at-pad, bare-end, unjoinable, joined-ends}
-use Rattle.model.specs.Board.{isClue, on-board}
+use Rattle.model.specs.PadTests.{isClue, on-board}
 use Rattle.model.specs.BoardLaws.{on-board-test, on-board-of-test, clue-is-clue}
 use Rattle.model.specs.Judge.{Followed, wrong, so-far, after-line, after-edge, after-place, and-then, followed}
-use Rattle.propagation.specs.Ends.{Ends, Added}
-use Rattle.propagation.specs.Storing.{bare-ends, joined-say}
-use Rattle.propagation.specs.Refutation.{nothing-against}
-use Rattle.propagation.specs.Squares.{geometry}
+use Rattle.ends.specs.Ends.{Ends, Added}
+use Rattle.ends.specs.Storing.{bare-ends, joined-say}
+use Rattle.ends.specs.Refutation.{nothing-against}
 
 the-ends : {a b : ℕ → End} → so-far a ≡ so-far b → a ≡ b
 the-ends h = cc
@@ -108,7 +107,7 @@ module _ (g : Grid) (wide : 2 ≤ g .width) (bytes : List ℕ) where
     pub no-line-yet : Lines n (first e) (second (g .width) e) → ⊥
     no-line-yet l =
         let t = edge-of-line (g .width) (shown n) _ _ l in
-        let same : t .edge ≡ e = geometry g wide .one-edge (t .edge) e (t .ends) in
+        let same : t .edge ≡ e = one-edge g wide (t .edge) e (t .ends) in
         let before = what-is-shown n (t .edge) (t .is) .before in
         omega (arith, before, ap number same)
 
@@ -178,7 +177,7 @@ module _ (g : Grid) (wide : 2 ≤ g .width) (bytes : List ℕ) where
     line-more e on at line here joinable = record {
       bytes-fit = one-more here;
       ends-say = joined-say (first e) (second (g .width) e) (line-back (g .width) (shown n)) (known .ends-say) (line-added n e on at line)
-          (geometry g wide .apart e) (no-line-yet n e on at line) joinable;
+          (pads-apart g wide e) (no-line-yet n e on at line) joinable;
     }
 
     other-place : (e : Edge) → place n ≡ no-edge → OnBoard g e → number e ≡ n → ⊥
@@ -254,7 +253,7 @@ module _ (g : Grid) (wide : 2 ≤ g .width) (bytes : List ℕ) where
       line-goes-on e is d line =
           let its = number-of-edge g wide n inside e is in
           nothing-against (line-back (g .width) (shown n)) (known-so-far n (omega arith) ends so .ends-say) (ordinary .wired) (within n) (line-back (g .width) D)
-          (first e) (second (g .width) e) (geometry g wide .apart e) (no-line-yet n e (its .0) (its .1) line) (line-forward (g .width) D e d)
+          (first e) (second (g .width) e) (pads-apart g wide e) (no-line-yet n e (its .0) (its .1) line) (line-forward (g .width) D e d)
 
       next : GoesOn (suc n)
       unfolding followed after-place after-edge after-line

@@ -1,4 +1,4 @@
 -- The test of the rules is the rules.
 pub mod Following
 pub mod RuleTest
-pub mod Verdicts
+pub mod Verdict

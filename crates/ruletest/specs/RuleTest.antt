@@ -1,5 +1,5 @@
 -- THE TEST OF THE RULES IS THE RULES: a record passes exactly where it is that of an ordinary drawing, and with the listed shape exactly
--- where it is that of a listed one. It rests on Following.antt, on what finished ends mean (crate `propagation`), and on the rules' laws.
+-- where it is that of a listed one. It rests on Following.antt, on what finished ends mean (crate `ends`), and on the rules' laws.
 use Prim.Native.Nat.{ℕ, _≤_, _<_}
 use mathlib.Core.Path.{_≡_, refl, sym, _∙_, ap}
 use mathlib.Core.Logic.{_≢_, _⊎_, inl, inr, ⊎-elim, _↔_}
@@ -20,12 +20,12 @@ use Rattle.rules.specs.CheckedListed.{squares-checked, corners-checked, checked
 use Rattle.rules.specs.Chains.{edge-of-line, line-of-edge, first-line}
 use Rattle.rules.specs.RecordLaws.{edge-number-in-field, edge-at-number, number-of-edge, getD-from-zero, length-field, record-shows}
 use Rattle.model.specs.JoinedEnds.{End, through, at-pad, at-clue, isThrough, isPad}
-use Rattle.model.specs.Board.{isClue}
+use Rattle.model.specs.PadTests.{isClue}
 use Rattle.model.specs.BoardLaws.{clue-is-clue, is-through, is-pad}
 use Rattle.model.specs.Judge.{Followed, wrong, so-far, followed, finished, all-finished, is-ordinary-record, has-listed-shape}
-use Rattle.propagation.specs.Ends.{Ends, Full, Room, two-lines, one-line, other-room, clue-room}
-use Rattle.propagation.specs.Refutation.{finished-wired}
-use Rattle.propagation.specs.ProperGrid.{Proper}
+use Rattle.ends.specs.Ends.{Ends, Full, Room, two-lines, one-line, other-room, clue-room}
+use Rattle.ends.specs.Refutation.{finished-wired}
+use Rattle.rules.specs.ProperGrid.{Proper}
 use Rattle.ruletest.specs.Following.{byte, number, place, shown, what-is-shown, it-is-shown, shown-placed, MayHold, Known, known-so-far, its-byte, shown-drawn, GoesOn, never-wrong}
 
 module _ (g : Grid) (proper : Proper g) (bytes : List ℕ) where

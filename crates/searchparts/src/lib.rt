@@ -1,15 +1,17 @@
 // The leaves of the search: what only reads the board's lent arrays and chooses, and what adds one layout. Each equals a definition of
 // searchview's Shown.antt. Nothing here decides an edge.
 ghost use mathlib.Core.Path.{_≡_};
+ghost use mathlib.Core.List.{[], _∷_};
 ghost use Prim.Native.Nat.{_+_, _*_, _-_, _≤_, _<_};
 ghost use lib.Dec.{eqb};
 ghost use lib.ListN.{length, getD};
 ghost use Rattle.rules.specs.Grid.{places};
 ghost use Rattle.rules.specs.Drawing.{num};
-ghost use Rattle.model.specs.Search as model;
+ghost use Rattle.model.specs.Runs.{layout};
 ghost use Rattle.boardview.specs.View.{grid-in, Kinds, has-bit, clue-bit};
-ghost use Rattle.boardview.specs.ShownRecord.{edges-only};
-ghost use Rattle.searchview.specs.Shown.{EdgesReady, is-tried, last-row, NextPad, Added};
+ghost use Rattle.boardview.specs.ShownRecord.{edges-only, record-shown};
+ghost use Rattle.runs.specs.Layouts.{Added};
+ghost use Rattle.searchview.specs.Shown.{EdgesReady, is-tried, last-row, NextPad};
 use grid::Edge;
 
 // The bytes of an edge's states, as the edge type names them.
@@ -74,13 +76,6 @@ pub fn next_pad(edges: &[u8; 1024], last: usize, from: usize) -> usize
     v
 }
 
-// The lesser of two.
-fn least(a: usize, b: usize) -> usize
-    ensures { λ r. ⌜ r ≡ model.least a b ⌝ }
-{
-    if a <= b { a } else { b }
-}
-
 // A layout is complete: its record is put into the buffer and counted, or the buffer is full.
 pub fn add_layout(
     edges: &[u8; 1024],
@@ -91,7 +86,7 @@ pub fn add_layout(
 ) -> u8
     requires { ⌜ Kinds (now kind) × EdgesReady (grid-in (now kind)) (now edges)
         × (now layouts * places (grid-in (now kind) .height) (grid-in (now kind) .width) ≤ length (now buffer)) ⌝ }
-    ensures { λ r. ⌜ Added (grid-in (now (kind .entry))) (now (edges .entry))
+    ensures { λ r. ⌜ Added (places (grid-in (now (kind .entry)) .height) (grid-in (now (kind .entry)) .width)) (layout (record-shown (grid-in (now (kind .entry))) (now (edges .entry))) ∷ [])
         (now (layouts .entry)) (now (fewest .entry)) (now (buffer .entry))
         r (now (layouts .exit)) (now (fewest .exit)) (now (buffer .exit)) ⌝ }
 {
@@ -101,7 +96,7 @@ pub fn add_layout(
         return 2;
     }
     let lines = boardrecord::put_record(edges, kind, buffer, at);
-    *fewest = least(*fewest, lines);
+    *fewest = tally::least(*fewest, lines);
     *layouts += 1;
     0
 }

@@ -1,5 +1,4 @@
--- The search in theory: how far it has come, as the code counts it, what the lent arrays show of it, and the laws of its steps.
-pub mod Progress
+-- The search in theory: what the lent arrays show of it, and the laws of its steps.
 pub mod Sizes
 pub mod Shown
 pub mod ShownLaws

@@ -11,7 +11,8 @@ use lib.ListN.{getD}
 use borrow.Author.Tests.{lt-ltb, le-ltb, ltb-true, ltb-false, eqb-true}
 use Rattle.rules.specs.Grid.{right, Grid, pads}
 use Rattle.rules.specs.Tests.{both, both-off, is-so}
-use Rattle.model.specs.Board.{State, isUndecided, has-right, has-down}
+use Rattle.model.specs.PadTests.{has-right, has-down}
+use Rattle.model.specs.Board.{State, isUndecided}
 use Rattle.model.specs.Search.{next-pad}
 use Rattle.boardview.specs.View.{slot-on, view}
 use Rattle.model.specs.Lists.{default-free}

@@ -7,8 +7,10 @@ use mathlib.Core.List.{List, _∷_, _++_}
 use lib.Dec.{eqb}
 use Rattle.rules.specs.Grid.{right, down, Grid, pads}
 use Rattle.rules.specs.Drawing.{num}
-use Rattle.model.specs.Board.{State, isUndecided, isLine, line-or-none, has-right, has-left, has-down, has-up, decide, enough}
-use Rattle.model.specs.Search.{Event, visit, board-record, degree-so-far, next-pad, try, backtrack, search-from}
+use Rattle.model.specs.PadTests.{has-right, has-left, has-down, has-up}
+use Rattle.model.specs.Board.{State, isUndecided, isLine, line-or-none, decide, enough}
+use Rattle.model.specs.Runs.{Event, visit}
+use Rattle.model.specs.Search.{board-record, degree-so-far, next-pad, try, backtrack, search-from}
 use Rattle.boardview.specs.View.{grid-in}
 use Rattle.boardview.specs.SameKinds.{plain, same-clue, plain-decides, Shows, shown-plain}
 

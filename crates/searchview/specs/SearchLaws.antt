@@ -4,7 +4,7 @@
 use Prim.Native.Nat.{ℕ, zero, suc, _+_, _*_, _-_, _%_, _/_, _≤_, _<_}
 use mathlib.Core.Path.{_≡_, refl, sym, ap, _∙_}
 use mathlib.Core.Bool.{Bool, true, false, _||_}
-use mathlib.Core.List.{List, [], _∷_, _++_, append-nil}
+use mathlib.Core.List.{List, [], _∷_}
 use native.Mathlib.Omega.{arith}
 use lib.Dec.{eqb, leb}
 use lib.ListN.{length}
@@ -12,14 +12,18 @@ use lib.IntN.{ℤ}
 use borrow.Author.Tests.{lt-ltb, le-ltb, eq-eqb, ne-eqb, le-leb, lt-leb}
 use Rattle.rules.specs.Grid.{right, down, Grid, pads, places}
 use Rattle.rules.specs.Drawing.{num}
-use Rattle.model.specs.Board.{State, isUndecided, on-board, line-or-none, decide, enough}
-use Rattle.model.specs.Search.{Event, layout, board-record, degree-so-far, next-pad, try, backtrack, search-from}
+use Rattle.model.specs.PadTests.{on-board}
+use Rattle.model.specs.Board.{State, isUndecided, line-or-none, decide, enough}
+use Rattle.model.specs.Runs.{Event, layout}
+use Rattle.model.specs.Search.{board-record, degree-so-far, next-pad, try, backtrack, search-from}
 use Rattle.model.specs.SearchStart.{flagged-search, clear-search}
 use Rattle.boardview.specs.View.{Arrays, logged, view, unwound, Entry, Since, Ready, Decided}
 use Rattle.boardview.specs.Unwind.{kept-unwound}
-use Rattle.searchview.specs.Progress.{Progress, advance, entered, stopped, goes-on, advance-append}
+use Rattle.runs.specs.Progress.{Progress, advance, entered, stopped, goes-on}
+use Rattle.runs.specs.Turns.{turns-left, four-turns, one-turn}
 use Rattle.boardview.specs.ShownRecord.{edges-only, record-shown}
-use Rattle.searchview.specs.Shown.{EdgesReady, is-tried, last-row, NextPad, Restored, progress}
+use Rattle.runs.specs.Layouts.{progress}
+use Rattle.searchview.specs.Shown.{EdgesReady, is-tried, last-row, NextPad, Restored}
 use Rattle.searchview.specs.Searched.{Above, Entered, Attempted, Backtracked, Going, events-left}
 use Rattle.boardview.specs.Undecided.{enough-here}
 use Rattle.searchview.specs.EdgeSet.{right-decided}
@@ -222,15 +226,11 @@ module _ (g : Grid) (limit v : ℕ) (s : Arrays) (P : Progress) (inside : P .use
   abbrev events : Bool → Bool → ℕ → List Event
   events go-right go-down n = try g (λ u T. backtrack g n u T) v (view s) go-right go-down
 
-  all-four : (n : ℕ) → events false false n ++ (events true false n ++ (events false true n ++ events true true n)) ≡ events-left g v (view s) 4 0 n
-  unfolding events-left
-  all-four n = ap (λ (l : List Event). events false false n ++ (events true false n ++ (events false true n ++ l))) (sym (append-nil (events true true n)))
-
   -- above the last row, with the entry counted, the four m are left
   module _ (counted : P .visited < limit) (above : v < last-row g) where
     four-left : (n : ℕ) → advance limit size P (backtrack g (suc n) v (view s)) ≡ advance limit size (entered P) (events-left g v (view s) 4 0 n)
     unfolding advance backtrack
-    four-left n = (rw (below-some g high v above) (rw (lt-ltb (P .visited) limit counted, advance) refl)) ∙ ap (advance limit size (entered P)) (all-four n)
+    four-left n = (rw (below-some g high v above) (rw (lt-ltb (P .visited) limit counted, advance) refl)) ∙ ap (advance limit size (entered P)) (four-turns (λ k. events (eqb (k % 2) 1) (eqb (k / 2) 1) n))
 
     pub begun : Going g limit v s (entered P) (events-left g v (view s) 4 0) s (entered P)
     begun = record { so-far = λ n left. refl; restored = restored-same s; inside = inside; same-length = refl; clear = clear }
@@ -238,7 +238,7 @@ module _ (g : Grid) (limit v : ℕ) (s : Arrays) (P : Progress) (inside : P .use
     -- the loop over m is over
     pub loop-over : (m : ℕ) → m ≤ 4 → 4 ≤ m → (s′ : Arrays) (Q : Progress) → Going g limit v s (entered P) (events-left g v (view s) (4 - m) m) s′ Q
         → Backtracked g limit v s P s′ Q
-    unfolding advance events-left
+    unfolding advance turns-left
     loop-over m low high′ s′ Q going = let four : m ≡ 4 = omega arith in let over = rw four at going in record {
       advanced = for-each Q (λ n left. sym (four-left n ∙ over .so-far n left));
       restored = over .restored;
@@ -256,18 +256,12 @@ module _ (g : Grid) (limit v : ℕ) (s : Arrays) (P : Progress) (inside : P .use
       abbrev rest : ℕ → List Event
       rest n = events-left g v (view s) (4 - (m + 1)) (m + 1) n
 
-      this-one : (n : ℕ) → events-left g v (view s) (4 - m) m n ≡ events (eqb (m % 2) 1) (eqb (m / 2) 1) n ++ rest n
-      unfolding events-left
-      this-one n = let next : 4 - m ≡ suc (4 - (m + 1)) = omega arith in rw next refl
-
       after-one : (n : ℕ) → pads g - (v + 1) ≤ n → Q′ ≡ advance limit size Q (events (eqb (m % 2) 1) (eqb (m / 2) 1) n)
       after-one n left = attempted .advanced n left
           ∙ ap (λ (S : State). advance limit size Q (try g (λ u T. backtrack g n u T) v S (eqb (m % 2) 1) (eqb (m / 2) 1))) (view-restored s s₁ count (going .restored))
 
       joined : (n : ℕ) → pads g - (v + 1) ≤ n → advance limit size (entered P) (events-left g v (view s) 4 0 n) ≡ goes-on limit size (rest n) Q′
-      joined n left = going .so-far n left ∙ ap (advance limit size Q) (this-one n)
-          ∙ advance-append limit size (events (eqb (m % 2) 1) (eqb (m / 2) 1) n) (rest n) Q (going .clear)
-          ∙ ap (goes-on limit size (rest n)) (sym (after-one n left))
+      joined n left = one-turn limit size (λ k. events (eqb (k % 2) 1) (eqb (k / 2) 1) n) m less (entered P) Q Q′ (going .clear) (going .so-far n left) (after-one n left)
 
       -- an outcome ends it
       pub stops-at : (o ≡ 0 → ⊥) → Backtracked g limit v s P s₂ Q′

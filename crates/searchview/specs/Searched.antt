@@ -1,18 +1,22 @@
 -- What the search promises: where it may be entered, and how far it has come when it returns. The contracts of `attempt` and `backtrack`
 -- cite these. Nothing is proved here.
-use Prim.Native.Nat.{ℕ, zero, suc, _+_, _-_, _%_, _/_, _≤_, _<_}
+use Prim.Native.Nat.{ℕ, _+_, _-_, _%_, _/_, _≤_, _<_}
 use mathlib.Core.Path.{_≡_}
 use mathlib.Core.Bool.{Bool, true}
-use mathlib.Core.List.{List, [], _++_}
+use mathlib.Core.List.{List}
 use lib.Dec.{eqb}
 use lib.ListN.{length}
 use lib.IntN.{ℤ}
 use Rattle.rules.specs.Grid.{Grid, pads, places}
-use Rattle.model.specs.Board.{State, has-right}
-use Rattle.model.specs.Search.{Event, try, backtrack}
+use Rattle.model.specs.PadTests.{has-right}
+use Rattle.model.specs.Board.{State}
+use Rattle.model.specs.Runs.{Event}
+use Rattle.model.specs.Search.{try, backtrack}
 use Rattle.boardview.specs.View.{Arrays, grid-in, Kinds, view, Ready}
-use Rattle.searchview.specs.Progress.{Progress, advance}
-use Rattle.searchview.specs.Shown.{last-row, Restored, progress}
+use Rattle.runs.specs.Progress.{Progress, advance}
+use Rattle.runs.specs.Turns.{turns-left}
+use Rattle.runs.specs.Layouts.{progress}
+use Rattle.searchview.specs.Shown.{last-row, Restored}
 
 abbrev pub arrays : List ℕ → List ℤ → List ℤ → ℕ → Arrays
 arrays edges ends log count = record { edges = edges; ends = ends; log = log; count = count }
@@ -56,9 +60,8 @@ abbrev pub Backtracked : Grid → ℕ → ℕ → Arrays → Progress → Arrays
 Backtracked g limit v s P s′ P′ = Searched g limit (pads g - v) (λ n. backtrack g n v (view s)) s P s′ P′
 
 -- the events of so many m from one on: right = m mod 2, down = m div 2. The last number bounds the pads left.
-unfoldable pub events-left : Grid → ℕ → State → ℕ → ℕ → ℕ → List Event
-events-left g v S zero m n = []
-events-left g v S (suc more) m n = try g (λ u T. backtrack g n u T) v S (eqb (m % 2) 1) (eqb (m / 2) 1) ++ events-left g v S more (m + 1) n
+abbrev pub events-left : Grid → ℕ → State → ℕ → ℕ → ℕ → List Event
+events-left g v S more m n = turns-left (λ k. try g (λ u T. backtrack g n u T) v S (eqb (k % 2) 1) (eqb (k / 2) 1)) more m
 
 -- within a pad: so many m have been tried since the progress was P, it is now Q, and these events are left
 pub record Going (g : Grid) (limit v : ℕ) (s : Arrays) (P : Progress) (rest : ℕ → List Event) (s′ : Arrays) (Q : Progress) : Type 0 where

@@ -1,19 +1,17 @@
--- What the lent arrays show of the search: whether an m is tried, which pad comes next, and what a layout put into the buffer does to the
--- counts. The contracts of the search's small functions cite these; laws about them stand in ShownLaws.antt. Nothing is proved here.
+-- What the lent arrays show of the search: whether an m is tried, which pad comes next, and when they are as before. The contracts of the
+-- search's small functions cite these; laws about them stand in ShownLaws.antt. Nothing is proved here.
 use Prim.Native.Nat.{ℕ, _+_, _*_, _-_, _≤_, _<_}
 use mathlib.Core.Path.{_≡_}
 use mathlib.Core.Bool.{Bool, false, _||_}
-use mathlib.Core.List.{List, [], _∷_}
+use mathlib.Core.List.{List}
 use lib.Dec.{eqb}
 use lib.ListN.{getD, length}
 use lib.IntN.{pos}
-use Rattle.rules.specs.Grid.{Grid, places}
+use Rattle.rules.specs.Grid.{Grid}
 use Rattle.rules.specs.Drawing.{num}
 use Rattle.model.specs.Board.{State}
-use Rattle.model.specs.Search.{degree-so-far, layout}
+use Rattle.model.specs.Search.{degree-so-far}
 use Rattle.boardview.specs.View.{Arrays, slot-on, logged}
-use Rattle.boardview.specs.ShownRecord.{record-shown}
-use Rattle.searchview.specs.Progress.{Progress, advance}
 
 -- what is true of the edges of every board: as READY of the board says it
 pub record EdgesReady (g : Grid) (edges : List ℕ) : Type 0 where
@@ -42,15 +40,3 @@ pub record Restored (s s′ : Arrays) : Type 0 where
   pub ends-back : s′ .ends ≡ s .ends
   pub log-kept : (i : ℕ) → i < 3 * logged s → getD (s′ .log) i (pos 0) ≡ getD (s .log) i (pos 0)
   pub log-long : length (s′ .log) ≡ length (s .log)
-
--- how far the search has come, as the code keeps it: each layout so far fills one record of the buffer
-abbrev pub progress : (size outcome visited layouts fewest-lines : ℕ) → List ℕ → Progress
-progress size outcome visited layouts fewest-lines buffer = record
-    { outcome = outcome; visited = visited; layouts = layouts; fewest-lines = fewest-lines; used = layouts * size; buffer = buffer }
-
--- what adding a layout does to the counts and the buffer, whatever limit and visited boards
-pub record Added (g : Grid) (edges : List ℕ) (layouts fewest-lines : ℕ) (buffer : List ℕ) (outcome layouts′ fewest-lines′ : ℕ) (buffer′ : List ℕ) : Type 0 where
-  pub advanced : (limit visited : ℕ) → progress (places (g .height) (g .width)) outcome visited layouts′ fewest-lines′ buffer′
-      ≡ advance limit (places (g .height) (g .width)) (progress (places (g .height) (g .width)) 0 visited layouts fewest-lines buffer) (layout (record-shown g edges) ∷ [])
-  pub inside : layouts′ * places (g .height) (g .width) ≤ length buffer′
-  pub same-length : length buffer′ ≡ length buffer

@@ -1,29 +1,24 @@
--- Laws of what the arrays show: the degree that an m is tried by, and what a layout put into the buffer does to the counts. They rest on
--- Shown.antt and on the board's view.
+-- Laws of what the arrays show: the degree that an m is tried by. They rest on Shown.antt and on the board's view.
 use Prim.Native.Nat.{ℕ, zero, suc, _+_, _*_, _-_, _%_, _≤_, _<_}
 use mathlib.Core.Path.{_≡_, refl, ap, _∙_}
 use mathlib.Core.Bool.{Bool, true, false, _&&_, _||_}
 use mathlib.Core.List.{List}
 use native.Mathlib.Omega.{arith}
 use lib.Dec.{eqb, ltb}
-use lib.ListN.{getD, length}
-use borrow.Author.Tests.{lt-ltb, le-ltb, ltb-true, ltb-false, leb-true, leb-false}
-use Rattle.rules.specs.Grid.{Edge, right, down, Grid, pads, places}
-use Rattle.rules.specs.Places.{some-places}
+use lib.ListN.{getD}
+use borrow.Author.Tests.{le-ltb, ltb-true, ltb-false, leb-true, leb-false}
+use Rattle.rules.specs.Grid.{Edge, right, down, Grid, pads}
 use Rattle.rules.specs.Drawing.{num}
-use Rattle.rules.specs.Record.{record-lines}
-use Rattle.rules.specs.RecordLaws.{length-field}
-use Rattle.model.specs.Board.{isLine, has-left, has-up}
-use Rattle.model.specs.Search.{degree-so-far, least}
+use Rattle.model.specs.PadTests.{has-left, has-up}
+use Rattle.model.specs.Board.{isLine}
+use Rattle.model.specs.Search.{degree-so-far}
 use Rattle.boardview.specs.View.{slot, slot-on, view, grid-in, has-bit, clue-bit, Kinds}
 use Rattle.model.specs.Lists.{default-free}
 use Rattle.boardview.specs.Bytes.{line-byte-test}
 use Rattle.boardview.specs.Geometry.{last-before, low-off, slot-is}
 use Rattle.boardview.specs.Items.{clue-test}
-use Rattle.boardview.specs.ShownRecord.{edges-only, bytes-shown, record-shown, put-bytes}
-use Rattle.boardview.specs.ShownRecordLaws.{put-length}
-use Rattle.searchview.specs.Progress.{advance}
-use Rattle.searchview.specs.Shown.{EdgesReady, is-tried, Added}
+use Rattle.boardview.specs.ShownRecord.{edges-only}
+use Rattle.searchview.specs.Shown.{EdgesReady, is-tried}
 
 -- THE DEGREE SO FAR
 module _ (g : Grid) (wide : 2 ≤ g .width) (narrow : g .width ≤ 16) (edges : List ℕ) (ready : EdgesReady g edges) where
@@ -86,39 +81,3 @@ module _ (kind : List ℕ) (kinds : Kinds kind) (edges : List ℕ) (ready : Edge
       → (eqb degree 0 || eqb degree 2) ≡ is-tried (grid-in kind) v (edges-only edges) go-right go-down
   unfolding is-tried
   tried-as go-right go-down degree is = rw (is, degree-shown) refl
-
--- A LAYOUT PUT INTO THE BUFFER
-module _ (g : Grid) (edges buffer : List ℕ) (layouts fewest-lines : ℕ) where
-  abbrev size : ℕ
-  size = places (g .height) (g .width)
-
-  pub full : (inside : layouts * size ≤ length buffer) → length buffer - layouts * size < size → Added g edges layouts fewest-lines buffer 2 layouts fewest-lines buffer
-  unfolding advance
-  full inside short = record {
-    advanced = λ limit visited. rw (lt-ltb (length buffer) (layouts * size + size) (omega arith), advance) refl;
-    inside = inside;
-    same-length = refl;
-  }
-
-  pub added : (at lines least-lines : ℕ) (buffer′ : List ℕ) → at ≡ layouts * size → layouts * size ≤ length buffer → size ≤ length buffer - layouts * size
-      → buffer′ ≡ put-bytes at (record-shown g edges) buffer → lines ≡ record-lines (record-shown g edges) → least-lines ≡ least fewest-lines lines
-      → Added g edges layouts fewest-lines buffer 0 (layouts + 1) least-lines buffer′
-  unfolding advance record-shown
-  added at lines least-lines buffer′ at-is inside room is lines-are least-is =
-      let next : (layouts + 1) * size ≡ layouts * size + size = omega (arith, native.Mathlib.Nat.suc-mul layouts size, ap (λ (k : ℕ). k * size) (native.Mathlib.Numerals.add-one layouts)) in
-      let long : length (record-shown g edges) ≡ size = length-field (g .height) (g .width) (bytes-shown edges) in
-      let there : buffer′ ≡ put-bytes (layouts * size) (record-shown g edges) buffer = is ∙ ap (λ (k : ℕ). put-bytes k (record-shown g edges) buffer) at-is in
-      let same : length buffer′ ≡ length buffer = ap length there ∙ put-length (layouts * size) (record-shown g edges) buffer (omega arith) in
-      record {
-        advanced = λ limit visited. rw (le-ltb (length buffer) (layouts * size + size) (omega arith), advance, next, there, least-is, lines-are) refl;
-        inside = omega arith;
-        same-length = same;
-      }
-
-  -- the number of layouts is below the length of the buffer
-  pub few-layouts : 2 ≤ g .height → 2 ≤ g .width → layouts * size ≤ length buffer → size ≤ length buffer - layouts * size → layouts + 1 ≤ length buffer
-  few-layouts high wide inside room =
-      let some = some-places (g .height) (g .width) high wide in
-      let one : 1 ≤ size = omega arith in
-      let all : layouts * 1 ≤ layouts * size = native.Mathlib.Nat.mul-le-mul-left layouts one in
-      omega arith

@@ -2,22 +2,18 @@
 use Prim.Native.Nat.{ℕ, zero, suc, _+_}
 use mathlib.Core.Path.{_≡_, refl}
 use mathlib.Core.Bool.{Bool, true, false, _||_}
-use mathlib.Core.List.{List, [], _∷_, _++_}
+use mathlib.Core.List.{List, []}
 use lib.Dec.{eqb}
 use lib.ListN.{length}
 use Rattle.rules.specs.Grid.{right, down, Grid, pads, places}
 use Rattle.rules.specs.Drawing.{num}
 use Rattle.rules.specs.RecordLaws.{length-field}
-use Rattle.model.specs.Board.{State, has-down, decide, enough, line-or-none, fresh}
+use Rattle.model.specs.PadTests.{has-down}
+use Rattle.model.specs.Board.{State, decide, enough, line-or-none, fresh}
 use Rattle.model.specs.Calls.{state-byte}
-use Rattle.model.specs.Search.{Event, visit, layout, board-record, next-pad, degree-so-far, try, backtrack, search-from, search}
-use Rattle.searchview.specs.Progress.{Sized}
-
-pub sized-append : (size : ℕ) (a b : List Event) → Sized size a → Sized size b → Sized size (a ++ b)
-unfolding Sized
-sized-append size [] b p q = q
-sized-append size (visit ∷ a) b p q = sized-append size a b p q
-sized-append size (layout r ∷ a) b (long, p) q = (long, sized-append size a b p q)
+use Rattle.model.specs.Runs.{Event}
+use Rattle.model.specs.Search.{board-record, next-pad, degree-so-far, try, backtrack, search-from, search}
+use Rattle.runs.specs.Progress.{Sized, sized-append}
 
 module _ (g : Grid) where
   abbrev size : ℕ

@@ -8,23 +8,26 @@ use native.Mathlib.Nat.{zero-mul}
 use lib.ListN.{length}
 use lib.IntN.{ℤ}
 use Rattle.rules.specs.Grid.{grid-of, pads, places, Accepted}
+use Rattle.rules.specs.ProperGrid.{accepted-proper}
 use Rattle.model.specs.Board.{fresh}
 use Rattle.model.specs.Refusals.{grid-refusal}
 use Rattle.model.specs.RefusalLaws.{not-refused}
+use Rattle.model.specs.Runs as runs
 use Rattle.model.specs.Search as model
-use Rattle.exact.specs.Exact.{solve-is-run, solve-is-declined}
+use Rattle.exact.specs.Exact.{exact, solve-is-run, solve-is-declined}
 use Rattle.boardview.specs.View.{Arrays, view, grid-in}
 use Rattle.boardfresh.specs.FreshView.{FreshBoard}
 use Rattle.tally.specs.declared.Tally.{Tally}
 use Rattle.tally.specs.Empty.{empty}
-use Rattle.searchview.specs.Progress.{Progress, advance, start, result-of, advance-solved}
+use Rattle.runs.specs.Progress.{Progress, advance, start, result-of, advance-solved}
 use Rattle.searchview.specs.Sizes.{search-sized}
-use Rattle.searchview.specs.Shown.{last-row, NextPad, progress}
+use Rattle.runs.specs.Layouts.{progress}
+use Rattle.searchview.specs.Shown.{last-row, NextPad}
 use Rattle.searchview.specs.Searched.{arrays, reached, Begun, Entered, Backtracked}
 use Rattle.searchview.specs.NextPad.{last-below-pads}
 use Rattle.searchview.specs.SameEvents.{shown-searches}
 use Rattle.searchview.specs.SearchLaws.{found-entered, search-flagged, search-clear}
-use Rattle.solver.specs.Promise.{promise}
+use Rattle.promises.specs.Contract.{promise}
 use Rattle.solver.specs.Answers.{declined, run-of, Solves, tally-says, Ready, Counted}
 
 -- with nothing counted an accepted grid is all that is asked
@@ -45,7 +48,7 @@ module _ (height width : ℕ) (cells : List ℤ) (t : Tally) (buffer : List ℕ)
 
   -- a tally and the buffer that have come so far are what is to be counted
   module _ (limit : ℕ) (t′ : Tally) (buffer′ : List ℕ) (same-length : length buffer′ ≡ length buffer) where
-    abbrev Advanced : ℕ → List model.Event → Type 0
+    abbrev Advanced : ℕ → List runs.Event → Type 0
     Advanced size events = progress size (t′ .outcome) (t′ .visited) (t′ .layouts) (t′ .fewest) buffer′
         ≡ advance limit size (progress size (t .outcome) (t .visited) (t .layouts) (t .fewest) buffer) events
 
@@ -96,7 +99,7 @@ module _ (height width : ℕ) (cells : List ℤ) (limit : ℕ) (buffer : List �
   pub solve-refused : (number index : ℕ) → _≡_ {A = ℕ × ℕ} (number, index) (grid-refusal height width cells) → (number ≡ 0 → ⊥)
       → Solves height width cells limit buffer (declined number index) buffer
   solve-refused number index is bad = record {
-    equal = (λ i. model.declined-search (is i .0) (is i .1) buffer) ∙ sym (solve-is-declined height width cells not-zero limit buffer);
+    equal = (λ i. runs.declined-search (is i .0) (is i .1) buffer) ∙ sym (solve-is-declined height width cells not-zero limit buffer);
     of-run = λ e. absurd (not-zero e);
     promise = λ e. absurd (not-zero e);
   }
@@ -112,7 +115,7 @@ module _ (height width : ℕ) (cells : List ℤ) (limit : ℕ) (buffer : List �
   solve-accepted fine t buffer′ counted = record {
     equal = from-run ∙ sym (solve-is-run height width cells accepted limit buffer);
     of-run = λ e. from-run;
-    promise = λ e. promise height width cells accepted limit (length buffer);
+    promise = λ e. promise height width cells accepted (model.search (grid-of height width cells)) (exact (grid-of height width cells) (accepted-proper height width cells accepted)) limit (length buffer);
   }
     where
       accepted : Accepted height width cells
@@ -121,6 +124,6 @@ module _ (height width : ℕ) (cells : List ℤ) (limit : ℕ) (buffer : List �
       from-start : tally-says height width empty buffer ≡ start buffer
       from-start = ap (λ (n : ℕ). record { outcome = 0; visited = 0; layouts = 0; fewest-lines = 481; used = n; buffer = buffer }) (zero-mul (places height width))
 
-      from-run : result-of (tally-says height width t buffer′) ≡ model.solved (run-of height width cells limit buffer) buffer
+      from-run : result-of (tally-says height width t buffer′) ≡ runs.solved (run-of height width cells limit buffer) buffer
       from-run = ap result-of (counted .advanced ∙ ap (λ (P : Progress). advance limit (places height width) P (model.search (grid-of height width cells))) from-start)
           ∙ advance-solved limit (places height width) (model.search (grid-of height width cells)) buffer (search-sized (grid-of height width cells))

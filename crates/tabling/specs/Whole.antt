@@ -14,7 +14,8 @@ use Rattle.rules.specs.Grid.{grid-of, field-side, places, Accepted}
 use Rattle.rules.specs.Places.{few-places}
 use Rattle.model.specs.RefusalLaws.{test-of-size, accepted-is-not-refused}
 use Rattle.model.specs.Refusals.{grid-refusal}
-use Rattle.model.specs.Search.{Run, scan, search, fewest}
+use Rattle.model.specs.Runs.{Run, scan, fewest}
+use Rattle.model.specs.Search.{search}
 use Rattle.model.specs.Decimal.{digit-byte}
 use Rattle.model.specs.GridFile.{Reading, read}
 use Rattle.model.specs.Printed.{Found, reading-text, printed}

@@ -4,7 +4,10 @@ use mathlib.Core.Path.{_≡_, ap}
 use native.Mathlib.Omega.{arith}
 use Rattle.rules.specs.Grid.{places}
 use Rattle.boardview.specs.View.{grid-in}
-use Rattle.searchview.specs.ShownLaws.{full, added, few-layouts}
+use lib.ListN.{length}
+use Rattle.rules.specs.Places.{some-places}
+use Rattle.boardview.specs.ShownRecordLaws.{shown-length}
+use Rattle.runs.specs.Layouts.{full, added, few-layouts}
 use borrow.Author.Needs.{needs}
 use Rattle.searchparts.proofs.add_layout.Statement.{statement}
 use Rattle.searchparts.proofs.add_layout.Tie as tie
@@ -34,7 +37,7 @@ add-layouts : tie.Need-add-layouts
 add-layouts c =
     let start = c .before .before .before .before .before .before .before .before .before .before in
     let record-size-says = c .before .before .before .before .before .before .before .before .record-size .ensures in
-    let at : start .args .layouts .now * c .before .before .before .before .before .before .before .before .record-size .result ≡ start .args .layouts .now * places (grid-in (start .args .kind .now) .height) (grid-in (start .args .kind .now) .width) = ap (λ (k : ℕ). start .args .layouts .now * k) (record-size-says) in let few = few-layouts (grid-in (start .args .kind .now)) (start .args .edges .now) (start .args .buffer .now) (start .args .layouts .now) (start .args .fewest .now) (start .pre .0 .least-height) (start .pre .0 .least-width) (start .pre .2) (omega (arith, c .before .before .before .before .before .before .if1 .left, record-size-says, start .pre .2)) in omega arith
+    let at : start .args .layouts .now * c .before .before .before .before .before .before .before .before .record-size .result ≡ start .args .layouts .now * places (grid-in (start .args .kind .now) .height) (grid-in (start .args .kind .now) .width) = ap (λ (k : ℕ). start .args .layouts .now * k) (record-size-says) in let few = few-layouts (places (grid-in (start .args .kind .now) .height) (grid-in (start .args .kind .now) .width)) (start .args .layouts .now) (length (start .args .buffer .now)) (some-places _ _ (start .pre .0 .least-height) (start .pre .0 .least-width)) (start .pre .2) (omega (arith, c .before .before .before .before .before .before .if1 .left, record-size-says, start .pre .2)) in omega arith
 
 same-length : tie.Need-same-length
 same-length c = search needs
@@ -44,7 +47,7 @@ returns-2 c =
     let start = c .before .before .before .before .before .before .before .before .before .before in
     let record-size-says = c .before .before .before .before .before .before .before .before .record-size .ensures in
     let put-record-says = c .before .before .before .before .put-record .ensures in
-    let at : start .args .layouts .now * c .before .before .before .before .before .before .before .before .record-size .result ≡ start .args .layouts .now * places (grid-in (start .args .kind .now) .height) (grid-in (start .args .kind .now) .width) = ap (λ (k : ℕ). start .args .layouts .now * k) (record-size-says) in added _ _ _ _ _ _ _ _ _ at (start .pre .2) (omega (arith, c .before .before .before .before .before .before .if1 .left, record-size-says, start .pre .2)) (put-record-says .0) (put-record-says .1) (c .least .ensures)
+    let at : start .args .layouts .now * c .before .before .before .before .before .before .before .before .record-size .result ≡ start .args .layouts .now * places (grid-in (start .args .kind .now) .height) (grid-in (start .args .kind .now) .width) = ap (λ (k : ℕ). start .args .layouts .now * k) (record-size-says) in added _ _ _ _ _ _ _ _ _ (shown-length _ _) at (start .pre .2) (omega (arith, c .before .before .before .before .before .before .if1 .left, record-size-says, start .pre .2)) (put-record-says .0) (put-record-says .1) (c .least .ensures)
 
 pub add-layout-spec : {M : Type 1} → statement M
 add-layout-spec =

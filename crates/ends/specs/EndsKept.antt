@@ -10,10 +10,10 @@ use Rattle.rules.specs.Grid.{Cell, clue}
 use Rattle.rules.specs.Drawing.{Relation, NoLine, OneLine, TwoLines, Joined, here, more}
 use Rattle.rules.specs.Places.{zero≢one}
 use Rattle.model.specs.JoinedEnds.{End, through, at-pad, at-clue}
-use Rattle.model.specs.Board.{isClue}
+use Rattle.model.specs.PadTests.{isClue}
 use Rattle.model.specs.BoardLaws.{clue-is-clue, same-pad, is-pad-end}
 use Rattle.rules.specs.Chains.{join-trans, join-sym, join-mono, first-line, by-pad}
-use Rattle.propagation.specs.Ends.{Short, Full, Room, PadEnd, ClueEnd, LoosePad, Ends, Added, Stored, Step, pad-or-clue, two-lines, one-line, other-room, clue-room}
+use Rattle.ends.specs.Ends.{Short, Full, Room, PadEnd, ClueEnd, LoosePad, Ends, Added, Stored, Step, pad-or-clue, two-lines, one-line, other-room, clue-room}
 
 pub added-swap : {L M : Relation} {u v : ℕ} → Added L M u v → Added L M v u
 added-swap a = record {

@@ -9,7 +9,7 @@ use Rattle.rules.specs.Grid.{Grid}
 use Rattle.rules.specs.Drawing.{Drawing, Placed}
 use Rattle.rules.specs.Record.{record-of, drawing-of, codes, Before, Ascending, lower, later}
 use Rattle.rules.specs.RecordLaws.{record-shows, codes-same}
-use Rattle.model.specs.Search.{Event, visit, layout}
+use Rattle.model.specs.Runs.{Event, visit, layout}
 
 -- the records of the layout events
 unfoldable pub layouts-of : List Event → List (List ℕ)

@@ -12,10 +12,10 @@ use Rattle.rules.specs.Drawing.{Relation, NoLine, OneLine, TwoLines, Joined, Lo
 use Rattle.rules.specs.Places.{zero≢one}
 use Rattle.rules.specs.Tests.{not-so}
 use Rattle.model.specs.JoinedEnds.{End, isThrough, unequal-negative, isPad, unjoinable, through, at-pad, at-clue}
-use Rattle.model.specs.Board.{isClue}
+use Rattle.model.specs.PadTests.{isClue}
 use Rattle.model.specs.BoardLaws.{clue-is-clue, is-through, is-pad}
 use Rattle.rules.specs.Chains.{Symmetric, join-trans, join-sym, join-mono, first-line}
-use Rattle.propagation.specs.Ends.{Full, PadEnd, Ends, two-lines, one-line}
+use Rattle.ends.specs.Ends.{Full, PadEnd, Ends, two-lines, one-line}
 
 -- three pads of two are not distinct
 pub two-of-three : {a b p q r : ℕ} → (p ≡ a) ⊎ (p ≡ b) → (q ≡ a) ⊎ (q ≡ b) → (r ≡ a) ⊎ (r ≡ b) → p ≢ q → (r ≢ p) → (r ≢ q) → ⊥

@@ -12,8 +12,8 @@ use lib.Dec.{leb, ltb}
 use lib.ListN.{length}
 use Rattle.rules.specs.Record.{record-lines}
 use Rattle.rules.specs.RecordLaws.{plus-suc}
-use Rattle.model.specs.Search.{Event, Run, with-record, scan, no-fewest, least, fewest, visit, layout}
-use Rattle.exact.specs.Events.{layouts-of, visits-of}
+use Rattle.model.specs.Runs.{Event, Run, with-record, scan, no-fewest, least, fewest, visit, layout}
+use Rattle.runs.specs.Events.{layouts-of, visits-of}
 
 module _ (limit size : ℕ) where
   -- the run gets through these events: no visit passes the limit, and each layout finds room

@@ -8,7 +8,7 @@ use mathlib.Core.Bool.{false}
 use Rattle.rules.specs.Grid.{Cell, clue}
 use Rattle.rules.specs.Drawing.{Relation, NoLine, OneLine, TwoLines, Joined}
 use Rattle.model.specs.JoinedEnds.{End, through, at-pad, at-clue}
-use Rattle.model.specs.Board.{isClue}
+use Rattle.model.specs.PadTests.{isClue}
 use Rattle.rules.specs.Chains.{Symmetric}
 
 -- at most one line

@@ -12,9 +12,9 @@ use lib.Dec.{eqb, ltb}
 use lib.ListN.{length, drop, length-append}
 use native.Mathlib.Nat.{add-zero, zero-add}
 use Rattle.rules.specs.Record.{record-lines}
-use Rattle.boardview.specs.ShownRecord.{put-bytes}
-use Rattle.boardview.specs.ShownRecordLaws.{put-length, put-none, put-put}
-use Rattle.model.specs.Search.{Event, visit, layout, Run, scan, with-record, fewest, least, no-fewest, concat, Solved, solved}
+use Rattle.model.specs.PutBytes.{put-bytes}
+use Rattle.model.specs.PutBytes.{put-length, put-none, put-put}
+use Rattle.model.specs.Runs.{Event, visit, layout, Run, scan, with-record, fewest, least, no-fewest, concat, Solved, solved}
 
 pub record Progress : Type 0 where
   pub outcome : ℕ
@@ -97,6 +97,12 @@ unfoldable pub Sized : ℕ → List Event → Type 0
 Sized size [] = Unit {0}
 Sized size (visit ∷ events) = Sized size events
 Sized size (layout r ∷ events) = (length r ≡ size) × Sized size events
+
+pub sized-append : (size : ℕ) (a b : List Event) → Sized size a → Sized size b → Sized size (a ++ b)
+unfolding Sized
+sized-append size [] b p q = q
+sized-append size (visit ∷ a) b p q = sized-append size a b p q
+sized-append size (layout r ∷ a) b (long, p) q = (long, sized-append size a b p q)
 
 -- what a run adds to a progress
 abbrev pub after-run : Progress → Run → Progress

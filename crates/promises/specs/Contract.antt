@@ -1,6 +1,6 @@
--- WHAT THE CONTRACT OF `solve` PROMISES beside the equation with the model: demands 2 and 3, for a run on an accepted grid. It says what
--- `Promised` (crate promises) says, in a type that a contract can hold: a closed loop is told by the list of its pads and not by a family,
--- which the rules prove to be the same (Loops.antt). So it is proved from `promised` by that law alone.
+-- WHAT THE CONTRACT OF AN ENGINE PROMISES beside the equation with the model, `solve` and `walk` alike: demands 2 and 3, for a run on an accepted
+-- grid. It says what `Promised` (Promises.antt) says, in a type that a contract can hold: a closed loop is told by the list of its pads and not
+-- by a family, which the rules prove to be the same (Loops.antt). So it is proved from `Promised` by that law alone.
 use Prim.Native.Nat.{ℕ, _≤_}
 use mathlib.Core.Path.{_≡_}
 use mathlib.Core.Logic.{_↔_, _≢_, _⊎_}
@@ -11,11 +11,12 @@ use Rattle.rules.specs.Grid.{Grid, grid-of, blank, clue, hole, UnitSquare, plac
 use Rattle.rules.specs.Drawing.{Drawing, Placed, Line, Joined, NoLine, OneLine, TwoLines, Ordinary, Listed, square-lines, Side, DiagonallyBelow, Corner, NotBlank, SamePairs, number-of-lines}
 use Rattle.rules.specs.Loops.{ClosedList, no-loop-exactly}
 use Rattle.rules.specs.Record.{record-of, record-lines, Ascending}
-use Rattle.model.specs.Search.{Run, scan, search, fewest, no-fewest}
+use Rattle.model.specs.Runs.{Event, Run, scan, fewest, no-fewest}
 use Rattle.shortest.specs.Fewest.{Fewest}
-use Rattle.exact.specs.Events.{Beginning, shown-codes, Distinct}
-use Rattle.exact.specs.Runs.{RunSays}
-use Rattle.promises.specs.Promises.{complete-list, Promised, promised}
+use Rattle.runs.specs.Events.{layouts-of, Beginning, shown-codes, Distinct}
+use Rattle.runs.specs.Runs.{RunSays}
+use Rattle.runs.specs.ExactLists.{Exact}
+use Rattle.promises.specs.Promises.{complete-list, Promised, promised-of}
 
 -- AN ORDINARY DRAWING: lines on the board; a clue pad has one line, a blank one none or two, a hole none; no closed list of pads, each with a
 -- line to the next and the last to the first; each chain joins pads of equal code
@@ -63,17 +64,17 @@ module _ (g : Grid) (wide : 1 ≤ g .width) (D : Drawing) where
   pub from-listed : ListedDrawing g D → Listed g D
   from-listed l = record { ordinary = from-ordinary (l .ordinary); squares = l .squares; corners = l .corners }
 
-pub record Promise (g : Grid) (limit room : ℕ) (run : Run) : Type 0 where
+pub record Promise (g : Grid) (events : List Event) (limit room : ℕ) (run : Run) : Type 0 where
   -- DEMAND 2. The complete list holds each listed layout exactly once, ascending, and nothing else.
-  pub nothing-added : (bytes : List ℕ) → List·Memᴰ bytes (complete-list g) → (D : Drawing) × ListedDrawing g D × (bytes ≡ record-of g D)
-  pub nothing-lost : (D : Drawing) → ListedDrawing g D → List·Memᴰ (record-of g D) (complete-list g)
-  pub ascending : Ascending (map (shown-codes g) (complete-list g))
-  pub each-once : Distinct (complete-list g)
-  -- The search stops early exactly where the count of visited boards or the room runs out, and visited counts its visits.
-  pub stops : RunSays limit (places (g .height) (g .width)) room (search g) run
+  pub nothing-added : (bytes : List ℕ) → List·Memᴰ bytes (complete-list events) → (D : Drawing) × ListedDrawing g D × (bytes ≡ record-of g D)
+  pub nothing-lost : (D : Drawing) → ListedDrawing g D → List·Memᴰ (record-of g D) (complete-list events)
+  pub ascending : Ascending (map (shown-codes g) (complete-list events))
+  pub each-once : Distinct (complete-list events)
+  -- The engine stops early exactly where its count or the room runs out, and visited is its count.
+  pub stops : RunSays limit (places (g .height) (g .width)) room events run
   -- Where the outcome is 0 the list is that complete one; a list that stopped early is a beginning of it.
-  pub complete : run .outcome ≡ 0 → run .records ≡ complete-list g
-  pub beginning : Beginning (run .records) (complete-list g)
+  pub complete : run .outcome ≡ 0 → run .records ≡ complete-list events
+  pub beginning : Beginning (run .records) (complete-list events)
   -- DEMAND 3. Nobody who draws by the ordinary rules can better a list that ended complete: it holds a layout that joins the same pads
   -- pair by pair with no more lines.
   pub matched : run .outcome ≡ 0 → (D : Drawing) → OrdinaryDrawing g D
@@ -85,8 +86,8 @@ pub record Promise (g : Grid) (limit room : ℕ) (run : Run) : Type 0 where
   pub fewest-of-run : (run .records ≡ []) ⊎ Fewest record-lines (λ bytes. List·Memᴰ bytes (run .records)) (fewest (run .records))
   pub fewest-none : run .records ≡ [] → fewest (run .records) ≡ no-fewest
 
-pub promise-of : (g : Grid) (limit room : ℕ) (run : Run) → 1 ≤ g .width → Promised g limit room run → Promise g limit room run
-promise-of g limit room run wide p = record {
+pub promise-of : (g : Grid) (events : List Event) (limit room : ℕ) (run : Run) → 1 ≤ g .width → Promised g events limit room run → Promise g events limit room run
+promise-of g events limit room run wide p = record {
   nothing-added = λ bytes m. let r = p .exactly-the-listed .nothing-added bytes m in (r .drawing, to-listed g wide (r .drawing) (r .listed), r .shown);
   nothing-lost = λ D l. p .exactly-the-listed .nothing-lost D (from-listed g wide D l);
   ascending = p .exactly-the-listed .ascending;
@@ -105,8 +106,9 @@ promise-of g limit room run wide p = record {
   fewest-none = p .fewest-none;
 }
 
-pub promise : (height width : ℕ) (cells : List ℤ) → Accepted height width cells → (limit room : ℕ)
-    → Promise (grid-of height width cells) limit room (scan limit (places height width) 0 room (search (grid-of height width cells)))
+-- an engine whose layouts are exact keeps it
+pub promise : (height width : ℕ) (cells : List ℤ) → Accepted height width cells → (events : List Event) → Exact (grid-of height width cells) (layouts-of events) → (limit room : ℕ)
+    → Promise (grid-of height width cells) events limit room (scan limit (places height width) 0 room events)
 unfolding grid-of
-promise height width cells accepted limit room =
-    promise-of (grid-of height width cells) limit room _ (let k = accepted .width-in-range .0 in omega arith) (promised height width cells accepted limit room)
+promise height width cells accepted events whole limit room =
+    promise-of (grid-of height width cells) events limit room _ (let k = accepted .width-in-range .0 in omega arith) (promised-of height width cells accepted events whole limit room)

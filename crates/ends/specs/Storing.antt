@@ -12,10 +12,10 @@ use Rattle.rules.specs.Places.{zero≢one}
 use Rattle.rules.specs.Tests.{neither}
 use Rattle.rules.specs.Chains.{Symmetric}
 use Rattle.model.specs.JoinedEnds.{End, isThrough, unequal-negative, isPad, unjoinable, put-end, put-end-at, joined-ends, through, at-pad, at-clue}
-use Rattle.model.specs.Board.{isClue}
+use Rattle.model.specs.PadTests.{isClue}
 use Rattle.model.specs.BoardLaws.{same-pad, put-same, put-other, put-at-same, put-at-other}
-use Rattle.propagation.specs.Ends.{Ends, Added, Stored, other-room, clue-room}
-use Rattle.propagation.specs.EndsKept.{stored-ends}
+use Rattle.ends.specs.Ends.{Ends, Added, Stored, other-room, clue-room}
+use Rattle.ends.specs.EndsKept.{stored-ends}
 
 pub stored : (end : ℕ → End) (u v : ℕ) (A B : End) → u ≢ v → A ≢ at-pad v → B ≢ at-pad u
     → ((x : ℕ) → A ≡ at-pad x → B ≡ at-pad x → ⊥) → Stored end (joined-ends end u v A B) u v A B

@@ -1,10 +1,10 @@
 -- WHAT THE JUDGE SAYS OF A DRAWING, in the words of the rules: 1 or 2 exactly where the record is that of an ordinary drawing of the grid, 2
 -- exactly where it is that of a listed one, and that is exactly where a complete list of `solve` holds it, whoever drew it; the lines are the
--- drawing's. It rests on RuleTest.antt, on exactness (crate `exact`) and on what the buffer of a search holds (crate `promises`).
+-- drawing's. It rests on the verdict's theory (ruletest's Verdict.antt), on exactness (crate `exact`) and on what the buffer of a search holds
+-- (HeldRecords.antt).
 use Prim.Native.Nat.{ℕ, _≤_}
 use mathlib.Core.Path.{_≡_, refl, _∙_, ap}
 use mathlib.Core.Logic.{_↔_, Iff·symm, Iff·trans}
-use mathlib.Core.Bool.{Bool, true, false, _&&_}
 use mathlib.Core.List.{List, List·Memᴰ, Memᴰ·cast}
 use native.Mathlib.Omega.{arith}
 use lib.ListN.{length}
@@ -15,16 +15,17 @@ use Rattle.rules.specs.Grid.{Grid, grid-of, places, Accepted}
 use Rattle.rules.specs.Drawing.{Drawing, Ordinary, number-of-lines}
 use Rattle.rules.specs.Record.{record-of, record-lines, OrdinaryRecord, ListedRecord}
 use Rattle.rules.specs.LineCount.{record-lines-of}
-use Rattle.rules.specs.Tests.{conflict}
 use Rattle.model.specs.Choice.{if_then_else_}
 use Rattle.model.specs.Refusals.{grid-refusal}
 use Rattle.model.specs.RefusalLaws.{accepted-is-not-refused}
-use Rattle.model.specs.Search.{scan, search, solve}
-use Rattle.model.specs.Judge.{Judged, is-ordinary-record, has-listed-shape, verdict, judge}
-use Rattle.propagation.specs.ProperGrid.{Proper, accepted-proper}
-use Rattle.exact.specs.Exact.{exact-run, solve-is-run}
-use Rattle.promises.specs.HeldRecords.{Holds, held-exactly}
-use Rattle.ruletest.specs.RuleTest.{ordinary-exactly, listed-exactly}
+use Rattle.model.specs.Runs.{scan}
+use Rattle.model.specs.Search.{search, solve}
+use Rattle.model.specs.Judge.{Judged, verdict, judge}
+use Rattle.rules.specs.ProperGrid.{Proper, accepted-proper}
+use Rattle.exact.specs.Exact.{search-run, solve-is-run}
+use Rattle.runs.specs.HeldRecords.{Holds}
+use Rattle.promises.specs.HeldRecords.{held-exactly}
+use Rattle.ruletest.specs.Verdict.{verdict-small, ordinary-verdict, listed-verdict}
 
 -- what is said of a record on an accepted grid
 pub record Says (height width : ℕ) (cells : List ℤ) (bytes : List ℕ) (said : Judged) : Type 1 where
@@ -44,48 +45,6 @@ pub record Says (height width : ℕ) (cells : List ℤ) (bytes : List ℕ) (said
       → said .lines ≡ number-of-lines (grid-of height width cells) D
   pub no-lines : said .verdict ≡ 0 → said .lines ≡ 0
 
--- ## The verdict
-
-module _ (g : Grid) (proper : Proper g) (bytes : List ℕ) where
-  -- by the two tests
-  record Told (ordinary shape : Bool) : Type 0 where
-    is : verdict g bytes ≡ (if ordinary then (if shape then 2 else 1) else 0)
-
-  told : Told (is-ordinary-record g bytes) (has-listed-shape g bytes)
-  told = record { is = unfold verdict in refl }
-
-  pub verdict-small : verdict g bytes ≤ 2
-  verdict-small = go (is-ordinary-record g bytes) (has-listed-shape g bytes) told
-    where
-      go : (o s : Bool) → Told o s → verdict g bytes ≤ 2
-      go false s t = omega (arith, t .is)
-      go true false t = omega (arith, t .is)
-      go true true t = omega (arith, t .is)
-
-  some-test : (1 ≤ verdict g bytes) ↔ (is-ordinary-record g bytes ≡ true)
-  some-test = go (is-ordinary-record g bytes) (has-listed-shape g bytes) told
-    where
-      go : (o s : Bool) → Told o s → (1 ≤ verdict g bytes) ↔ (o ≡ true)
-      go false s t = ((λ h. absurd (omega (arith, t .is))), λ h. conflict h refl)
-      go true false t = ((λ h. refl), λ h. omega (arith, t .is))
-      go true true t = ((λ h. refl), λ h. omega (arith, t .is))
-
-  both-tests : (verdict g bytes ≡ 2) ↔ (is-ordinary-record g bytes && has-listed-shape g bytes ≡ true)
-  both-tests = go (is-ordinary-record g bytes) (has-listed-shape g bytes) told
-    where
-      go : (o s : Bool) → Told o s → (verdict g bytes ≡ 2) ↔ (o && s ≡ true)
-      go false s t = ((λ h. absurd (omega (arith, t .is))), λ h. conflict h refl)
-      go true false t = ((λ h. absurd (omega (arith, t .is))), λ h. conflict h refl)
-      go true true t = ((λ h. refl), λ h. omega (arith, t .is))
-
-  pub ordinary-verdict : (1 ≤ verdict g bytes) ↔ OrdinaryRecord g bytes
-  ordinary-verdict = ((λ h. ordinary-exactly g proper bytes .0 (some-test .0 h)), λ r. some-test .1 (ordinary-exactly g proper bytes .1 r))
-
-  pub listed-verdict : (verdict g bytes ≡ 2) ↔ ListedRecord g bytes
-  listed-verdict = ((λ h. listed-exactly g proper bytes .0 (both-tests .0 h)), λ r. both-tests .1 (listed-exactly g proper bytes .1 r))
-
--- ## The call
-
 module _ (height width : ℕ) (cells : List ℤ) (accepted : Accepted height width cells) (bytes : List ℕ) where
   abbrev g : Grid
   g = grid-of height width cells
@@ -103,7 +62,7 @@ module _ (height width : ℕ) (cells : List ℤ) (accepted : Accepted height wid
   -- a listed record is one of the complete list of `solve`, and none else is
   module _ (limit : ℕ) (buffer : List ℕ) (complete : solve height width cells limit buffer .outcome ≡ 0) where
     listed-member : ListedRecord g bytes ↔ List·Memᴰ bytes (scan limit (places height width) 0 (length buffer) (search g) .records)
-    listed-member = let all = exact-run height width cells accepted limit (length buffer) .complete (rw (solve-is-run height width cells accepted limit buffer) at complete) in
+    listed-member = let all = search-run height width cells accepted limit (length buffer) .complete (rw (solve-is-run height width cells accepted limit buffer) at complete) in
         ((λ l. Memᴰ·cast (l .shown) (all .nothing-lost (l .drawing) (l .listed))), all .nothing-added bytes)
 
     pub listed-held : (its-verdict ≡ 2) ↔ Holds height width (solve height width cells limit buffer) bytes

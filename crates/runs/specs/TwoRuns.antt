@@ -7,8 +7,8 @@ use mathlib.Core.List.{List, [], _∷_}
 use native.Mathlib.Omega.{arith}
 use borrow.Author.Tests.{le-ltb, lt-ltb, ltb-false, ltb-true}
 use lib.Dec.{ltb}
-use Rattle.model.specs.Search.{Event, Run, with-record, scan, visit, layout}
-use Rattle.exact.specs.Events.{Beginning}
+use Rattle.model.specs.Runs.{Event, Run, with-record, scan, visit, layout}
+use Rattle.runs.specs.Events.{Beginning}
 
 -- a run counts on from the boards that were visited before it
 visited-on : (limit size : ℕ) (events : List Event) (visited room : ℕ) → visited ≤ scan limit size visited room events .visited

@@ -1,8 +1,8 @@
 -- The smaller of the two, by the test. Assumes nothing.
 use mathlib.Core.Path.{sym}
-use Rattle.searchview.specs.Progress.{least-left, least-right}
-use Rattle.searchparts.proofs.least.Statement.{statement}
-use Rattle.searchparts.proofs.least.Tie as tie
+use Rattle.runs.specs.Progress.{least-left, least-right}
+use Rattle.tally.proofs.least.Statement.{statement}
+use Rattle.tally.proofs.least.Tie as tie
 
 returns : tie.Need-returns
 returns c = sym (least-left _ _ (c .if1 .taken))

@@ -1,0 +1,1 @@
+// What the ends of pads say of the lines between them: theory only, in specs/.

@@ -1,0 +1,1 @@
+// A run with a limit and room, for every engine: theory only, in specs/.
