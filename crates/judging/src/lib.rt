@@ -322,7 +322,7 @@ fn answered(verdict: u8, lines: usize) -> Judged
 }
 
 // Judges a record of an accepted grid: its length, its places, the pads.
-fn judge_record(height: usize, width: usize, cells: &[i64], bytes: &[u8]) -> Judged
+pub fn judge_record(height: usize, width: usize, cells: &[i64], bytes: &[u8]) -> Judged
     requires { ⌜ Accepted height width (now cells) ⌝ }
     ensures { λ r. ⌜ judged-says r ≡ answer (model.verdict (grid-of height width (now (cells .entry))) (now (bytes .entry))) (record-lines (now (bytes .entry))) ⌝ }
 {
