@@ -38,7 +38,7 @@
  *   5  a height or width outside 2 to 16
  *   6  fewer than two bytes, or not five bytes for each pad
  *  17  a half byte above 9 in a pad that is not blank
- * A grid, for a board, a search, the copper common to all layouts, a drawing to be judged or writing:
+ * A grid, for a board, a search, a walk, the copper common to all layouts, a drawing to be judged or writing:
  *   7  a height or width outside 2 to 16
  *   8  the number of cells is not height * width
  *   9  a cell below -2 or above 4294967295
@@ -146,6 +146,24 @@ size_t hunekowha_write(size_t height, size_t width, const int64_t *cells, size_t
  */
 size_t hunekowha_solve(size_t height, size_t width, const int64_t *cells, size_t cells_length, uint64_t limit,
                        uint8_t *buffer, size_t buffer_length, uint64_t *answer, size_t answer_length);
+
+/*
+ * Lists the layouts of a grid as hunekowha_solve does, by a second engine that shares none of its pruning: a slow walk, which gives
+ * each pad every code in index order (code = right + 2 * down; a code with a line off the board is not tried) and tests the rules on
+ * full drawings only. It is a check of the search for small grids: a whole walk tries 44 codes on 2 by 2 pads, 11956 on 3 by 3,
+ * and far too many on a panel.
+ *
+ *   limit                  how many codes may be tried, one for each code that is given to a pad
+ *   the others             as for hunekowha_solve
+ *
+ * Returns 6, or 0 where `answer` is too short. The answer and the buffer are as hunekowha_solve says, but for
+ *   answer[2]  the outcome: 1 means that the next code would pass the limit
+ *   answer[4]  how many codes were tried
+ * Wherever both calls end complete on a grid, whatever their limits and buffers, answer[0], answer[1], answer[3] and answer[5] are the same,
+ * and so are the records in the two buffers, byte for byte.
+ */
+size_t hunekowha_walk(size_t height, size_t width, const int64_t *cells, size_t cells_length, uint64_t limit, uint8_t *buffer,
+                      size_t buffer_length, uint64_t *answer, size_t answer_length);
 
 /*
  * Lists the layouts of a grid as hunekowha_solve does and, where the list ends complete, fills a table that says which copper

@@ -16,9 +16,8 @@ use Rattle.model.specs.GridFile.{Reading}
 use Rattle.model.specs.Writing.{Writing, write}
 use Rattle.model.specs.Records.{record-length, has-record, record-at}
 use Rattle.model.specs.Judge.{Judged, judge}
-use Rattle.hunekowha.specs.Lent.{written, ReadGives, read-numbers, reading-gives, write-numbers, write-gives, record-place, record-gives, judge-numbers, judge-gives, solve-numbers, solve-gives, common-gives}
+use Rattle.hunekowha.specs.Lent.{written, ReadGives, read-numbers, reading-gives, write-numbers, write-gives, record-place, record-gives, judge-numbers, judge-gives, solve-numbers, listing-gives, common-gives}
 use Rattle.model.specs.Runs.{Solved}
-use Rattle.model.specs.Search.{solve}
 use Rattle.model.specs.Common.{Common, common}
 
 -- a copy of a whole list to the front
@@ -103,16 +102,16 @@ module _ (height width : ℕ) (cells : List ℤ) (bytes answer : List ℕ) where
   unfolding judge-gives
   judge-whole long r after same put = rw (le-leb 4 (length answer) long, put, ← same)
 
--- SOLVE
-module _ (height width : ℕ) (cells : List ℤ) (limit : ℕ) (buffer answer : List ℕ) where
-  pub solve-short : length answer < 6 → solve-gives height width cells limit buffer answer ≡ record { returned = 0; buffer = buffer; answer = answer }
-  unfolding solve-gives
-  solve-short short = rw (lt-leb 6 (length answer) short)
+-- SOLVE AND WALK
+module _ (listed : Solved) (buffer answer : List ℕ) where
+  pub listing-short : length answer < 6 → listing-gives listed buffer answer ≡ record { returned = 0; buffer = buffer; answer = answer }
+  unfolding listing-gives
+  listing-short short = rw (lt-leb 6 (length answer) short)
 
-  pub solve-whole : 6 ≤ length answer → (r : Solved) (after : List ℕ) → r ≡ solve height width cells limit buffer
-      → after ≡ paste answer 0 (solve-numbers r) 6 → solve-gives height width cells limit buffer answer ≡ record { returned = 6; buffer = r .buffer; answer = after }
-  unfolding solve-gives
-  solve-whole long r after same put = rw (le-leb 6 (length answer) long, put, ← same)
+  pub listing-whole : 6 ≤ length answer → (r : Solved) (after : List ℕ) → r ≡ listed → after ≡ paste answer 0 (solve-numbers r) 6
+      → listing-gives listed buffer answer ≡ record { returned = 6; buffer = r .buffer; answer = after }
+  unfolding listing-gives
+  listing-whole long r after same put = rw (le-leb 6 (length answer) long, put, ← same)
 
 -- COMMON
 module _ (height width : ℕ) (cells : List ℤ) (limit : ℕ) (buffer table answer : List ℕ) where

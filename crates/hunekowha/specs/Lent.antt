@@ -12,7 +12,6 @@ use Rattle.model.specs.Writing.{Writing, write}
 use Rattle.model.specs.Records.{record-length, has-record}
 use Rattle.model.specs.Judge.{Judged, judge}
 use Rattle.model.specs.Runs.{Solved}
-use Rattle.model.specs.Search.{solve}
 use Rattle.model.specs.Common.{common}
 use Rattle.solver.specs.declared.Solved.{Solved as Answered}
 use Rattle.solver.specs.Answers.{answer-says}
@@ -83,8 +82,8 @@ judge-gives height width cells bytes answer =
     then record { returned = 4; answer = written (judge-numbers (judge height width cells bytes)) answer }
     else record { returned = 0; answer = answer }
 
--- SOLVE: what is returned, the buffer and the numbers after the call
-pub record SolveGives : Type 0 where
+-- SOLVE AND WALK, by what they answer in the model: what is returned, the buffer and the numbers after the call
+pub record ListingGives : Type 0 where
   pub returned : ℕ
   pub buffer : List ℕ
   pub answer : List ℕ
@@ -96,14 +95,10 @@ solve-numbers r = r .number ∷ r .index ∷ r .outcome ∷ r .layouts ∷ r .vi
 abbrev pub search-numbers : Answered → List ℕ
 search-numbers r = solve-numbers (answer-says r [])
 
-unfoldable pub solve-gives : ℕ → ℕ → List ℤ → ℕ → List ℕ → List ℕ → SolveGives
-solve-gives height width cells limit buffer answer =
+unfoldable pub listing-gives : Solved → List ℕ → List ℕ → ListingGives
+listing-gives listed buffer answer =
     if leb 6 (length answer)
-    then record {
-      returned = 6;
-      buffer = solve height width cells limit buffer .buffer;
-      answer = written (solve-numbers (solve height width cells limit buffer)) answer;
-    }
+    then record { returned = 6; buffer = listed .buffer; answer = written (solve-numbers listed) answer }
     else record { returned = 0; buffer = buffer; answer = answer }
 
 -- COMMON: what is returned, the buffer, the table and the numbers after the call

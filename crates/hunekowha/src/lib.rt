@@ -1,11 +1,13 @@
-// The router for other languages: reading and writing a grid file, reading packed decimal, the search, the copper common to all layouts, a
-// record's place, a drawing judged, and board calls replayed.
+// The router for other languages: reading and writing a grid file, reading packed decimal, the search, the slow walk, the copper common to all
+// layouts, a record's place, a drawing judged, and board calls replayed.
 // hunekowha.h beside this folder explains each function, argument and number. Each result, and every lent number and byte after the call, is
 // what specs/Lent.antt says. No function asks anything of its caller beyond what the types say.
 ghost use mathlib.Core.Path.{_≡_};
 ghost use Rattle.model.specs.Calls as model;
 ghost use Rattle.model.specs.GridFile.{read};
 ghost use Rattle.model.specs.Packed.{read-packed};
+ghost use Rattle.model.specs.Search.{solve};
+ghost use Rattle.model.specs.Walk.{walk};
 ghost use Rattle.gridfile.specs.Answers.{reading-says};
 ghost use Rattle.board.specs.Held.{Held, IsBoard, Says};
 ghost use Rattle.hunekowha.specs.Replay.{state-asked, called, block, block-size, all-blocks, Writable, Replayable};
@@ -17,7 +19,7 @@ use board::Board;
 use grid::Edge;
 use gridfile::Reading;
 use solver::Solved;
-ghost use Rattle.hunekowha.specs.Lent.{reading-gives, write-gives, record-gives, judge-gives, search-numbers, solve-gives, common-gives};
+ghost use Rattle.hunekowha.specs.Lent.{reading-gives, write-gives, record-gives, judge-gives, search-numbers, listing-gives, common-gives};
 ghost use Rattle.hunekowha.specs.Replay.{replay-gives};
 
 // Writes what a reading gives: five numbers and 256 cells.
@@ -262,7 +264,7 @@ pub extern "C" fn hunekowha_replay(
     count * size
 }
 
-// Writes the six numbers of a search.
+// Writes the six numbers of a search or a walk.
 fn put_solved(answer: &mut [u64], solved: Solved)
     requires { ⌜ 6 ≤ length (now answer) ⌝ }
     ensures { λ _. ⌜ now (answer .exit) ≡ paste (now (answer .entry)) 0 (search-numbers solved) 6 ⌝ }
@@ -288,7 +290,7 @@ pub extern "C" fn hunekowha_solve(
     buffer: &mut [u8],
     answer: &mut [u64],
 ) -> usize
-    ensures { λ r. ⌜ solve-gives height width (now (cells .entry)) limit (now (buffer .entry)) (now (answer .entry)) ≡ record { returned = r; buffer = now (buffer .exit); answer = now (answer .exit) } ⌝ }
+    ensures { λ r. ⌜ listing-gives (solve height width (now (cells .entry)) limit (now (buffer .entry))) (now (buffer .entry)) (now (answer .entry)) ≡ record { returned = r; buffer = now (buffer .exit); answer = now (answer .exit) } ⌝ }
 {
     if answer.len() < 6 {
         return 0;
@@ -298,7 +300,35 @@ pub extern "C" fn hunekowha_solve(
     6
 }
 
-// The same, and from a complete list fills the table of the copper common to all layouts.
+// The same by the slow walk: the tried codes stand where the visited boards stand.
+#[no_mangle]
+pub extern "C" fn hunekowha_walk(
+    height: usize,
+    width: usize,
+    cells: &[i64],
+    limit: u64,
+    buffer: &mut [u8],
+    answer: &mut [u64],
+) -> usize
+    ensures { λ r. ⌜ listing-gives (walk height width (now (cells .entry)) limit (now (buffer .entry))) (now (buffer .entry)) (now (answer .entry)) ≡ record { returned = r; buffer = now (buffer .exit); answer = now (answer .exit) } ⌝ }
+{
+    if answer.len() < 6 {
+        return 0;
+    }
+    let walked = walking::walk(height, width, cells, limit, buffer);
+    let solved = Solved {
+        number: walked.number,
+        index: walked.index,
+        outcome: walked.outcome,
+        layouts: walked.layouts,
+        visited: walked.tried,
+        fewest: walked.fewest,
+    };
+    put_solved(answer, solved);
+    6
+}
+
+// Lists the layouts as `hunekowha_solve` does, and from a complete list fills the table of the copper common to all of them.
 #[no_mangle]
 pub extern "C" fn hunekowha_common(
     height: usize,

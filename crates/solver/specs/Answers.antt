@@ -1,18 +1,17 @@
 -- What `solve` answers, as the model says it, and its whole promise in one record. `Solves` is the contract of `solve`; the equation with
 -- the model is its first part, and demands 2 and 3 are its second.
-use Prim.Native.Nat.{ℕ, _*_, _≤_}
+use Prim.Native.Nat.{ℕ}
 use mathlib.Core.Path.{_≡_}
 use mathlib.Core.List.{List}
 use lib.ListN.{length}
 use lib.IntN.{ℤ}
-use Rattle.rules.specs.Grid.{grid-of, places, Accepted}
+use Rattle.rules.specs.Grid.{grid-of, places}
 use Rattle.model.specs.Refusals.{grid-refusal}
 use Rattle.model.specs.Runs as runs
 use Rattle.model.specs.Search as model
 use Rattle.solver.specs.declared.Solved.{Solved}
 use Rattle.tally.specs.declared.Tally.{Tally}
-use Rattle.runs.specs.Progress.{Progress, advance}
-use Rattle.runs.specs.Layouts.{progress}
+use Rattle.tally.specs.Counts as counts
 use Rattle.promises.specs.Contract.{Promise}
 
 -- the answer and the buffer after it, as the model's result
@@ -36,17 +35,6 @@ pub record Solves (height width : ℕ) (cells : List ℤ) (limit : ℕ) (buffer 
   -- and demands 2 and 3 hold of it
   pub promise : grid-refusal height width cells .0 ≡ 0 → Promise (grid-of height width cells) (model.search (grid-of height width cells)) limit (length buffer) (run-of height width cells limit buffer)
 
--- a tally and the buffer, as the progress of a search
-abbrev pub tally-says : ℕ → ℕ → Tally → List ℕ → Progress
-tally-says height width t buffer = progress (places height width) (t .outcome) (t .visited) (t .layouts) (t .fewest) buffer
-
--- what the counts may be when a search begins: each layout so far has its record in the buffer
-pub record Ready (height width : ℕ) (cells : List ℤ) (t : Tally) (buffer : List ℕ) : Type 0 where
-  pub accepted : Accepted height width cells
-  pub none-yet : t .outcome ≡ 0
-  pub inside : t .layouts * places height width ≤ length buffer
-
 -- the tally and the buffer after the search of the whole grid
-pub record Counted (height width : ℕ) (cells : List ℤ) (limit : ℕ) (t : Tally) (buffer : List ℕ) (t′ : Tally) (buffer′ : List ℕ) : Type 0 where
-  pub advanced : tally-says height width t′ buffer′ ≡ advance limit (places height width) (tally-says height width t buffer) (model.search (grid-of height width cells))
-  pub same-length : length buffer′ ≡ length buffer
+abbrev pub Counted : ℕ → ℕ → List ℤ → ℕ → Tally → List ℕ → Tally → List ℕ → Type 0
+Counted = counts.Counted (λ g. model.search g)

@@ -4,7 +4,6 @@ use Prim.Native.Nat.{ℕ, _≤_, _<_}
 use mathlib.Core.Path.{_≡_, refl, sym, ap, _∙_, subst}
 use mathlib.Core.List.{List}
 use native.Mathlib.Omega.{arith}
-use native.Mathlib.Nat.{zero-mul}
 use lib.ListN.{length}
 use lib.IntN.{ℤ}
 use Rattle.rules.specs.Grid.{grid-of, pads, places, Accepted}
@@ -19,7 +18,7 @@ use Rattle.boardview.specs.View.{Arrays, view, grid-in}
 use Rattle.boardfresh.specs.FreshView.{FreshBoard}
 use Rattle.tally.specs.declared.Tally.{Tally}
 use Rattle.tally.specs.Empty.{empty}
-use Rattle.runs.specs.Progress.{Progress, advance, start, result-of, advance-solved}
+use Rattle.runs.specs.Progress.{advance, result-of}
 use Rattle.searchview.specs.Sizes.{search-sized}
 use Rattle.runs.specs.Layouts.{progress}
 use Rattle.searchview.specs.Shown.{last-row, NextPad}
@@ -28,11 +27,8 @@ use Rattle.searchview.specs.NextPad.{last-below-pads}
 use Rattle.searchview.specs.SameEvents.{shown-searches}
 use Rattle.searchview.specs.SearchLaws.{found-entered, search-flagged, search-clear}
 use Rattle.promises.specs.Contract.{promise}
-use Rattle.solver.specs.Answers.{declined, run-of, Solves, tally-says, Ready, Counted}
-
--- with nothing counted an accepted grid is all that is asked
-pub from-empty : (height width : ℕ) (cells : List ℤ) (buffer : List ℕ) → Accepted height width cells → Ready height width cells empty buffer
-from-empty height width cells buffer accepted = record { accepted = accepted; none-yet = refl; inside = rw zero-mul (omega arith) }
+use Rattle.tally.specs.Counts.{tally-says, Ready, counted-run}
+use Rattle.solver.specs.Answers.{declined, run-of, Solves, Counted}
 
 -- THE WHOLE SEARCH over the fresh arrays
 module _ (height width : ℕ) (cells : List ℤ) (t : Tally) (buffer : List ℕ) (begins : Ready height width cells t buffer)
@@ -121,9 +117,5 @@ module _ (height width : ℕ) (cells : List ℤ) (limit : ℕ) (buffer : List �
       accepted : Accepted height width cells
       accepted = not-refused height width cells fine
 
-      from-start : tally-says height width empty buffer ≡ start buffer
-      from-start = ap (λ (n : ℕ). record { outcome = 0; visited = 0; layouts = 0; fewest-lines = 481; used = n; buffer = buffer }) (zero-mul (places height width))
-
       from-run : result-of (tally-says height width t buffer′) ≡ runs.solved (run-of height width cells limit buffer) buffer
-      from-run = ap result-of (counted .advanced ∙ ap (λ (P : Progress). advance limit (places height width) P (model.search (grid-of height width cells))) from-start)
-          ∙ advance-solved limit (places height width) (model.search (grid-of height width cells)) buffer (search-sized (grid-of height width cells))
+      from-run = counted-run (λ g. model.search g) height width cells limit buffer (search-sized (grid-of height width cells)) t buffer′ counted

@@ -8,6 +8,7 @@ ghost use lib.IntN.{ℤ};
 ghost use Rattle.rules.specs.Grid.{right, down, Accepted};
 ghost use Rattle.boardview.specs.View.{grid-in, Kinds, Ready, unwound};
 ghost use Rattle.searchview.specs.Searched.{arrays, reached, Begun, Above, Entered, Attempted, Backtracked};
+ghost use Rattle.tally.specs.Counts as counts;
 ghost use Rattle.tally.specs.Empty.{empty};
 ghost use Rattle.solver.specs.Answers as answers;
 use boardparts::FLAGGED;
@@ -162,7 +163,7 @@ fn search_from(
     width: usize,
     limit: u64,
 ) -> Tally
-    requires { ⌜ answers.Ready height width (now cells) tally (now buffer) ⌝ }
+    requires { ⌜ counts.Ready height width (now cells) tally (now buffer) ⌝ }
     ensures { λ r. ⌜ answers.Counted height width (now (cells .entry)) limit tally (now (buffer .entry)) r (now (buffer .exit)) ⌝ }
 {
     let fresh = boardfresh::fresh_board(height, width, cells);
@@ -208,7 +209,7 @@ fn search_lent(
     width: usize,
     limit: u64,
 )
-    requires { ⌜ answers.Ready height width (now cells) (now tally) (now buffer) ⌝ }
+    requires { ⌜ counts.Ready height width (now cells) (now tally) (now buffer) ⌝ }
     ensures { λ _. ⌜ answers.Counted height width (now (cells .entry)) limit (now (tally .entry)) (now (buffer .entry)) (now (tally .exit)) (now (buffer .exit)) ⌝ }
 {
     *tally = search_from(*tally, cells, buffer, height, width, limit);

@@ -1,11 +1,10 @@
 -- From the walk over a record to the model's result: a record of zeros has no code yet, and the progress from nothing is the model's result. It
 -- rests on the files beside it, on exactness (everycode's EveryCode.antt) and on runs' Progress.antt.
 use Prim.Native.Nat.{ℕ, _*_, _-_, _≤_}
-use mathlib.Core.Path.{_≡_, refl, sym, ap, _∙_}
+use mathlib.Core.Path.{_≡_, sym, ap, _∙_}
 use mathlib.Core.List.{List}
 use native.Mathlib.Omega.{arith}
 use native.Mathlib.Decide.{decLt}
-use native.Mathlib.Nat.{zero-mul}
 use lib.ListN.{length, getD, take, replicate, getD-replicate, List·getD-eq-default, length-replicate}
 use lib.Seq.{getD-take, length-take-le}
 use lib.IntN.{ℤ}
@@ -17,20 +16,17 @@ use Rattle.model.specs.Refusals.{grid-refusal}
 use Rattle.model.specs.RefusalLaws.{not-refused}
 use Rattle.model.specs.Runs as runs
 use Rattle.model.specs.Walk as model
-use Rattle.runs.specs.Progress.{Progress, advance, start, result-of, advance-solved}
+use Rattle.runs.specs.Progress.{advance, result-of}
 use Rattle.runs.specs.Layouts.{progress}
 use Rattle.tally.specs.declared.Tally.{Tally}
+use Rattle.tally.specs.Counts.{tally-says, Ready, counted-run}
 use Rattle.tally.specs.Empty.{empty}
 use Rattle.everycode.specs.EveryCode.{every-code-exact, every-code-sized, walk-is-run, walk-is-declined}
 use Rattle.promises.specs.Contract.{promise}
 use Rattle.walking.specs.Given.{Shows}
 use Rattle.walking.specs.GivenLaws.{none-shown}
 use Rattle.walking.specs.Walked.{Begun, WalkedOn}
-use Rattle.walking.specs.Answers.{run-of, Walks, Ready, Counted}
-
--- with nothing counted an accepted grid is all that is asked
-pub from-empty : (height width : ℕ) (cells : List ℤ) (buffer : List ℕ) → Accepted height width cells → Ready height width cells empty buffer
-from-empty height width cells buffer accepted = record { accepted = accepted; none-yet = refl; inside = rw zero-mul (omega arith) }
+use Rattle.walking.specs.Answers.{run-of, Walks, Counted}
 
 -- A RECORD OF ZEROS
 abbrev pub zeros : ℕ → List ℕ
@@ -104,9 +100,5 @@ module _ (height width : ℕ) (cells : List ℤ) (limit : ℕ) (buffer : List �
       accepted : Accepted height width cells
       accepted = not-refused height width cells fine
 
-      from-start : progress (places height width) 0 0 0 481 buffer ≡ start buffer
-      from-start = ap (λ (n : ℕ). record { outcome = 0; visited = 0; layouts = 0; fewest-lines = 481; used = n; buffer = buffer }) (zero-mul (places height width))
-
-      from-run : result-of (progress (places height width) (t .outcome) (t .visited) (t .layouts) (t .fewest) buffer′) ≡ runs.solved (run-of height width cells limit buffer) buffer
-      from-run = ap result-of (counted .advanced ∙ ap (λ (P : Progress). advance limit (places height width) P (model.every-code (grid-of height width cells))) from-start)
-          ∙ advance-solved limit (places height width) (model.every-code (grid-of height width cells)) buffer (every-code-sized (grid-of height width cells))
+      from-run : result-of (tally-says height width t buffer′) ≡ runs.solved (run-of height width cells limit buffer) buffer
+      from-run = counted-run (λ g. model.every-code g) height width cells limit buffer (every-code-sized (grid-of height width cells)) t buffer′ counted

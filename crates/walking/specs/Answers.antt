@@ -1,18 +1,17 @@
 -- What `walk` answers, as the model says it, and its whole promise in one record. `Walks` is the contract of `walk`; the equation with the model is
 -- its first part, and demands 2 and 3 are its second.
-use Prim.Native.Nat.{ℕ, _*_, _≤_}
+use Prim.Native.Nat.{ℕ}
 use mathlib.Core.Path.{_≡_}
 use mathlib.Core.List.{List}
 use lib.ListN.{length}
 use lib.IntN.{ℤ}
-use Rattle.rules.specs.Grid.{grid-of, places, Accepted}
+use Rattle.rules.specs.Grid.{grid-of, places}
 use Rattle.model.specs.Refusals.{grid-refusal}
 use Rattle.model.specs.Runs as runs
 use Rattle.model.specs.Walk as model
 use Rattle.walking.specs.declared.Walked.{Walked}
 use Rattle.tally.specs.declared.Tally.{Tally}
-use Rattle.runs.specs.Progress.{advance}
-use Rattle.runs.specs.Layouts.{progress}
+use Rattle.tally.specs.Counts as counts
 use Rattle.promises.specs.Contract.{Promise}
 
 -- the answer and the buffer after it, as the model's result: the tried codes stand in the place of visited boards
@@ -33,14 +32,6 @@ pub record Walks (height width : ℕ) (cells : List ℤ) (limit : ℕ) (buffer :
   pub promise : grid-refusal height width cells .0 ≡ 0
       → Promise (grid-of height width cells) (model.every-code (grid-of height width cells)) limit (length buffer) (run-of height width cells limit buffer)
 
--- what the counts may be when a walk begins: each layout so far has its record in the buffer
-pub record Ready (height width : ℕ) (cells : List ℤ) (t : Tally) (buffer : List ℕ) : Type 0 where
-  pub accepted : Accepted height width cells
-  pub none-yet : t .outcome ≡ 0
-  pub inside : t .layouts * places height width ≤ length buffer
-
 -- the tally and the buffer after the walk of the whole grid
-pub record Counted (height width : ℕ) (cells : List ℤ) (limit : ℕ) (t : Tally) (buffer : List ℕ) (t′ : Tally) (buffer′ : List ℕ) : Type 0 where
-  pub advanced : progress (places height width) (t′ .outcome) (t′ .visited) (t′ .layouts) (t′ .fewest) buffer′
-      ≡ advance limit (places height width) (progress (places height width) (t .outcome) (t .visited) (t .layouts) (t .fewest) buffer) (model.every-code (grid-of height width cells))
-  pub same-length : length buffer′ ≡ length buffer
+abbrev pub Counted : ℕ → ℕ → List ℤ → ℕ → Tally → List ℕ → Tally → List ℕ → Type 0
+Counted = counts.Counted (λ g. model.every-code g)

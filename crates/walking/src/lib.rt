@@ -13,6 +13,7 @@ ghost use Rattle.rules.specs.Record.{byte-of, record-lines};
 ghost use Rattle.model.specs.Runs.{layout};
 ghost use Rattle.model.specs.Walk.{may-give};
 ghost use Rattle.runs.specs.Layouts.{progress, Added};
+ghost use Rattle.tally.specs.Counts as counts;
 ghost use Rattle.tally.specs.Empty.{empty};
 ghost use Rattle.walking.specs.Given.{PadOf, put-right, put-down, tested-record};
 ghost use Rattle.walking.specs.Walked.{Begun, Gave, WalkedOn};
@@ -223,7 +224,7 @@ fn walk_from(
     width: usize,
     limit: u64,
 ) -> Tally
-    requires { ⌜ answers.Ready height width (now cells) tally (now buffer) ⌝ }
+    requires { ⌜ counts.Ready height width (now cells) tally (now buffer) ⌝ }
     ensures { λ r. ⌜ answers.Counted height width (now (cells .entry)) limit tally (now (buffer .entry)) r (now (buffer .exit)) ⌝ }
 {
     let mut bytes = [0u8; 961];
@@ -260,7 +261,7 @@ fn walk_lent(
     width: usize,
     limit: u64,
 )
-    requires { ⌜ answers.Ready height width (now cells) (now tally) (now buffer) ⌝ }
+    requires { ⌜ counts.Ready height width (now cells) (now tally) (now buffer) ⌝ }
     ensures { λ _. ⌜ answers.Counted height width (now (cells .entry)) limit (now (tally .entry)) (now (buffer .entry)) (now (tally .exit)) (now (buffer .exit)) ⌝ }
 {
     *tally = walk_from(*tally, cells, buffer, height, width, limit);

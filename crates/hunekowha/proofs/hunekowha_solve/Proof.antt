@@ -1,11 +1,11 @@
 -- `hunekowha_solve` meets its contract: the slice is too short, or the search is run and the numbers are written. Assumes nothing.
 use borrow.Author.Needs.{needs}
-use Rattle.hunekowha.proofs.Short.{solve-short, solve-whole}
+use Rattle.hunekowha.proofs.Short.{listing-short, listing-whole}
 use Rattle.hunekowha.proofs.hunekowha_solve.Statement.{statement}
 use Rattle.hunekowha.proofs.hunekowha_solve.Tie as tie
 
 returns : tie.Need-returns
-returns c = solve-short _ _ _ _ _ _ (c .if1 .taken)
+returns c = listing-short _ _ _ (c .if1 .taken)
 
 solve-requires : tie.Need-solve-requires
 solve-requires c κs = search needs
@@ -20,7 +20,7 @@ same-length-2 : tie.Need-same-length-2
 same-length-2 c = search needs
 
 returns-2 : tie.Need-returns-2
-returns-2 c = solve-whole _ _ _ _ _ _ (c .before .before .before .before .before .before .before .before .if1 .left) _ _ (c .before .before .before .before .before .before .solve .ensures .equal) (c .before .before .put-solved .ensures)
+returns-2 c = listing-whole _ _ _ (c .before .before .before .before .before .before .before .before .if1 .left) _ _ (c .before .before .before .before .before .before .solve .ensures .equal) (c .before .before .put-solved .ensures)
 
 pub hunekowha-solve-spec : {M : Type 1} → statement M
 hunekowha-solve-spec =
