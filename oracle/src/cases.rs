@@ -10,6 +10,7 @@
 //   judge H,W CELLS LENT HEXADECIMAL
 //   common H,W CELLS LENT LIMIT ROOM TABLE FILL
 //   pair H,W CELLS LENT LIMIT ROOM LIMIT ROOM FILL BUFFER
+//   walk H,W CELLS LENT LIMIT ROOM FILL
 // CELLS are numbers parted by commas, -1 for blank and -2 for a hole. LENT is
 // the length of the slice that is lent for the answer, ROOM that of the buffer
 // and TABLE that of the table; FILL is the number from which come the bytes
@@ -33,7 +34,7 @@ pub struct Given {
     pub cells: Vec<i64>,
 }
 
-/// A search, with a room for its buffer.
+/// A search or a walk, with a room for its buffer.
 #[derive(Clone, Debug, PartialEq, Eq)]
 pub struct Search {
     pub grid: Given,
@@ -111,6 +112,9 @@ pub enum Case {
     },
     Common(Search, Table),
     Pair(Search, Again),
+    /// A walk, and the number from which come the bytes that stand in its buffer
+    /// before the call.
+    Walk(Search, u64),
 }
 
 fn listed<T: ToString>(items: &[T], between: &str) -> String {
@@ -189,6 +193,7 @@ impl std::fmt::Display for Case {
                 write!(out, "common {search} {length} {fill}")
             }
             Case::Pair(search, again) => write!(out, "pair {search} {again}"),
+            Case::Walk(search, fill) => write!(out, "walk {search} {fill}"),
         }
     }
 }
@@ -323,6 +328,7 @@ pub fn read_case(text: &str) -> Case {
             Case::Common(read_search(&words), Table { length, fill })
         }
         "pair" => read_pair(&words),
+        "walk" => Case::Walk(read_search(&words), number(words[6])),
         word => panic!("no such case: {word}"),
     }
 }

@@ -292,6 +292,11 @@ pub fn search_pads(random: &mut Random, number: usize) -> Pads {
     pads
 }
 
+/// The number from which come the bytes that stand in what is lent.
+pub fn any_fill(random: &mut Random) -> u64 {
+    random.below(1000000) as u64
+}
+
 pub fn any_search(random: &mut Random, pads: &Pads, limit: u64, room: usize) -> Search {
     Search {
         grid: given(pads),

@@ -7,7 +7,7 @@
 
 use crate::answers::{Pads, Run, BLANK, LINE};
 use crate::cases::{Case, Given, Search, Table};
-use crate::chosen::{any_search, declined_search, search_pads, size_of, widen};
+use crate::chosen::{any_fill, any_search, declined_search, search_pads, size_of, widen};
 use crate::drawn::{drawn, is_edge, tiny_pads};
 use crate::expected::{
     board_pads, expected_run, grid_refusal, lent_bytes, put_bytes, search_answer, Answer, FILL,
@@ -206,7 +206,7 @@ fn any_table(random: &mut Random, places: usize) -> Table {
         2..=4 => places + 1 + random.below(40),
         _ => places,
     };
-    let fill = random.below(1000000) as u64;
+    let fill = any_fill(random);
     Table { length, fill }
 }
 

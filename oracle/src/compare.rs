@@ -1,9 +1,9 @@
 // Compares the proved library with the reference: board calls, searches,
 // records, files, writes and tables of common copper, chosen by a seed, until
 // the time or the counts are reached; packed slices with a second reader; searches
-// of grids with holes, and drawings that are judged, with the rules alone; and
-// pairs of runs with each other. The first case that differs is made smaller and
-// printed.
+// of grids with holes, and drawings that are judged, with the rules alone; pairs
+// of runs with each other; and slow walks with a second walk and with searches.
+// The first case that differs is made smaller and printed.
 
 use crate::answers::{limited, Call, Pads, Run};
 use crate::cases::{read_case, Case, Search};
@@ -25,9 +25,10 @@ use crate::pairs::pairs_of_turn;
 use crate::random::Random;
 use crate::shown::{
     ShownCalls, ShownCommon, ShownHoles, ShownJudged, ShownNumbers, ShownPacked, ShownPairs,
-    ShownRooms, ShownWide,
+    ShownRooms, ShownWalks, ShownWide,
 };
 use crate::smallest::smallest;
+use crate::walks::walks_of_turn;
 use std::time::{Duration, Instant};
 
 /// How far the comparison goes, and how far it has come.
@@ -53,6 +54,7 @@ struct Comparison {
     shown_judged: ShownJudged,
     shown_common: ShownCommon,
     shown_pairs: ShownPairs,
+    shown_walks: ShownWalks,
     shown_wide: ShownWide,
     boards: Random,
     grid_numbers: Random,
@@ -64,6 +66,7 @@ struct Comparison {
     common_numbers: Random,
     pair_numbers: Random,
     packed_numbers: Random,
+    walk_numbers: Random,
     known: Vec<(Pads, Vec<Call>)>,
     done: Counts,
     whole_searches: usize,
@@ -89,6 +92,7 @@ impl Comparison {
             shown_judged: ShownJudged::default(),
             shown_common: ShownCommon::default(),
             shown_pairs: ShownPairs::default(),
+            shown_walks: ShownWalks::default(),
             shown_wide: ShownWide::default(),
             boards: Random::new(seed),
             grid_numbers: Random::new(seed.wrapping_add(1 << 32)),
@@ -100,6 +104,7 @@ impl Comparison {
             common_numbers: Random::new(seed.wrapping_add(7 << 32)),
             pair_numbers: Random::new(seed.wrapping_add(8 << 32)),
             packed_numbers: Random::new(seed.wrapping_add(9 << 32)),
+            walk_numbers: Random::new(seed.wrapping_add(10 << 32)),
             known: known_sequences(),
             done: Counts::default(),
             whole_searches: 0,
@@ -116,7 +121,7 @@ impl Comparison {
 
     fn figures(&self) -> String {
         format!(
-            "{:.0} s: {} board calls in {} sequences; {} searches ({} of them whole, against solve), {} visited boards; {} declined searches; {} records; {} files; {} packed slices; {} writes; {} records judged; {} calls for common copper; {} pairs of runs",
+            "{:.0} s: {} board calls in {} sequences; {} searches ({} of them whole, against solve), {} visited boards; {} declined searches; {} records; {} files; {} packed slices; {} writes; {} records judged; {} calls for common copper; {} pairs of runs; {} walks",
             self.started.elapsed().as_secs_f64(),
             self.done.calls,
             self.sequences,
@@ -130,7 +135,8 @@ impl Comparison {
             self.writes,
             self.shown_judged.records(),
             self.shown_common.calls,
-            self.shown_pairs.pairs
+            self.shown_pairs.pairs,
+            self.shown_walks.walks
         )
     }
 
@@ -145,6 +151,7 @@ impl Comparison {
         self.shown_judged.print();
         self.shown_common.print();
         self.shown_pairs.print();
+        self.shown_walks.print();
         println!("{}", self.shown_wide.figures());
     }
 
@@ -413,6 +420,16 @@ impl Comparison {
         }
     }
 
+    fn compare_walks(&mut self) {
+        let turn = self.shown_walks.turns;
+        self.shown_walks.turns += 1;
+        for case in walks_of_turn(&mut self.walk_numbers, turn) {
+            let answer = expected(&case);
+            self.hold(&case, &answer);
+            self.shown_walks.count(&case, &answer);
+        }
+    }
+
     /// The kinds of which more cases are wanted.
     fn kinds_left(&self, wanted: Counts) -> Vec<Compare> {
         let (calls, searches, files) = (wanted.calls, wanted.searches, wanted.files);
@@ -421,7 +438,8 @@ impl Comparison {
         let common = self.shown_common.calls;
         let pairs = self.shown_pairs.pairs;
         let packed = self.shown_packed.slices;
-        let kinds: [(usize, usize, Compare); 9] = [
+        let walks = self.shown_walks.walks;
+        let kinds: [(usize, usize, Compare); 10] = [
             (self.done.calls, calls, Comparison::compare_board),
             (self.done.searches, searches, Comparison::compare_search),
             (self.done.files, files, Comparison::compare_write),
@@ -431,6 +449,7 @@ impl Comparison {
             (judged, calls, Comparison::compare_judged),
             (common, 2 * searches, Comparison::compare_common),
             (pairs, searches, Comparison::compare_pairs),
+            (walks, searches, Comparison::compare_walks),
         ];
         let left = kinds.into_iter().filter(|(done, wanted, _)| done < wanted);
         left.map(|(_, _, compare)| compare).collect()
@@ -502,7 +521,7 @@ pub fn replay_case(text: &str) -> Option<bool> {
     is_known(&case).then(|| show(&case))
 }
 
-/// Compares for so many seconds, a ninth of the time on each kind.
+/// Compares for so many seconds, a tenth of the time on each kind.
 pub fn compare_for(seconds: u64, seed: u64) {
     println!("seed {seed}");
     let mut comparison = Comparison::new(seed);
@@ -517,6 +536,7 @@ pub fn compare_for(seconds: u64, seed: u64) {
         comparison.turn(|comparison| comparison.compare_judged());
         comparison.turn(|comparison| comparison.compare_common());
         comparison.turn(|comparison| comparison.compare_pairs());
+        comparison.turn(|comparison| comparison.compare_walks());
         comparison.compare_declined();
         comparison.show_progress();
     }
@@ -526,7 +546,7 @@ pub fn compare_for(seconds: u64, seed: u64) {
 /// Compares until so many board calls, searches and files are done, as many
 /// searches by the rules as searches, as many writes and as many packed slices as
 /// files, as many judged records as board calls, twice as many calls for common
-/// copper as searches, and as many pairs of runs as searches.
+/// copper as searches, and as many pairs of runs and as many walks as searches.
 pub fn compare_counts(wanted: Counts, seed: u64) {
     println!("seed {seed}");
     let mut comparison = Comparison::new(seed);

@@ -49,10 +49,15 @@ fn mixed_pads(random: &mut Random, height: usize, width: usize) -> Pads {
 
 /// A grid whose drawings can all be tried: up to 13 edges, seldom 17.
 pub fn tried_pads(random: &mut Random) -> Pads {
-    let (height, width) = match random.below(20) {
+    let size = match random.below(20) {
         0 => random.choose(&[(3, 4), (4, 3)]),
         _ => random.choose(&[(2, 4), (4, 2), (3, 3), (2, 5), (5, 2)]),
     };
+    drilled_pads(random, size)
+}
+
+/// A grid with or without a layout, mostly with holes at some of its blank pads.
+pub fn drilled_pads(random: &mut Random, (height, width): (usize, usize)) -> Pads {
     let mut pads = if random.chance(25) {
         mixed_pads(random, height, width)
     } else {

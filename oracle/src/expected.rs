@@ -3,9 +3,10 @@
 // holes by the rules alone (holes.rs), for a file by the reader of routes.rs,
 // for a packed slice by that of packed.rs, for a grid that is written by Rust's
 // own digits, for a drawing by the rules (judged.rs), and for a table of common
-// copper and for a pair of runs by such searches (common.rs, pairs.rs). And what
-// the library gives for the same case. A text that was written is read back, and
-// a grid that was read is written back.
+// copper and for a pair of runs by such searches (common.rs, pairs.rs); for a slow
+// walk by one written again (walks.rs). And what the library gives for the same
+// case. A text that was written is read back, and a grid that was read is written
+// back.
 
 use crate::answers::{
     limited, make_call, read_state, whole, Board, Call, Pads, Run, State, BLANK, HOLE, LARGEST_CODE,
@@ -17,6 +18,7 @@ use crate::judged::{found, lines_told};
 use crate::packed::{expected_packed, packed_by_library, slice_of};
 use crate::pairs::{expected_pair, pair_by_library};
 use crate::random::Random;
+use crate::walks::{expected_walk, walk_by_library};
 use crate::{holes, library, routes};
 
 /// What fills each lent slice before a call, so that a stray store shows.
@@ -40,7 +42,8 @@ pub struct Answer {
     /// The answers of the calls that follow: what was written is read back, what
     /// was read is written back, or the grid is searched again.
     pub then: Vec<Answer>,
-    /// The words of the order that two runs break; there must be none.
+    /// The words of an order that two runs, or two engines, break; there must be
+    /// none.
     pub broken: Vec<String>,
 }
 
@@ -429,6 +432,7 @@ pub fn expected(case: &Case) -> Answer {
         Case::Judge { grid, lent, bytes } => expected_judge(grid, *lent, bytes),
         Case::Common(search, table) => expected_common(search, *table),
         Case::Pair(search, again) => expected_pair(search, *again),
+        Case::Walk(search, fill) => expected_walk(search, *fill),
     }
 }
 
@@ -505,8 +509,11 @@ pub fn written_and_read_back(grid: &Given, lent: usize, room: usize) -> Answer {
     answer
 }
 
-/// A search in a buffer that holds `before`, of which the room is lent.
-pub fn solved_by_library(search: &Search, before: Vec<u8>) -> Answer {
+/// An engine of the library: the search or the walk.
+type Engine = fn((usize, usize), &[i64], u64, &mut [u8], &mut [u64]) -> usize;
+
+/// A run of an engine in a buffer that holds `before`, of which the room is lent.
+pub fn run_by(engine: Engine, search: &Search, before: Vec<u8>) -> Answer {
     let mut answer = Answer {
         numbers: vec![FILL as u64; search.lent],
         bytes: before,
@@ -514,8 +521,12 @@ pub fn solved_by_library(search: &Search, before: Vec<u8>) -> Answer {
     };
     let (buffer, numbers) = (&mut answer.bytes[..search.room], &mut answer.numbers);
     let (grid, limit) = (&search.grid, search.limit);
-    answer.returned = library::solve(grid.size, &grid.cells, limit, buffer, numbers);
+    answer.returned = engine(grid.size, &grid.cells, limit, buffer, numbers);
     answer
+}
+
+pub fn solved_by_library(search: &Search, before: Vec<u8>) -> Answer {
+    run_by(library::solve, search, before)
 }
 
 fn judged_by_library(grid: &Given, lent: usize, bytes: &[u8]) -> Answer {
@@ -553,6 +564,7 @@ pub fn by_library(case: &Case) -> Answer {
         Case::Judge { grid, lent, bytes } => answer = judged_by_library(grid, *lent, bytes),
         Case::Common(search, table) => answer = common_by_library(search, *table),
         Case::Pair(search, again) => answer = pair_by_library(search, *again),
+        Case::Walk(search, fill) => answer = walk_by_library(search, *fill),
     }
     answer
 }

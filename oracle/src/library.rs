@@ -78,6 +78,9 @@ function!(write = hunekowha_write(grid cells; writes text: u8; writes answer: u6
 function!(solve = hunekowha_solve(
     grid cells; number limit; writes buffer: u8; writes answer: u64;
 ));
+function!(walk = hunekowha_walk(
+    grid cells; number limit; writes buffer: u8; writes answer: u64;
+));
 function!(common = hunekowha_common(
     grid cells; number limit; writes buffer: u8; writes table: u8; writes answer: u64;
 ));

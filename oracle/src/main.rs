@@ -40,6 +40,8 @@ mod pairs;
 mod shown;
 #[cfg(library)]
 mod smallest;
+#[cfg(library)]
+mod walks;
 
 const USAGE: &str = "usage:
   oracle calls FILE                     the answers to the calls of a text, as JSON

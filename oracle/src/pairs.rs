@@ -7,7 +7,7 @@
 
 use crate::answers::{Pads, Run};
 use crate::cases::{Again, Case, Search};
-use crate::chosen::{any_search, declined_search, size_of};
+use crate::chosen::{any_fill, any_search, declined_search, size_of};
 use crate::common::{common_pads, run_within, whole_within, FEW_BOARDS, WIDE_LIMITS};
 use crate::drawn::drawn;
 use crate::expected::{
@@ -130,7 +130,7 @@ pub fn expected_pair(search: &Search, again: Again) -> Answer {
 
 /// A limit about the places where a list ends: often any before its end, seldom
 /// one past 32 bits.
-fn any_limit(random: &mut Random, list: &Run) -> u64 {
+pub fn any_limit(random: &mut Random, list: &Run) -> u64 {
     match random.below(8) {
         0 => list.visited.saturating_sub(1),
         1 => list.visited,
@@ -142,7 +142,7 @@ fn any_limit(random: &mut Random, list: &Run) -> u64 {
 }
 
 /// A room about the places where a list ends, or a record of it does.
-fn any_room(random: &mut Random, list: &Run, length: usize) -> usize {
+pub fn any_room(random: &mut Random, list: &Run, length: usize) -> usize {
     let end = list.bytes.len();
     match random.below(6) {
         0 => end.saturating_sub(1),
@@ -168,21 +168,25 @@ fn any_again(random: &mut Random, limit: u64, room: usize) -> Again {
     Again {
         limit,
         room,
-        fill: random.below(1000000) as u64,
+        fill: any_fill(random),
         left: random.chance(50),
     }
 }
 
-/// Limits and rooms about the places where a list ends. Where that is not the
-/// whole list, a search is sure to end only by its limit, or in a room that the
-/// list fills.
+/// The highest limit for a room. Where the list is not the whole one, a run is
+/// sure to end only by its limit, or in a room that the list fills.
+pub fn highest_limit(list: &Run, room: usize) -> u64 {
+    match list.outcome != 0 && room >= list.bytes.len() {
+        true => 2 * list.visited,
+        false => u64::MAX,
+    }
+}
+
+/// Limits and rooms about the places where a list ends.
 fn any_pair(random: &mut Random, pads: &Pads, list: &Run) -> (Search, Again) {
     let length = pads.record_length();
     let (room, more_room) = ascending(random, |random| any_room(random, list, length));
-    let most = match list.outcome != 0 && more_room >= list.bytes.len() {
-        true => 2 * list.visited,
-        false => u64::MAX,
-    };
+    let most = highest_limit(list, more_room);
     let (limit, more) = ascending(random, |random| any_limit(random, list).min(most));
     let search = any_search(random, pads, limit, room);
     (search, any_again(random, more, more_room))

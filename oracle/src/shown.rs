@@ -44,6 +44,12 @@ impl ShownCalls {
     }
 }
 
+/// Whether there is a code that the reference cannot be asked as it stands.
+fn has_wide(cells: &[i64]) -> bool {
+    let wide = LARGEST_ASKED + 1..=LARGEST_CODE;
+    cells.iter().any(|cell| wide.contains(cell))
+}
+
 /// How many cases of each kind had a code that the reference cannot be asked as
 /// it stands.
 #[derive(Default)]
@@ -62,10 +68,10 @@ impl ShownWide {
             Case::Judge { grid, .. } => ("judge", &grid.cells),
             Case::Common(search, _) => ("common", &search.grid.cells),
             Case::Pair(search, _) => ("pair", &search.grid.cells),
+            Case::Walk(search, _) => ("walk", &search.grid.cells),
             Case::Record { .. } => return,
         };
-        let wide = LARGEST_ASKED + 1..=LARGEST_CODE;
-        if cells.iter().any(|cell| wide.contains(cell)) {
+        if has_wide(cells) {
             *self.cases.entry(kind).or_default() += 1;
         }
     }
@@ -379,5 +385,64 @@ impl ShownPairs {
             self.pairs, self.outcomes, self.declined, self.too_short
         );
         println!("of the accepted pairs: {:?}", self.kinds);
+    }
+}
+
+/// Slow walks: those of accepted grids by outcome, those of declined grids by
+/// number, how many were of which kind, and those whose answer was too short.
+#[derive(Default)]
+pub struct ShownWalks {
+    pub turns: usize,
+    pub walks: usize,
+    outcomes: BTreeMap<&'static str, usize>,
+    declined: BTreeMap<u64, usize>,
+    kinds: BTreeMap<&'static str, usize>,
+    too_short: usize,
+    tried: u64,
+}
+
+impl ShownWalks {
+    pub fn count(&mut self, case: &Case, answer: &Answer) {
+        self.walks += 1;
+        match (case, &answer.numbers[..]) {
+            _ if answer.returned == 0 => self.too_short += 1,
+            (Case::Walk(search, _), [0, _, outcome, layouts, tried, ..]) => {
+                self.tried += tried;
+                self.count_accepted(search, *outcome as usize, *layouts);
+            }
+            (_, numbers) => *self.declined.entry(numbers[0]).or_default() += 1,
+        }
+    }
+
+    fn count_accepted(&mut self, search: &Search, outcome: usize, layouts: u64) {
+        *self.outcomes.entry(OUTCOMES[outcome]).or_default() += 1;
+        let pads = board_pads(&search.grid);
+        let (large, with_layouts) = (!is_small(&pads), layouts > 0);
+        let kinds = [
+            ("with holes", pads.has_hole()),
+            ("with wide codes", has_wide(&pads.cells)),
+            ("with layouts", with_layouts),
+            ("with two layouts or more", layouts > 1),
+            ("with holes and layouts", pads.has_hole() && with_layouts),
+            ("complete, with layouts", outcome == 0 && with_layouts),
+            ("spent, with layouts", outcome == 1 && with_layouts),
+            ("full, with layouts", outcome == 2 && with_layouts),
+            ("large", large),
+            ("large, with layouts", large && with_layouts),
+            ("large, full", large && outcome == 2),
+            ("limit 0", search.limit == 0),
+            ("limit past 32 bits", search.limit >> 32 > 0),
+        ];
+        for (kind, is_so) in kinds {
+            *self.kinds.entry(kind).or_default() += is_so as usize;
+        }
+    }
+
+    pub fn print(&self) {
+        println!(
+            "{} walks by outcome: {:?}; {} codes tried; declined by number: {:?}; {} answers too short",
+            self.walks, self.outcomes, self.tried, self.declined, self.too_short
+        );
+        println!("of the accepted walks: {:?}", self.kinds);
     }
 }

@@ -12,14 +12,19 @@ use crate::grids::LIMIT;
 use crate::holes;
 use crate::judged::Drawn;
 use crate::packed::{plain_grid, plain_slice};
+use crate::walks::all_codes;
 use std::time::{Duration, Instant};
 
-/// Whether a search of the case ends within a reasonable limit, if it has none
-/// itself: that of a smaller grid might go on for ever.
+/// Whether a search or a walk of the case ends within a reasonable limit, if it has
+/// none itself: that of a smaller grid might go on for ever.
 fn soon_ends(case: &Case) -> bool {
     let search = match case {
         Case::Search(search) | Case::Common(search, _) => search,
         Case::Pair(search, again) => &search.again(*again),
+        Case::Walk(search, _) => {
+            let codes = all_codes(&board_pads(&search.grid));
+            return codes.min(search.limit) <= LIMIT;
+        }
         _ => return true,
     };
     let run = || holes::by_library(&board_pads(&search.grid), LIMIT, search.room);
@@ -77,6 +82,7 @@ fn smaller_cases(case: &Case) -> Vec<Case> {
         Case::Judge { grid, lent, bytes } => smaller_judges(grid, *lent, bytes),
         Case::Common(search, table) => smaller_commons(search, *table),
         Case::Pair(search, again) => smaller_pairs(search, *again),
+        Case::Walk(search, fill) => smaller_walks(search, *fill),
         Case::Record { .. } => Vec::new(),
     }
 }
@@ -180,8 +186,21 @@ fn smaller_commons(search: &Search, table: Table) -> Vec<Case> {
     let lengths = [0, places - 1, places, places + 1];
     let shorter = lengths.into_iter().filter(|less| *less < table.length);
     found.extend(shorter.map(|length| case(search.clone(), length, table.fill)));
-    let fills = (0..2).filter(|fill| *fill < table.fill);
+    let fills = smaller_fills(table.fill);
     found.extend(fills.map(|fill| case(search.clone(), table.length, fill)));
+    found
+}
+
+/// The smallest fills.
+fn smaller_fills(fill: u64) -> impl Iterator<Item = u64> {
+    (0..2).filter(move |less| *less < fill)
+}
+
+/// Smaller grids, lower limits and less room, and the smallest fills.
+fn smaller_walks(search: &Search, fill: u64) -> Vec<Case> {
+    let smaller = smaller_searches(search).into_iter();
+    let mut found: Vec<Case> = smaller.map(|search| Case::Walk(search, fill)).collect();
+    found.extend(smaller_fills(fill).map(|fill| Case::Walk(search.clone(), fill)));
     found
 }
 
