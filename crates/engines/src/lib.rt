@@ -1,6 +1,6 @@
 // The two engines side by side: the search (crate solver) and the slow walk through every code (crate walking), run on one grid and compared.
 // `compare` says whether both ended complete with the same number, index, layouts, fewest lines and records, and hands on what they counted.
-// By engines-agree (specs/BothCalls.antt) it can be false only where an engine did not end complete. Also here: small grids one after the other,
+// By `compared-equal` (specs/BothCalls.antt) it can say false only where an engine did not end complete. Also here: small grids one after the other,
 // each up to a renaming of its codes exactly once, as one kind for each pad (specs/Kinds.antt).
 ghost use mathlib.Core.Path.{_≡_};
 ghost use mathlib.Core.Bool.{true};

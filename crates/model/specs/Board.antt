@@ -1,5 +1,5 @@
 -- The board: its state, a decision step by step (a to f) and the pad check, as functions that compute. Document 01, sections 'The board',
--- 'A decision' and 'The pad check', in the order of board.rs, exact also on boards whose flag is set. It rests on the rules' Grid.antt.
+-- 'A decision' and 'The pad check', in the order of board.rs, exact also on boards whose flag is set. It rests on PadTests.antt and JoinedEnds.antt.
 -- A decision and a check are lists of items, done in order; an item tells whether the call ends there.
 use Prim.Native.Nat.{ℕ, zero, suc, _+_, _*_, _-_}
 use mathlib.Core.Bool.{Bool, true, false, _&&_, _||_, not}

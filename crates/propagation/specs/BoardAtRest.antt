@@ -1,6 +1,6 @@
 -- A board on which every object holds, in the rules' own words: each pad is at rest, the lines are on the board, no unit square has more
 -- than two lines and two of them make the others none, the corner rule holds, no barred pad has its two lines, and the ends say of the
--- chains what Ends.antt says.
+-- chains what they should (crate ends).
 use Prim.Native.Nat.{ℕ, _+_, _-_, _%_, _≤_, _<_}
 use mathlib.Core.Path.{_≡_, refl, ap}
 use mathlib.Core.Logic.{_⊎_, inl, inr, ⊎-elim, ⊎-map}

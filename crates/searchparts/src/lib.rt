@@ -1,5 +1,5 @@
 // The leaves of the search: what only reads the board's lent arrays and chooses, and what adds one layout. Each equals a definition of
-// searchview's Shown.antt. Nothing here decides an edge.
+// searchview's Shown.antt, and the last one of runs' Layouts.antt. Nothing here decides an edge.
 ghost use mathlib.Core.Path.{_≡_};
 ghost use mathlib.Core.List.{[], _∷_};
 ghost use Prim.Native.Nat.{_+_, _*_, _-_, _≤_, _<_};

@@ -1,6 +1,6 @@
 -- Laws of one step of the search: what is left of the board after an attempt is undone, where the search of a board begins, an m that is
 -- not tried, that leaves the flag set or that goes on, and a board that is spent, in the last row or tried with its four m. They rest on
--- Progress.antt, NextPad.antt and on what a decision promises.
+-- runs' Progress.antt and Turns.antt, on NextPad.antt and on what a decision promises.
 use Prim.Native.Nat.{ℕ, zero, suc, _+_, _*_, _-_, _%_, _/_, _≤_, _<_}
 use mathlib.Core.Path.{_≡_, refl, sym, ap, _∙_}
 use mathlib.Core.Bool.{Bool, true, false, _||_}

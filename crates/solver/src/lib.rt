@@ -1,6 +1,6 @@
 // The port of solver.rs: the search over the board's lent arrays, which calls itself at a later pad; the tally that is lent down it (crate
 // tally); and `solve`. The result and every byte of the lent buffer equal the model's run (crate model, specs/Search.antt), and demands 2
-// and 3 stand in the contract of `solve` (specs/Answers.antt, Solves, and specs/Promise.antt).
+// and 3 stand in the contract of `solve` (specs/Answers.antt, Solves; promises' Contract.antt).
 ghost use mathlib.Core.Path.{_≡_};
 ghost use mathlib.Core.List.{List};
 ghost use Prim.Native.Nat.{ℕ, _-_, _%_, _≤_, _<_};

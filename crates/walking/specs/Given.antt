@@ -1,5 +1,5 @@
 -- The codes that pads have been given so far, as a record of bytes shows them: each edge of a pad before v has its byte, and between the edges
--- stands 0. What is written when a pad gets its code, and when the record is full. It rests on the rules' Record.antt and on the model's Walk.antt.
+-- stands 0. What is written when a pad gets its code, and when the record is full. It rests on the rules' Record.antt and on the model's Judge.antt.
 -- Nothing is proved in this file; the laws stand in GivenLaws.antt.
 use Prim.Native.Nat.{ℕ, _*_, _%_, _/_, _≤_, _<_}
 use mathlib.Core.Path.{_≡_}
