@@ -148,19 +148,28 @@ size_t hunekowha_solve(size_t height, size_t width, const int64_t *cells, size_t
                        uint8_t *buffer, size_t buffer_length, uint64_t *answer, size_t answer_length);
 
 /*
- * Lists the layouts of a grid as hunekowha_solve does, by a second engine that shares none of its pruning: a slow walk, which gives
- * each pad every code in index order (code = right + 2 * down; a code with a line off the board is not tried) and tests the rules on
- * full drawings only. It is a check of the search for small grids: a whole walk tries 44 codes on 2 by 2 pads, 11956 on 3 by 3,
- * and far too many on a panel.
+ * Lists the layouts of a grid by a second engine, which shares none of the pruning of hunekowha_solve: a slow walk. It gives each
+ * pad every code in index order (a code is right + 2 * down; one with a line off the board is not tried) and tests the rules on
+ * full drawings only. It makes no board, so none has its flag set. It is a check for small grids: a whole walk tries 44 codes
+ * on 2 by 2 pads and 11956 on 3 by 3, and on a panel it would never end.
  *
- *   limit                  how many codes may be tried, one for each code that is given to a pad
- *   the others             as for hunekowha_solve
+ *   height, width          the size of the grid
+ *   cells, cells_length    its cells, height * width of them
+ *   limit                  how many codes may be tried; one is counted for each code that is given to a pad
+ *   buffer, buffer_length  where the records of the layouts go, one behind the other, from the start
+ *   answer, answer_length  at least 6 numbers
  *
- * Returns 6, or 0 where `answer` is too short. The answer and the buffer are as hunekowha_solve says, but for
- *   answer[2]  the outcome: 1 means that the next code would pass the limit
+ * Returns 6, or 0 where `answer` is too short.
+ *   answer[0]  0, or the number of the refusal, 7 to 9; beside a refusal no byte of the buffer is changed
+ *   answer[1]  the index of the first bad cell beside 9, else 0
+ *   answer[2]  the outcome: 0 the list is complete, 1 the next code would pass the limit, 2 the buffer is full
+ *   answer[3]  how many layouts were written
  *   answer[4]  how many codes were tried
- * Wherever both calls end complete on a grid, whatever their limits and buffers, answer[0], answer[1], answer[3] and answer[5] are the same,
- * and so are the records in the two buffers, byte for byte.
+ *   answer[5]  the fewest lines of a written layout, 481 where none was written
+ * The bytes of the buffer after the last record keep their values.
+ *
+ * Wherever this and hunekowha_solve both end complete on a grid, whatever their limits and buffers, answer[0], answer[1],
+ * answer[3] and answer[5] are the same, and so are the records in the two buffers, byte for byte.
  */
 size_t hunekowha_walk(size_t height, size_t width, const int64_t *cells, size_t cells_length, uint64_t limit, uint8_t *buffer,
                       size_t buffer_length, uint64_t *answer, size_t answer_length);
