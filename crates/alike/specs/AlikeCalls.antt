@@ -7,110 +7,110 @@ use Rattle.std.proofs.Math.Path.{refl, ap}
 use Rattle.std.proofs.Common.{sym}
 use mathlib.Core.List.{List}
 use Rattle.std.proofs.Math.ListN.{length}
-use Rattle.rules.specs.Grid.{Edge, Place, edge, no_edge, clue, Grid, grid-of, pads, Accepted}
+use Rattle.rules.specs.Grid.{Edge, Place, edge, no_edge, clue, Grid, grid_of, pads, Accepted}
 use Rattle.rules.specs.Drawing.{num}
-use Rattle.rules.specs.Record.{field, line-byte, none-byte, tabulate}
-use Rattle.model.specs.JoinedEnds.{End, end-number}
+use Rattle.rules.specs.Record.{field, line_byte, none_byte, tabulate}
+use Rattle.model.specs.JoinedEnds.{End, end_number}
 use Rattle.model.specs.Board.{EdgeState, line, none, State, decide, enough}
-use Rattle.model.specs.RefusalLaws.{accepted-is-not-refused}
-use Rattle.model.specs.Calls.{Board, Answer, fresh-board, new, state-byte, edge_at, decided, decide-at, decide-edge, read_at, read-edge, most-checkpoints, add-checkpoint, undo-to, undo, Shown, shown}
+use Rattle.model.specs.RefusalLaws.{accepted_is_not_refused}
+use Rattle.model.specs.Calls.{Board, Answer, fresh_board, new, state_byte, edge_at, decided, decide_at, decide_edge, read_at, read_edge, most_checkpoints, add_checkpoint, undo_to, undo, Shown, shown}
 use Rattle.alike.specs.Alike.{Alike}
-use Rattle.alike.specs.AlikeEnds.{AlikeEnds, both-through, both-at-pad, both-at-clue}
-use Rattle.alike.specs.AlikeStates.{AlikeStates, OneByOne, no_more, one_more, edge_same, decide-alike, fresh-alike}
+use Rattle.alike.specs.AlikeEnds.{AlikeEnds, both_through, both_at_pad, both_at_clue}
+use Rattle.alike.specs.AlikeStates.{AlikeStates, OneByOne, no_more, one_more, edge_same, decide_alike, fresh_alike}
 
 -- ALIKE BOARDS: alike grids, alike states, and as many standing checkpoints, alike one by one
 pub record AlikeBoards (a b : Board) : Type 0 where
-  pub alike-grids : Alike a.grid b.grid
-  pub alike-states : AlikeStates a.grid b.grid a.state b.state
-  pub alike-standing : OneByOne (AlikeStates a.grid b.grid) a.standing b.standing
+  pub alike_grids : Alike a.grid b.grid
+  pub alike_states : AlikeStates a.grid b.grid a.state b.state
+  pub alike_standing : OneByOne (AlikeStates a.grid b.grid) a.standing b.standing
 
 -- ALIKE ANSWERS: the same number, the same answer, alike boards
 pub record AlikeAnswers (A B : Answer) : Type 0 where
   pub same_number : A.number ≡ B.number
   pub same_answer : A.answer ≡ B.answer
-  pub alike-boards : AlikeBoards A.board B.board
+  pub alike_boards : AlikeBoards A.board B.board
 
 -- ALIKE END NUMBERS: equal, or -c - 2 and -d - 2 where some pad carries the code c in one grid and d in the other
 pub data AlikeNumbers (g h : Grid) (m n : ℤ) : Type 0 where
   equal : m ≡ n → AlikeNumbers g h m n
-  of-clues : (v c d : ℕ) → g.cell v ≡ clue c → h.cell v ≡ clue d → m ≡ negsuc (suc c) → n ≡ negsuc (suc d) → AlikeNumbers g h m n
+  of_clues : (v c d : ℕ) → g.cell v ≡ clue c → h.cell v ≡ clue d → m ≡ negsuc (suc c) → n ≡ negsuc (suc d) → AlikeNumbers g h m n
 
 -- what two boards show: the same record of edges, the same flag, and as many ends, alike one by one
 pub record AlikeShown (g h : Grid) (X Y : Shown) : Type 0 where
   pub same_edges : X.edges ≡ Y.edges
   pub same_flag : X.flag ≡ Y.flag
-  pub alike-ends : OneByOne (AlikeNumbers g h) X.ends Y.ends
+  pub alike_ends : OneByOne (AlikeNumbers g h) X.ends Y.ends
 
 -- alike answers, chosen by one test
 answers_by : (test : Bool) {A B C D : Answer} → AlikeAnswers A C → AlikeAnswers B D
     → AlikeAnswers (elim test [ true ↦ A | false ↦ B ]) (elim test [ true ↦ C | false ↦ D ])
-answers_by true yes-part no_part = yes-part
-answers_by false yes-part no_part = no_part
+answers_by true yes_part no_part = yes_part
+answers_by false yes_part no_part = no_part
 
 -- NEW
-fresh-boards-alike : {g h : Grid} → Alike g h → AlikeBoards (fresh-board g) (fresh-board h)
-unfolding fresh-board
-fresh-boards-alike alike = record { alike-grids = alike; alike-states = fresh-alike alike; alike-standing = no_more }
+fresh_boards_alike : {g h : Grid} → Alike g h → AlikeBoards (fresh_board g) (fresh_board h)
+unfolding fresh_board
+fresh_boards_alike alike = record { alike_grids = alike; alike_states = fresh_alike alike; alike_standing = no_more }
 
-pub new-alike : (height width : ℕ) (cells others : List ℤ) → Accepted height width cells → Accepted height width others
-    → Alike (grid-of height width cells) (grid-of height width others) → AlikeAnswers (new height width cells) (new height width others)
+pub new_alike : (height width : ℕ) (cells others : List ℤ) → Accepted height width cells → Accepted height width others
+    → Alike (grid_of height width cells) (grid_of height width others) → AlikeAnswers (new height width cells) (new height width others)
 unfolding new
-new-alike height width cells others accepted other-accepted alike =
-    rw (accepted-is-not-refused height width cells accepted, accepted-is-not-refused height width others other-accepted, new)
-    (record { same_number = refl; same_answer = refl; alike-boards = fresh-boards-alike alike })
+new_alike height width cells others accepted other_accepted alike =
+    rw (accepted_is_not_refused height width cells accepted, accepted_is_not_refused height width others other_accepted, new)
+    (record { same_number = refl; same_answer = refl; alike_boards = fresh_boards_alike alike })
 
 module _ {a b : Board} (alike : AlikeBoards a b) where
   same_place : (row column : ℕ) → edge_at b.grid row column ≡ edge_at a.grid row column
   unfolding edge_at
-  same_place row column = rw (alike.alike-grids.same-height, alike.alike-grids.same_width) refl
+  same_place row column = rw (alike.alike_grids.same_height, alike.alike_grids.same_width) refl
 
   declined : (number : ℕ) → AlikeAnswers (record { number = number; answer = 0; board = a }) (record { number = number; answer = 0; board = b })
-  declined number = record { same_number = refl; same_answer = refl; alike-boards = alike }
+  declined number = record { same_number = refl; same_answer = refl; alike_boards = alike }
 
   -- DECIDE
-  same-bound : enough b.grid ≡ enough a.grid
+  same_bound : enough b.grid ≡ enough a.grid
   unfolding enough
-  same-bound = rw (alike.alike-grids.same-height, alike.alike-grids.same_width) refl
+  same_bound = rw (alike.alike_grids.same_height, alike.alike_grids.same_width) refl
 
-  decided-alike : (e : Edge) (m : EdgeState) → AlikeAnswers (decided a e m) (decided b e m)
-  decided-alike e m = rw same-bound (record {
+  decided_alike : (e : Edge) (m : EdgeState) → AlikeAnswers (decided a e m) (decided b e m)
+  decided_alike e m = rw same_bound (record {
     same_number = refl;
     same_answer = ap num after.same_flag;
-    alike-boards = record { alike-grids = alike.alike-grids; alike-states = after; alike-standing = alike.alike-standing };
+    alike_boards = record { alike_grids = alike.alike_grids; alike_states = after; alike_standing = alike.alike_standing };
   })
     where
       after : AlikeStates a.grid b.grid (decide a.grid (enough a.grid) e m a.state) (decide b.grid (enough a.grid) e m b.state)
-      after = decide-alike alike.alike-grids _ e m _ _ alike.alike-states
+      after = decide_alike alike.alike_grids _ e m _ _ alike.alike_states
 
-  decide-at-alike : (place : Place) (byte : ℕ) → AlikeAnswers (decide-at a place byte) (decide-at b place byte)
-  decide-at-alike no_edge byte = declined 10
-  decide-at-alike (edge e) byte = answers_by (eqb byte line-byte) (decided-alike e line)
-      (answers_by (eqb byte none-byte) (decided-alike e none) (declined 11))
+  decide_at_alike : (place : Place) (byte : ℕ) → AlikeAnswers (decide_at a place byte) (decide_at b place byte)
+  decide_at_alike no_edge byte = declined 10
+  decide_at_alike (edge e) byte = answers_by (eqb byte line_byte) (decided_alike e line)
+      (answers_by (eqb byte none_byte) (decided_alike e none) (declined 11))
 
-  pub decide-edge-alike : (row column byte : ℕ) → AlikeAnswers (decide-edge a row column byte) (decide-edge b row column byte)
-  unfolding decide-edge
-  decide-edge-alike row column byte = rw (same_place row column) (decide-at-alike (edge_at a.grid row column) byte)
+  pub decide_edge_alike : (row column byte : ℕ) → AlikeAnswers (decide_edge a row column byte) (decide_edge b row column byte)
+  unfolding decide_edge
+  decide_edge_alike row column byte = rw (same_place row column) (decide_at_alike (edge_at a.grid row column) byte)
 
   -- READ
-  read-at-alike : (place : Place) → AlikeAnswers (read_at a place) (read_at b place)
-  read-at-alike no_edge = declined 10
-  read-at-alike (edge e) = record { same_number = refl; same_answer = ap state-byte (sym (edge_same alike.alike-states e)); alike-boards = alike }
+  read_at_alike : (place : Place) → AlikeAnswers (read_at a place) (read_at b place)
+  read_at_alike no_edge = declined 10
+  read_at_alike (edge e) = record { same_number = refl; same_answer = ap state_byte (sym (edge_same alike.alike_states e)); alike_boards = alike }
 
-  pub read-edge-alike : (row column : ℕ) → AlikeAnswers (read-edge a row column) (read-edge b row column)
-  unfolding read-edge
-  read-edge-alike row column = rw (same_place row column) (read-at-alike (edge_at a.grid row column))
+  pub read_edge_alike : (row column : ℕ) → AlikeAnswers (read_edge a row column) (read_edge b row column)
+  unfolding read_edge
+  read_edge_alike row column = rw (same_place row column) (read_at_alike (edge_at a.grid row column))
 
   -- CHECKPOINT
-  pub add-checkpoint-alike : AlikeAnswers (add-checkpoint a) (add-checkpoint b)
-  unfolding add-checkpoint
-  add-checkpoint-alike = rw (same_length alike.alike-standing, add-checkpoint) (answers_by (ltb (length b.standing) most-checkpoints)
+  pub add_checkpoint_alike : AlikeAnswers (add_checkpoint a) (add_checkpoint b)
+  unfolding add_checkpoint
+  add_checkpoint_alike = rw (same_length alike.alike_standing, add_checkpoint) (answers_by (ltb (length b.standing) most_checkpoints)
       (record {
         same_number = refl;
         same_answer = refl;
-        alike-boards = record {
-          alike-grids = alike.alike-grids;
-          alike-states = alike.alike-states;
-          alike-standing = one_more alike.alike-states alike.alike-standing;
+        alike_boards = record {
+          alike_grids = alike.alike_grids;
+          alike_states = alike.alike_states;
+          alike_standing = one_more alike.alike_states alike.alike_standing;
         };
       })
       (declined 12))
@@ -120,34 +120,34 @@ module _ {a b : Board} (alike : AlikeBoards a b) where
       same_length (one_more both rest) = ap suc (same_length rest)
 
   -- UNDO
-  pub undo-alike : AlikeBoards (undo a) (undo b)
+  pub undo_alike : AlikeBoards (undo a) (undo b)
   unfolding undo
-  undo-alike = go alike.alike-standing
+  undo_alike = go alike.alike_standing
     where
-      go : {standing others : List State} → OneByOne (AlikeStates a.grid b.grid) standing others → AlikeBoards (undo-to a.grid standing) (undo-to b.grid others)
-      go no_more = fresh-boards-alike alike.alike-grids
-      go (one_more last rest) = record { alike-grids = alike.alike-grids; alike-states = last; alike-standing = rest }
+      go : {standing others : List State} → OneByOne (AlikeStates a.grid b.grid) standing others → AlikeBoards (undo_to a.grid standing) (undo_to b.grid others)
+      go no_more = fresh_boards_alike alike.alike_grids
+      go (one_more last rest) = record { alike_grids = alike.alike_grids; alike_states = last; alike_standing = rest }
 
   -- WHAT THEY SHOW
-  number-alike : {A B : End} → AlikeEnds a.grid b.grid A B → AlikeNumbers a.grid b.grid (end-number A) (end-number B)
-  unfolding end-number
-  number-alike both-through = equal refl
-  number-alike (both-at-pad v) = equal refl
-  number-alike (both-at-clue v p q) = of-clues v _ _ p q refl refl
+  number_alike : {A B : End} → AlikeEnds a.grid b.grid A B → AlikeNumbers a.grid b.grid (end_number A) (end_number B)
+  unfolding end_number
+  number_alike both_through = equal refl
+  number_alike (both_at_pad v) = equal refl
+  number_alike (both_at_clue v p q) = of_clues v _ _ p q refl refl
 
-  numbers-alike : (v n : ℕ) → OneByOne (AlikeNumbers a.grid b.grid)
-      (tabulate (λ u. end-number (a.state.end u)) v n) (tabulate (λ u. end-number (b.state.end u)) v n)
+  numbers_alike : (v n : ℕ) → OneByOne (AlikeNumbers a.grid b.grid)
+      (tabulate (λ u. end_number (a.state.end u)) v n) (tabulate (λ u. end_number (b.state.end u)) v n)
   unfolding tabulate
-  numbers-alike v zero = no_more
-  numbers-alike v (suc n) = one_more (number-alike (alike.alike-states.alike-ends v)) (numbers-alike (v + 1) n)
+  numbers_alike v zero = no_more
+  numbers_alike v (suc n) = one_more (number_alike (alike.alike_states.alike_ends v)) (numbers_alike (v + 1) n)
 
-  pub shown-alike : AlikeShown a.grid b.grid (shown a) (shown b)
+  pub shown_alike : AlikeShown a.grid b.grid (shown a) (shown b)
   unfolding shown
-  shown-alike = record {
-    same_edges = λ i. field (alike.alike-grids.same-height i) (alike.alike-grids.same_width i) (λ e. state-byte (alike.alike-states.same_edges i e));
-    same_flag = alike.alike-states.same_flag;
-    alike-ends = rw (← same-pads) (numbers-alike 0 (pads a.grid));
+  shown_alike = record {
+    same_edges = λ i. field (alike.alike_grids.same_height i) (alike.alike_grids.same_width i) (λ e. state_byte (alike.alike_states.same_edges i e));
+    same_flag = alike.alike_states.same_flag;
+    alike_ends = rw (← same_pads) (numbers_alike 0 (pads a.grid));
   }
     where
-      same-pads : pads a.grid ≡ pads b.grid
-      same-pads = λ i. alike.alike-grids.same-height i * alike.alike-grids.same_width i
+      same_pads : pads a.grid ≡ pads b.grid
+      same_pads = λ i. alike.alike_grids.same_height i * alike.alike_grids.same_width i

@@ -6,15 +6,15 @@ use Rattle.std.proofs.Common.{sym, true≢false}
 use Rattle.std.proofs.Math.Bool.{not}
 use Rattle.std.proofs.lemmas.Bool.{false≢true}
 use Rattle.rules.specs.Grid.{Cell, blank, clue, hole, Grid}
-use Rattle.model.specs.PadTests.{isBlank, isHole}
-use Rattle.model.specs.JoinedEnds.{End, through, at-pad, at-clue, bare-end, unjoinable, pick_end, put-end, put-end-at, joined-ends}
+use Rattle.model.specs.PadTests.{is_blank, is_hole}
+use Rattle.model.specs.JoinedEnds.{End, through, at_pad, at_clue, bare_end, unjoinable, pick_end, put_end, put_end_at, joined_ends}
 use Rattle.alike.specs.Alike.{Alike}
 
 -- ALIKE ENDS: both are through, both at the same pad, or both at clues whose codes one pad carries in the two grids
 pub data AlikeEnds (g h : Grid) : End → End → Type 0 where
-  both-through : AlikeEnds g h through through
-  both-at-pad : (v : ℕ) → AlikeEnds g h (at-pad v) (at-pad v)
-  both-at-clue : {c d : ℕ} (v : ℕ) → g.cell v ≡ clue c → h.cell v ≡ clue d → AlikeEnds g h (at-clue c) (at-clue d)
+  both_through : AlikeEnds g h through through
+  both_at_pad : (v : ℕ) → AlikeEnds g h (at_pad v) (at_pad v)
+  both_at_clue : {c d : ℕ} (v : ℕ) → g.cell v ≡ clue c → h.cell v ≡ clue d → AlikeEnds g h (at_clue c) (at_clue d)
 
 -- and at every pad
 abbrev pub AlikeEverywhere : Grid → Grid → (ℕ → End) → (ℕ → End) → Type 0
@@ -22,49 +22,49 @@ AlikeEverywhere g h A B = (v : ℕ) → AlikeEnds g h (A v) (B v)
 
 -- ENDS JOINED
 module _ {g h : Grid} where
-  pick-alike : {X Y A B : End} (b : Bool) → AlikeEnds g h X Y → AlikeEnds g h A B → AlikeEnds g h (pick_end b X A) (pick_end b Y B)
-  pick-alike true x a = x
-  pick-alike false x a = a
+  pick_alike : {X Y A B : End} (b : Bool) → AlikeEnds g h X Y → AlikeEnds g h A B → AlikeEnds g h (pick_end b X A) (pick_end b Y B)
+  pick_alike true x a = x
+  pick_alike false x a = a
 
-  put-alike : {A B : ℕ → End} (v : ℕ) {X Y : End} → AlikeEverywhere g h A B → AlikeEnds g h X Y → AlikeEverywhere g h (put-end A v X) (put-end B v Y)
-  unfolding put-end
-  put-alike v all x u = pick-alike (eqb u v) x (all u)
+  put_alike : {A B : ℕ → End} (v : ℕ) {X Y : End} → AlikeEverywhere g h A B → AlikeEnds g h X Y → AlikeEverywhere g h (put_end A v X) (put_end B v Y)
+  unfolding put_end
+  put_alike v all x u = pick_alike (eqb u v) x (all u)
 
-  put-at-alike : {A B : ℕ → End} {P Q X Y : End} → AlikeEverywhere g h A B → AlikeEnds g h P Q → AlikeEnds g h X Y
-      → AlikeEverywhere g h (put-end-at A P X) (put-end-at B Q Y)
-  unfolding put-end-at
-  put-at-alike all both-through x = all
-  put-at-alike all (both-at-pad v) x = put-alike v all x
-  put-at-alike all (both-at-clue v p q) x = all
+  put_at_alike : {A B : ℕ → End} {P Q X Y : End} → AlikeEverywhere g h A B → AlikeEnds g h P Q → AlikeEnds g h X Y
+      → AlikeEverywhere g h (put_end_at A P X) (put_end_at B Q Y)
+  unfolding put_end_at
+  put_at_alike all both_through x = all
+  put_at_alike all (both_at_pad v) x = put_alike v all x
+  put_at_alike all (both_at_clue v p q) x = all
 
-  pub joined-alike : {A B : ℕ → End} (u v : ℕ) {P Q X Y : End} → AlikeEverywhere g h A B → AlikeEnds g h P Q → AlikeEnds g h X Y
-      → AlikeEverywhere g h (joined-ends A u v P X) (joined-ends B u v Q Y)
-  unfolding joined-ends
-  joined-alike u v all p x = put-at-alike (put-at-alike (put-alike v (put-alike u all both-through) both-through) p x) x p
+  pub joined_alike : {A B : ℕ → End} (u v : ℕ) {P Q X Y : End} → AlikeEverywhere g h A B → AlikeEnds g h P Q → AlikeEnds g h X Y
+      → AlikeEverywhere g h (joined_ends A u v P X) (joined_ends B u v Q Y)
+  unfolding joined_ends
+  joined_alike u v all p x = put_at_alike (put_at_alike (put_alike v (put_alike u all both_through) both_through) p x) x p
 
 module _ {g h : Grid} (alike : Alike g h) where
   -- ENDS THAT CANNOT BE JOINED: here equal codes count
-  pub unjoinable-alike : {A B C D : End} → AlikeEnds g h A C → AlikeEnds g h B D → (v : ℕ) → unjoinable C D v ≡ unjoinable A B v
+  pub unjoinable_alike : {A B C D : End} → AlikeEnds g h A C → AlikeEnds g h B D → (v : ℕ) → unjoinable C D v ≡ unjoinable A B v
   unfolding unjoinable
-  unjoinable-alike both-through b v = refl
-  unjoinable-alike (both-at-pad u) both-through v = refl
-  unjoinable-alike (both-at-pad u) (both-at-pad w) v = refl
-  unjoinable-alike (both-at-pad u) (both-at-clue w p q) v = refl
-  unjoinable-alike (both-at-clue u m n) both-through v = refl
-  unjoinable-alike (both-at-clue u m n) (both-at-pad w) v = refl
-  unjoinable-alike (both-at-clue u m n) (both-at-clue w p q) v = ap (λ b. not b || false) (sym (alike.equal-codes u w _ _ _ _ m p n q))
+  unjoinable_alike both_through b v = refl
+  unjoinable_alike (both_at_pad u) both_through v = refl
+  unjoinable_alike (both_at_pad u) (both_at_pad w) v = refl
+  unjoinable_alike (both_at_pad u) (both_at_clue w p q) v = refl
+  unjoinable_alike (both_at_clue u m n) both_through v = refl
+  unjoinable_alike (both_at_clue u m n) (both_at_pad w) v = refl
+  unjoinable_alike (both_at_clue u m n) (both_at_clue w p q) v = ap (λ b. not b || false) (sym (alike.equal_codes u w _ _ _ _ m p n q))
 
   -- THE ENDS WHERE THERE IS NO LINE YET
-  pub bare-end-alike : AlikeEverywhere g h (λ v. bare-end v (g.cell v)) (λ v. bare-end v (h.cell v))
-  bare-end-alike v = go (g.cell v) refl (h.cell v) refl (alike.same-blanks v) (alike.same-holes v)
+  pub bare_end_alike : AlikeEverywhere g h (λ v. bare_end v (g.cell v)) (λ v. bare_end v (h.cell v))
+  bare_end_alike v = go (g.cell v) refl (h.cell v) refl (alike.same_blanks v) (alike.same_holes v)
     where
-      go : (C : Cell) → g.cell v ≡ C → (D : Cell) → h.cell v ≡ D → isBlank C ≡ isBlank D → isHole C ≡ isHole D → AlikeEnds g h (bare-end v C) (bare-end v D)
-      go blank p blank q same-blank same-hole = both-at-pad v
-      go blank p (clue d) q same-blank same-hole = absurd (true≢false same-blank)
-      go blank p hole q same-blank same-hole = both-at-pad v
-      go (clue c) p blank q same-blank same-hole = absurd (false≢true same-blank)
-      go (clue c) p (clue d) q same-blank same-hole = both-at-clue v p q
-      go (clue c) p hole q same-blank same-hole = absurd (false≢true same-hole)
-      go hole p blank q same-blank same-hole = both-at-pad v
-      go hole p (clue d) q same-blank same-hole = absurd (true≢false same-hole)
-      go hole p hole q same-blank same-hole = both-at-pad v
+      go : (C : Cell) → g.cell v ≡ C → (D : Cell) → h.cell v ≡ D → is_blank C ≡ is_blank D → is_hole C ≡ is_hole D → AlikeEnds g h (bare_end v C) (bare_end v D)
+      go blank p blank q same_blank same_hole = both_at_pad v
+      go blank p (clue d) q same_blank same_hole = absurd (true≢false same_blank)
+      go blank p hole q same_blank same_hole = both_at_pad v
+      go (clue c) p blank q same_blank same_hole = absurd (false≢true same_blank)
+      go (clue c) p (clue d) q same_blank same_hole = both_at_clue v p q
+      go (clue c) p hole q same_blank same_hole = absurd (false≢true same_hole)
+      go hole p blank q same_blank same_hole = both_at_pad v
+      go hole p (clue d) q same_blank same_hole = absurd (true≢false same_hole)
+      go hole p hole q same_blank same_hole = both_at_pad v

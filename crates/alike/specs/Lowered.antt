@@ -7,19 +7,19 @@ use Rattle.std.proofs.Common.{sym, ◌∙◌, ap, inl, inr, arith, mul-le-mul, e
 use Rattle.std.proofs.Math.Decide.{ℕ_discrete}
 use Rattle.std.proofs.lemmas.List.{length-map}
 use Rattle.std.proofs.Math.ListN.{get_or-map}
-use Rattle.rules.specs.Grid.{clue, cell-of, blank-cell, CellInRange, grid-of, Accepted}
+use Rattle.rules.specs.Grid.{clue, cell_of, blank_cell, CellInRange, grid_of, Accepted}
 use Rattle.rules.specs.Tests.{conflict}
 use Rattle.rules.specs.Places.{zero≢one}
 use Rattle.model.specs.Choice.{if◌then◌else◌}
-use Rattle.model.specs.PadTests.{isBlank, isHole}
+use Rattle.model.specs.PadTests.{is_blank, is_hole}
 use Rattle.model.specs.Search.{solve}
 use Rattle.model.specs.Common.{common}
 use Rattle.model.specs.Calls.{new}
 use Rattle.model.specs.Judge.{judge}
 use Rattle.alike.specs.Alike.{Alike}
-use Rattle.alike.specs.AlikeSearch.{solve-alike, common-alike}
-use Rattle.alike.specs.AlikeCalls.{AlikeAnswers, new-alike}
-use Rattle.alike.specs.AlikeJudge.{judge-alike}
+use Rattle.alike.specs.AlikeSearch.{solve_alike, common_alike}
+use Rattle.alike.specs.AlikeCalls.{AlikeAnswers, new_alike}
+use Rattle.alike.specs.AlikeJudge.{judge_alike}
 
 -- does the cell carry this code?
 abbrev pub carries : ℕ → ℤ → Bool
@@ -27,30 +27,30 @@ carries code (pos other) = eqb code other
 carries code (negsuc below) = false
 
 -- the index of the first cell that carries the code; the number of cells if none does
-unfoldable pub first-pad : ℕ → List ℤ → ℕ
-first-pad code [] = 0
-first-pad code (cell ∷ cells) = if carries code cell then 0 else suc (first-pad code cells)
+unfoldable pub first_pad : ℕ → List ℤ → ℕ
+first_pad code [] = 0
+first_pad code (cell ∷ cells) = if carries code cell then 0 else suc (first_pad code cells)
 
 -- LOWERED: each code is that index, blank pads and holes stay
-abbrev pub lowered-cell : List ℤ → ℤ → ℤ
-lowered-cell cells (pos code) = pos (first-pad code cells)
-lowered-cell cells (negsuc below) = negsuc below
+abbrev pub lowered_cell : List ℤ → ℤ → ℤ
+lowered_cell cells (pos code) = pos (first_pad code cells)
+lowered_cell cells (negsuc below) = negsuc below
 
 unfoldable pub lowered : List ℤ → List ℤ
-lowered cells = map (lowered-cell cells) cells
+lowered cells = map (lowered_cell cells) cells
 
 -- for example
-lowered-example : lowered (pos 4294967295 ∷ negsuc 0 ∷ negsuc 1 ∷ pos 0 ∷ pos 4294967295 ∷ pos 0 ∷ [])
+lowered_example : lowered (pos 4294967295 ∷ negsuc 0 ∷ negsuc 1 ∷ pos 0 ∷ pos 4294967295 ∷ pos 0 ∷ [])
     ≡ (pos 0 ∷ negsuc 0 ∷ negsuc 1 ∷ pos 3 ∷ pos 0 ∷ pos 3 ∷ [])
-unfolding lowered first-pad
-lowered-example = refl
+unfolding lowered first_pad
+lowered_example = refl
 
 -- a code as a cell, and as a pad of the grid
 same_code : {a b : ℕ} → pos a ≡ pos b → a ≡ b
 same_code e = cc
 
-code_of : (z : ℤ) (code : ℕ) → cell-of z ≡ clue code → z ≡ pos code
-unfolding cell-of
+code_of : (z : ℤ) (code : ℕ) → cell_of z ≡ clue code → z ≡ pos code
+unfolding cell_of
 code_of (pos other) code e = cc
 code_of (negsuc zero) code e = zero≢one (cc)
 code_of (negsuc (suc below)) code e = zero≢one (cc)
@@ -60,99 +60,99 @@ carried code (pos other) h = ap pos (sym (eqb-true code other h))
 carried code (negsuc below) h = conflict h refl
 
 -- the first pad of a code that some pad carries does carry it
-first-carries : (code : ℕ) (cells : List ℤ) (v : ℕ) → get_or cells v blank-cell ≡ pos code
-    → (get_or cells (first-pad code cells) blank-cell ≡ pos code) × (first-pad code cells < length cells)
-unfolding first-pad
-first-carries code [] v e = zero≢one (cc)
-first-carries code (cell ∷ cells) v e = go (carries code cell) refl v e (first-carries code cells)
+first_carries : (code : ℕ) (cells : List ℤ) (v : ℕ) → get_or cells v blank_cell ≡ pos code
+    → (get_or cells (first_pad code cells) blank_cell ≡ pos code) × (first_pad code cells < length cells)
+unfolding first_pad
+first_carries code [] v e = zero≢one (cc)
+first_carries code (cell ∷ cells) v e = go (carries code cell) refl v e (first_carries code cells)
   where
-    go : (b : Bool) → carries code cell ≡ b → (v : ℕ) → get_or (cell ∷ cells) v blank-cell ≡ pos code
-        → ((v : ℕ) → get_or cells v blank-cell ≡ pos code → (get_or cells (first-pad code cells) blank-cell ≡ pos code) × (first-pad code cells < length cells))
-        → (get_or (cell ∷ cells) (first-pad code (cell ∷ cells)) blank-cell ≡ pos code) × (first-pad code (cell ∷ cells) < suc (length cells))
-    go true k v e rest = rw (k, first-pad) (carried code cell k, omega arith)
+    go : (b : Bool) → carries code cell ≡ b → (v : ℕ) → get_or (cell ∷ cells) v blank_cell ≡ pos code
+        → ((v : ℕ) → get_or cells v blank_cell ≡ pos code → (get_or cells (first_pad code cells) blank_cell ≡ pos code) × (first_pad code cells < length cells))
+        → (get_or (cell ∷ cells) (first_pad code (cell ∷ cells)) blank_cell ≡ pos code) × (first_pad code (cell ∷ cells) < suc (length cells))
+    go true k v e rest = rw (k, first_pad) (carried code cell k, omega arith)
     go false k zero e rest = conflict (ap (carries code) e ∙ eq-eqb code code refl) k
-    go false k (suc v) e rest = let (found, inside) = rest v e in rw (k, first-pad) (found, omega arith)
+    go false k (suc v) e rest = let (found, inside) = rest v e in rw (k, first_pad) (found, omega arith)
 
 module _ (cells : List ℤ) where
-  lowered-at : (v : ℕ) → get_or (lowered cells) v blank-cell ≡ lowered-cell cells (get_or cells v blank-cell)
+  lowered_at : (v : ℕ) → get_or (lowered cells) v blank_cell ≡ lowered_cell cells (get_or cells v blank_cell)
   unfolding lowered
-  lowered-at v = get_or-map (lowered-cell cells) cells v blank-cell
+  lowered_at v = get_or-map (lowered_cell cells) cells v blank_cell
 
   -- two codes that some pads carry are equal exactly where their first pads are
-  equal-first : (u v a b : ℕ) → get_or cells u blank-cell ≡ pos a → get_or cells v blank-cell ≡ pos b → eqb a b ≡ eqb (first-pad a cells) (first-pad b cells)
-  equal-first u v a b at-u at-v = elim (ℕ_discrete a b) [
-    | yes e ↦ eq-eqb a b e ∙ sym (eq-eqb _ _ (ap (λ code. first-pad code cells) e))
-    | no n ↦ ne_eqb a b n ∙ sym (ne_eqb _ _ (λ e. n (same_code (sym (first-carries a cells u at-u).0 ∙ ap (λ i. get_or cells i blank-cell) e ∙ (first-carries b cells v at-v).0))))
+  equal_first : (u v a b : ℕ) → get_or cells u blank_cell ≡ pos a → get_or cells v blank_cell ≡ pos b → eqb a b ≡ eqb (first_pad a cells) (first_pad b cells)
+  equal_first u v a b at_u at_v = elim (ℕ_discrete a b) [
+    | yes e ↦ eq-eqb a b e ∙ sym (eq-eqb _ _ (ap (λ code. first_pad code cells) e))
+    | no n ↦ ne_eqb a b n ∙ sym (ne_eqb _ _ (λ e. n (same_code (sym (first_carries a cells u at_u).0 ∙ ap (λ i. get_or cells i blank_cell) e ∙ (first_carries b cells v at_v).0))))
   ]
 
   module _ (height width : ℕ) where
     -- THE LOWERED GRID is alike,
-    pub lowered-alike : Alike (grid-of height width cells) (grid-of height width (lowered cells))
-    unfolding grid-of
-    lowered-alike = record {
-      same-height = refl;
+    pub lowered_alike : Alike (grid_of height width cells) (grid_of height width (lowered cells))
+    unfolding grid_of
+    lowered_alike = record {
+      same_height = refl;
       same_width = refl;
-      same-blanks = λ v. rw (lowered-at v) (blanks (get_or cells v blank-cell));
-      same-holes = λ v. rw (lowered-at v) (holes (get_or cells v blank-cell));
-      equal-codes = λ u v a b c d at-u at-v low-u low-v.
-          let m = code_of _ a at-u in
-          let n = code_of _ b at-v in
-          rw (low u a c m low-u, low v b d n low-v) (equal-first u v a b m n);
+      same_blanks = λ v. rw (lowered_at v) (blanks (get_or cells v blank_cell));
+      same_holes = λ v. rw (lowered_at v) (holes (get_or cells v blank_cell));
+      equal_codes = λ u v a b c d at_u at_v low_u low_v.
+          let m = code_of _ a at_u in
+          let n = code_of _ b at_v in
+          rw (low u a c m low_u, low v b d n low_v) (equal_first u v a b m n);
     }
       where
-        blanks : (z : ℤ) → isBlank (cell-of z) ≡ isBlank (cell-of (lowered-cell cells z))
-        blanks (pos code) = unfold cell-of in refl
+        blanks : (z : ℤ) → is_blank (cell_of z) ≡ is_blank (cell_of (lowered_cell cells z))
+        blanks (pos code) = unfold cell_of in refl
         blanks (negsuc below) = refl
 
-        holes : (z : ℤ) → isHole (cell-of z) ≡ isHole (cell-of (lowered-cell cells z))
-        holes (pos code) = unfold cell-of in refl
+        holes : (z : ℤ) → is_hole (cell_of z) ≡ is_hole (cell_of (lowered_cell cells z))
+        holes (pos code) = unfold cell_of in refl
         holes (negsuc below) = refl
 
-        low : (v code other : ℕ) → get_or cells v blank-cell ≡ pos code → cell-of (get_or (lowered cells) v blank-cell) ≡ clue other → other ≡ first-pad code cells
-        low v code other m l = same_code (sym (code_of _ other l) ∙ lowered-at v ∙ ap (lowered-cell cells) m)
+        low : (v code other : ℕ) → get_or cells v blank_cell ≡ pos code → cell_of (get_or (lowered cells) v blank_cell) ≡ clue other → other ≡ first_pad code cells
+        low v code other m l = same_code (sym (code_of _ other l) ∙ lowered_at v ∙ ap (lowered_cell cells) m)
 
     module _ (accepted : Accepted height width cells) where
-      small : (v code : ℕ) → get_or cells v blank-cell ≡ pos code → first-pad code cells < 256
+      small : (v code : ℕ) → get_or cells v blank_cell ≡ pos code → first_pad code cells < 256
       small v code e =
-          let below = (first-carries code cells v e).1 in
-          let count = accepted.one-cell-a-pad in
-          let most : height * width ≤ 16 * 16 = mul-le-mul accepted.height-in-range.1 accepted.width-in-range.1 in
+          let below = (first_carries code cells v e).1 in
+          let count = accepted.one_cell_a_pad in
+          let most : height * width ≤ 16 * 16 = mul-le-mul accepted.height_in_range.1 accepted.width_in_range.1 in
           omega arith
 
       -- each of its codes is below 256,
-      pub lowered-small : (v code : ℕ) → get_or (lowered cells) v blank-cell ≡ pos code → code < 256
-      lowered-small v code e = go (get_or cells v blank-cell) refl
+      pub lowered_small : (v code : ℕ) → get_or (lowered cells) v blank_cell ≡ pos code → code < 256
+      lowered_small v code e = go (get_or cells v blank_cell) refl
         where
-          go : (z : ℤ) → get_or cells v blank-cell ≡ z → code < 256
-          go (pos other) k = rw (same_code (sym e ∙ lowered-at v ∙ ap (lowered-cell cells) k)) (small v other k)
-          go (negsuc below) k = (let q : negsuc below ≡ pos code = sym (lowered-at v ∙ ap (lowered-cell cells) k) ∙ e in zero≢one (cc))
+          go : (z : ℤ) → get_or cells v blank_cell ≡ z → code < 256
+          go (pos other) k = rw (same_code (sym e ∙ lowered_at v ∙ ap (lowered_cell cells) k)) (small v other k)
+          go (negsuc below) k = (let q : negsuc below ≡ pos code = sym (lowered_at v ∙ ap (lowered_cell cells) k) ∙ e in zero≢one (cc))
 
       -- it is accepted,
-      pub lowered-accepted : Accepted height width (lowered cells)
-      lowered-accepted = record {
-        height-in-range = accepted.height-in-range;
-        width-in-range = accepted.width-in-range;
-        one-cell-a-pad = unfold lowered in (length-map cells (lowered-cell cells) ∙ accepted.one-cell-a-pad);
-        cells-in-range = λ v below. rw (lowered-at v) (in-range v (accepted.cells-in-range v below));
+      pub lowered_accepted : Accepted height width (lowered cells)
+      lowered_accepted = record {
+        height_in_range = accepted.height_in_range;
+        width_in_range = accepted.width_in_range;
+        one_cell_a_pad = unfold lowered in (length-map cells (lowered_cell cells) ∙ accepted.one_cell_a_pad);
+        cells_in_range = λ v below. rw (lowered_at v) (in_range v (accepted.cells_in_range v below));
       }
         where
-          in-range : (v : ℕ) → CellInRange (get_or cells v blank-cell) → CellInRange (lowered-cell cells (get_or cells v blank-cell))
-          in-range v (inl e) = rw e (inl refl)
-          in-range v (inr (inl e)) = rw e (inr (inl refl))
-          in-range v (inr (inr (code, e, below))) = let s = small v code e in rw e (inr (inr (first-pad code cells, refl, omega arith)))
+          in_range : (v : ℕ) → CellInRange (get_or cells v blank_cell) → CellInRange (lowered_cell cells (get_or cells v blank_cell))
+          in_range v (inl e) = rw e (inl refl)
+          in_range v (inr (inl e)) = rw e (inr (inl refl))
+          in_range v (inr (inr (code, e, below))) = let s = small v code e in rw e (inr (inr (first_pad code cells, refl, omega arith)))
 
       -- SOLVE answers the same,
-      pub solve-lowered : (limit : ℕ) (buffer : List ℕ) → solve height width cells limit buffer ≡ solve height width (lowered cells) limit buffer
-      solve-lowered limit buffer = solve-alike height width cells (lowered cells) accepted lowered-accepted lowered-alike limit buffer
+      pub solve_lowered : (limit : ℕ) (buffer : List ℕ) → solve height width cells limit buffer ≡ solve height width (lowered cells) limit buffer
+      solve_lowered limit buffer = solve_alike height width cells (lowered cells) accepted lowered_accepted lowered_alike limit buffer
 
       -- so does COMMON,
-      pub common-lowered : (limit : ℕ) (buffer table : List ℕ) → common height width cells limit buffer table ≡ common height width (lowered cells) limit buffer table
-      common-lowered limit buffer table = common-alike height width cells (lowered cells) accepted lowered-accepted lowered-alike limit buffer table
+      pub common_lowered : (limit : ℕ) (buffer table : List ℕ) → common height width cells limit buffer table ≡ common height width (lowered cells) limit buffer table
+      common_lowered limit buffer table = common_alike height width cells (lowered cells) accepted lowered_accepted lowered_alike limit buffer table
 
       -- a NEW BOARD is alike, and with it every answer of the calls on it (AlikeCalls.antt),
-      pub new-lowered : AlikeAnswers (new height width cells) (new height width (lowered cells))
-      new-lowered = new-alike height width cells (lowered cells) accepted lowered-accepted lowered-alike
+      pub new_lowered : AlikeAnswers (new height width cells) (new height width (lowered cells))
+      new_lowered = new_alike height width cells (lowered cells) accepted lowered_accepted lowered_alike
 
       -- and JUDGE answers the same
-      pub judge-lowered : (bytes : List ℕ) → judge height width cells bytes ≡ judge height width (lowered cells) bytes
-      judge-lowered bytes = judge-alike height width cells (lowered cells) accepted lowered-accepted lowered-alike bytes
+      pub judge_lowered : (bytes : List ℕ) → judge height width cells bytes ≡ judge height width (lowered cells) bytes
+      judge_lowered bytes = judge_alike height width cells (lowered cells) accepted lowered_accepted lowered_alike bytes

@@ -8,9 +8,9 @@ use Rattle.std.proofs.Math.ListN.{length-set}
 use Rattle.rules.specs.Grid.{Grid}
 use Rattle.model.specs.Board.{State}
 use Rattle.model.specs.Calls as model
-use Rattle.boardview.specs.View.{Arrays, logged, grid-in, Kinds, Ready, view}
-use Rattle.board.specs.Past.{before, back_to, Past, begun, marked, past-fresh, past-marked, same-many, as_many, standing-marks, one-more-mark}
-use Rattle.board.specs.Held.{arrays-of, Held, Says}
+use Rattle.boardview.specs.View.{Arrays, logged, grid_in, Kinds, Ready, view}
+use Rattle.board.specs.Past.{before, back_to, Past, begun, marked, past_fresh, past_marked, same_many, as_many, standing_marks, one_more_mark}
+use Rattle.board.specs.Held.{arrays_of, Held, Says}
 use Rattle.board.specs.declared.Board.{Board}
 
 -- a declined call: number, 0, and the board as it was
@@ -20,19 +20,19 @@ declined number held = record { number = refl; answer = refl; board = held }
 
 -- CHECKPOINT
 module _ (b : Board) (B : model.Board) (held : Held b B) where
-  standing-same : length B.standing ≡ b.standing
-  standing-same = same-many held.past ∙ as_many b.marks b.standing
+  standing_same : length B.standing ≡ b.standing
+  standing_same = same_many held.past ∙ as_many b.marks b.standing
 
-  pub checkpoint-declined : 256 ≤ b.standing → Says (record { number = 12; answer = 0; board = b }) (model.add-checkpoint B)
-  unfolding model.add-checkpoint
-  checkpoint-declined full = rw (le-ltb (length B.standing) 256 (omega (arith, standing-same)), model.add-checkpoint) (declined 12 held)
+  pub checkpoint_declined : 256 ≤ b.standing → Says (record { number = 12; answer = 0; board = b }) (model.add_checkpoint B)
+  unfolding model.add_checkpoint
+  checkpoint_declined full = rw (le-ltb (length B.standing) 256 (omega (arith, standing_same)), model.add_checkpoint) (declined 12 held)
 
-  abbrev marked-board : Board
-  marked-board = record { edges = b.edges; ends = b.ends; log = b.log; kind = b.kind; count = b.count; fresh = b.fresh; marks = set b.marks b.standing b.count; standing = b.standing + 1 }
+  abbrev marked_board : Board
+  marked_board = record { edges = b.edges; ends = b.ends; log = b.log; kind = b.kind; count = b.count; fresh = b.fresh; marks = set b.marks b.standing b.count; standing = b.standing + 1 }
 
-  pub checkpoint-added : b.standing < 256 → Says (record { number = 0; answer = 0; board = marked-board }) (model.add-checkpoint B)
-  unfolding model.add-checkpoint
-  checkpoint-added room = rw (lt-ltb (length B.standing) 256 (omega (arith, standing-same)), model.add-checkpoint) (record {
+  pub checkpoint_added : b.standing < 256 → Says (record { number = 0; answer = 0; board = marked_board }) (model.add_checkpoint B)
+  unfolding model.add_checkpoint
+  checkpoint_added room = rw (lt-ltb (length B.standing) 256 (omega (arith, standing_same)), model.add_checkpoint) (record {
     number = refl;
     answer = refl;
     board = record {
@@ -42,22 +42,22 @@ module _ (b : Board) (B : model.Board) (held : Held b B) where
       shows = held.shows;
       few = omega arith;
       many = length-set b.marks b.standing b.count ∙ held.many;
-      no-entries = held.no-entries;
-      past = rw (add-one b.standing, one-more-mark b.marks b.standing b.count (omega (arith, held.many)), ← held.shows)
-          (past-marked (grid-in b.kind) B.grid (arrays-of b) held.ready held.past);
+      no_entries = held.no_entries;
+      past = rw (add-one b.standing, one_more_mark b.marks b.standing b.count (omega (arith, held.many)), ← held.shows)
+          (past_marked (grid_in b.kind) B.grid (arrays_of b) held.ready held.past);
     };
   })
 
 -- UNDO
 pub record CanGoBack (b : Board) (mark : ℕ) : Type 0 where
   pub kinds : Kinds b.kind
-  pub ready : Ready (grid-in b.kind) (arrays-of b)
-  pub low : mark % 1024 ≤ logged (arrays-of b)
+  pub ready : Ready (grid_in b.kind) (arrays_of b)
+  pub low : mark % 1024 ≤ logged (arrays_of b)
 
-unfoldable pub board-back : Board → ℕ → ℕ → Board
-board-back b mark standing = record {
-  edges = (back_to (grid-in b.kind).width (arrays-of b) mark).edges;
-  ends = (back_to (grid-in b.kind).width (arrays-of b) mark).ends;
+unfoldable pub board_back : Board → ℕ → ℕ → Board
+board_back b mark standing = record {
+  edges = (back_to (grid_in b.kind).width (arrays_of b) mark).edges;
+  ends = (back_to (grid_in b.kind).width (arrays_of b) mark).ends;
   log = b.log;
   kind = b.kind;
   count = mark;
@@ -67,9 +67,9 @@ board-back b mark standing = record {
 }
 
 pub back : (b : Board) (mark standing : ℕ) {edges : List ℕ} {ends : List ℤ}
-    → ◌≡◌ {A = List ℕ × List ℤ} (edges, ends) (before (grid-in b.kind).width (arrays-of b) mark)
-    → record { edges = edges; ends = ends; log = b.log; kind = b.kind; count = mark; fresh = b.fresh; marks = b.marks; standing = standing } ≡ board-back b mark standing
-unfolding back_to board-back
+    → ◌≡◌ {A = List ℕ × List ℤ} (edges, ends) (before (grid_in b.kind).width (arrays_of b) mark)
+    → record { edges = edges; ends = ends; log = b.log; kind = b.kind; count = mark; fresh = b.fresh; marks = b.marks; standing = standing } ≡ board_back b mark standing
+unfolding back_to board_back
 back b mark standing undone = ap (λ (E : List ℕ × List ℤ). record { edges = E.0; ends = E.1; log = b.log; kind = b.kind; count = mark; fresh = b.fresh; marks = b.marks; standing = standing }) undone
 
 -- what the past says of the last checkpoint
@@ -82,15 +82,15 @@ record LastMark (told g : Grid) (start : ℕ) (s : Arrays) (mark : ℕ) (marks :
   shows : view (back_to told.width s mark) ≡ state
   past : Past told g start (back_to told.width s mark) marks others
 
-last-mark : {told g : Grid} {start : ℕ} {s : Arrays} {mark : ℕ} {marks : List ℕ} {states : List State} → Past told g start s (mark ∷ marks) states → LastMark told g start s mark marks states
-last-mark (marked {S = S} {states = states} low ready shows past) = record { state = S; others = states; split = refl; low = low; ready = ready; shows = shows; past = past }
+last_mark : {told g : Grid} {start : ℕ} {s : Arrays} {mark : ℕ} {marks : List ℕ} {states : List State} → Past told g start s (mark ∷ marks) states → LastMark told g start s mark marks states
+last_mark (marked {S = S} {states = states} low ready shows past) = record { state = S; others = states; split = refl; low = low; ready = ready; shows = shows; past = past }
 
 module _ (b : Board) (B : model.Board) (held : Held b B) where
-  held_back : (mark standing : ℕ) → mark % 1024 ≤ logged (arrays-of b) → Ready (grid-in b.kind) (back_to (grid-in b.kind).width (arrays-of b) mark)
-      → standing ≤ b.standing → (S : State) (states : List State) → view (back_to (grid-in b.kind).width (arrays-of b) mark) ≡ S
-      → Past (grid-in b.kind) B.grid b.fresh (back_to (grid-in b.kind).width (arrays-of b) mark) (standing-marks b.marks standing) states
-      → Held (board-back b mark standing) (record { grid = B.grid; state = S; standing = states })
-  unfolding board-back back_to
+  held_back : (mark standing : ℕ) → mark % 1024 ≤ logged (arrays_of b) → Ready (grid_in b.kind) (back_to (grid_in b.kind).width (arrays_of b) mark)
+      → standing ≤ b.standing → (S : State) (states : List State) → view (back_to (grid_in b.kind).width (arrays_of b) mark) ≡ S
+      → Past (grid_in b.kind) B.grid b.fresh (back_to (grid_in b.kind).width (arrays_of b) mark) (standing_marks b.marks standing) states
+      → Held (board_back b mark standing) (record { grid = B.grid; state = S; standing = states })
+  unfolding board_back back_to
   held_back mark standing low ready fewer S states shows past = record {
     kinds = held.kinds;
     told = held.told;
@@ -98,44 +98,44 @@ module _ (b : Board) (B : model.Board) (held : Held b B) where
     shows = shows;
     few = omega (arith, held.few);
     many = held.many;
-    no-entries = held.no-entries;
+    no_entries = held.no_entries;
     past = past;
   }
 
   -- no checkpoint stands: the fresh board is behind
   module _ (none : b.standing ≡ 0) where
-    abbrev fresh-arrays : Arrays
-    fresh-arrays = back_to (grid-in b.kind).width (arrays-of b) b.fresh
+    abbrev fresh_arrays : Arrays
+    fresh_arrays = back_to (grid_in b.kind).width (arrays_of b) b.fresh
 
-    past_of-none : (states : List State) → Past (grid-in b.kind) B.grid b.fresh (arrays-of b) [] states
-        → (states ≡ []) × Ready (grid-in b.kind) fresh-arrays × (view fresh-arrays ≡ (model.fresh-board B.grid).state)
-    unfolding model.fresh-board
-    past_of-none [] (begun ready shows) = (refl, ready, shows)
+    past_of_none : (states : List State) → Past (grid_in b.kind) B.grid b.fresh (arrays_of b) [] states
+        → (states ≡ []) × Ready (grid_in b.kind) fresh_arrays × (view fresh_arrays ≡ (model.fresh_board B.grid).state)
+    unfolding model.fresh_board
+    past_of_none [] (begun ready shows) = (refl, ready, shows)
 
-    the-past : (B.standing ≡ []) × Ready (grid-in b.kind) fresh-arrays × (view fresh-arrays ≡ (model.fresh-board B.grid).state)
-    unfolding standing-marks
-    the-past = past_of-none B.standing (rw none at held.past)
+    the_past : (B.standing ≡ []) × Ready (grid_in b.kind) fresh_arrays × (view fresh_arrays ≡ (model.fresh_board B.grid).state)
+    unfolding standing_marks
+    the_past = past_of_none B.standing (rw none at held.past)
 
-    pub undone-to-fresh : Held (board-back b b.fresh 0) (model.undo B)
-    unfolding model.undo model.fresh-board standing-marks back_to
-    undone-to-fresh = rw the-past.0 (held_back b.fresh 0 (omega (arith, held.no-entries)) the-past.1 (omega arith) _ [] the-past.2
-        (past-fresh (grid-in b.kind) B.grid fresh-arrays the-past.1 the-past.2))
+    pub undone_to_fresh : Held (board_back b b.fresh 0) (model.undo B)
+    unfolding model.undo model.fresh_board standing_marks back_to
+    undone_to_fresh = rw the_past.0 (held_back b.fresh 0 (omega (arith, held.no_entries)) the_past.1 (omega arith) _ [] the_past.2
+        (past_fresh (grid_in b.kind) B.grid fresh_arrays the_past.1 the_past.2))
 
   -- the last checkpoint
   module _ (some : 0 < b.standing) where
     abbrev last : ℕ
     last = get_or b.marks (b.standing - 1) 0
 
-    the_last : LastMark (grid-in b.kind) B.grid b.fresh (arrays-of b) last (standing-marks b.marks (b.standing - 1)) B.standing
-    unfolding standing-marks
-    the_last = last-mark (rw one_less at held.past)
+    the_last : LastMark (grid_in b.kind) B.grid b.fresh (arrays_of b) last (standing_marks b.marks (b.standing - 1)) B.standing
+    unfolding standing_marks
+    the_last = last_mark (rw one_less at held.past)
       where
         one_less : b.standing ≡ suc (b.standing - 1)
         one_less = omega arith
 
-    pub can-go-back : CanGoBack b last
-    can-go-back = record { kinds = held.kinds; ready = held.ready; low = the_last.low }
+    pub can_go_back : CanGoBack b last
+    can_go_back = record { kinds = held.kinds; ready = held.ready; low = the_last.low }
 
-    pub undone-to-last : Held (board-back b last (b.standing - 1)) (model.undo B)
+    pub undone_to_last : Held (board_back b last (b.standing - 1)) (model.undo B)
     unfolding model.undo
-    undone-to-last = rw the_last.split (held_back last (b.standing - 1) the_last.low the_last.ready (omega arith) the_last.state the_last.others the_last.shows the_last.past)
+    undone_to_last = rw the_last.split (held_back last (b.standing - 1) the_last.low the_last.ready (omega arith) the_last.state the_last.others the_last.shows the_last.past)

@@ -3,27 +3,27 @@
 use Rattle.std.specs.Prelude.{ℕ, ◌*◌, ◌%◌, ◌≤◌, ◌≡◌, length, take}
 use Rattle.rules.specs.Grid.{places}
 use Rattle.model.specs.Calls as model
-use Rattle.boardview.specs.View.{Arrays, grid-in, Kinds, Ready, view}
+use Rattle.boardview.specs.View.{Arrays, grid_in, Kinds, Ready, view}
 use Rattle.boardview.specs.SameKinds.{Shows as Told}
-use Rattle.board.specs.Past.{Past, standing-marks}
+use Rattle.board.specs.Past.{Past, standing_marks}
 use Rattle.board.specs.declared.Board.{Board}
 use Rattle.board.specs.declared.Answer.{Answer}
 use Rattle.board.specs.declared.Shown.{Shown}
 
 -- the arrays of a board
-abbrev pub arrays-of : Board → Arrays
-arrays-of b = record { edges = b.edges; ends = b.ends; log = b.log; count = b.count }
+abbrev pub arrays_of : Board → Arrays
+arrays_of b = record { edges = b.edges; ends = b.ends; log = b.log; count = b.count }
 
 -- HELD: the grid, the state, and the states at the standing checkpoints; behind them the fresh board, whose log is empty
 pub record Held (b : Board) (B : model.Board) : Type 0 where
   pub kinds : Kinds b.kind
   pub told : Told B.grid b.kind
-  pub ready : Ready (grid-in b.kind) (arrays-of b)
-  pub shows : view (arrays-of b) ≡ B.state
+  pub ready : Ready (grid_in b.kind) (arrays_of b)
+  pub shows : view (arrays_of b) ≡ B.state
   pub few : b.standing ≤ 256
   pub many : length b.marks ≡ 256
-  pub no-entries : b.fresh % 1024 ≡ 0
-  pub past : Past (grid-in b.kind) B.grid b.fresh (arrays-of b) (standing-marks b.marks b.standing) B.standing
+  pub no_entries : b.fresh % 1024 ≡ 0
+  pub past : Past (grid_in b.kind) B.grid b.fresh (arrays_of b) (standing_marks b.marks b.standing) B.standing
 
 -- A BOARD that the calls handed out
 abbrev pub IsBoard : Board → Type 0
@@ -36,8 +36,8 @@ pub record Says (r : Answer) (A : model.Answer) : Type 0 where
   pub board : Held r.board A.board
 
 -- a declined call: its number, and the board as it was
-abbrev pub declined-with : ℕ → Board → Answer
-declined-with number b = record { number = number; answer = 0; board = b }
+abbrev pub declined_with : ℕ → Board → Answer
+declined_with number b = record { number = number; answer = 0; board = b }
 
 -- WHAT A BOARD SHOWS: its sizes, edges as a record, ends and flag; past them the arrays are of no account
 pub record Shows (r : Shown) (B : model.Board) : Type 0 where

@@ -10,7 +10,7 @@ use Rattle.rules.specs.Grid.{Grid}
 use Rattle.model.specs.Board.{State, fresh}
 use Rattle.boardview.specs.View.{Arrays, logged, view, Entry, Ready, unwound, Since}
 use Rattle.boardview.specs.Stores.{relogged}
-use Rattle.boardview.specs.Unwind.{unwound-split, kept-unwound}
+use Rattle.boardview.specs.Unwind.{unwound_split, kept_unwound}
 
 -- edges and ends as they were when the log had the length of this mark
 abbrev pub before : ℕ → Arrays → ℕ → List ℕ × List ℤ
@@ -28,27 +28,27 @@ pub data Past (told g : Grid) (start : ℕ) : Arrays → List ℕ → List State
       → mark % 1024 ≤ logged s → Ready told (back_to told.width s mark) → view (back_to told.width s mark) ≡ S
       → Past told g start (back_to told.width s mark) marks states → Past told g start s (mark ∷ marks) (S ∷ states)
 
-pub same-many : {told g : Grid} {start : ℕ} {s : Arrays} {marks : List ℕ} {states : List State} → Past told g start s marks states → length states ≡ length marks
-same-many (begun ready shows) = refl
-same-many (marked low ready shows past) = ap suc (same-many past)
+pub same_many : {told g : Grid} {start : ℕ} {s : Arrays} {marks : List ℕ} {states : List State} → Past told g start s marks states → length states ≡ length marks
+same_many (begun ready shows) = refl
+same_many (marked low ready shows past) = ap suc (same_many past)
 
 -- WHAT WAS UNDONE LATER: undoing to an earlier mark passes through every later length of the log
 module _ (width : ℕ) (s t : Arrays) (since : Since width s t) (mark : ℕ) (low : mark % 1024 ≤ logged s) where
-  same-before : before width t mark ≡ before width s mark
-  same-before =
+  same_before : before width t mark ≡ before width s mark
+  same_before =
       let m = mark % 1024 in
       let all : logged t - m ≡ (logged s - m) + since.more = omega (arith, since.longer) in
       let place : m + (logged s - m) ≡ logged s = omega arith in
       ap (λ (n : ℕ). unwound width t.log m n (t.edges, t.ends)) all
-      ∙ unwound-split width t.log m (logged s - m) since.more (t.edges, t.ends)
+      ∙ unwound_split width t.log m (logged s - m) since.more (t.edges, t.ends)
       ∙ ap (λ (n : ℕ). unwound width t.log m (logged s - m) (unwound width t.log n since.more (t.edges, t.ends))) place
       ∙ ap (λ (E : List ℕ × List ℤ). unwound width t.log m (logged s - m) E) since.back
-      ∙ kept-unwound width s.log t.log m (logged s - m) (s.edges, s.ends) (λ i k. since.kept i (omega arith))
+      ∙ kept_unwound width s.log t.log m (logged s - m) (s.edges, s.ends) (λ i k. since.kept i (omega arith))
 
   -- the two boards at the mark differ only in the log past it
-  pub since-before : Since width (back_to width s mark) (back_to width t mark)
+  pub since_before : Since width (back_to width s mark) (back_to width t mark)
   unfolding back_to unwound
-  since-before = record { more = 0; longer = omega arith; kept = λ i k. since.kept i (omega arith); back = same-before }
+  since_before = record { more = 0; longer = omega arith; kept = λ i k. since.kept i (omega arith); back = same_before }
 
 -- WHAT IS TRUE OF EVERY BOARD'S ARRAYS asks of the log only its length and its first entries
 entry_kept : (told : Grid) (log others : List ℤ) (k : ℕ) → ((i : ℕ) → i < 3 * k + 3 → get_or others i (pos 0) ≡ get_or log i (pos 0)) → Entry told log k → Entry told others k
@@ -59,30 +59,30 @@ entry_kept told log others k kept entry = record {
   second = rw (kept (3 * k + 1) (omega arith), kept (3 * k + 2) (omega arith)) entry.second;
 }
 
-ready-log : (told : Grid) (s : Arrays) (log : List ℤ) → length log ≡ 1440 → ((i : ℕ) → i < 3 * logged s → get_or log i (pos 0) ≡ get_or s.log i (pos 0))
+ready_log : (told : Grid) (s : Arrays) (log : List ℤ) → length log ≡ 1440 → ((i : ℕ) → i < 3 * logged s → get_or log i (pos 0) ≡ get_or s.log i (pos 0))
     → Ready told s → Ready told (record { edges = s.edges; ends = s.ends; log = log; count = s.count })
-ready-log told s log long kept ready = relogged told s log s.count ready long ready.mode (omega arith)
+ready_log told s log long kept ready = relogged told s log s.count ready long ready.mode (omega arith)
     (λ k below. entry_kept told s.log log k (λ i low. kept i (omega arith)) (ready.entries k below))
 
 module _ (told g : Grid) where
-  ready-before : (s t : Arrays) → Since told.width s t → length t.log ≡ 1440 → (mark : ℕ) → mark % 1024 ≤ logged s
+  ready_before : (s t : Arrays) → Since told.width s t → length t.log ≡ 1440 → (mark : ℕ) → mark % 1024 ≤ logged s
       → Ready told (back_to told.width s mark) → Ready told (back_to told.width t mark)
   unfolding back_to
-  ready-before s t since long mark low ready =
-      rw (same-before told.width s t since mark low) (ready-log told (back_to told.width s mark) t.log long (λ i below. since.kept i (omega arith)) ready)
+  ready_before s t since long mark low ready =
+      rw (same_before told.width s t since mark low) (ready_log told (back_to told.width s mark) t.log long (λ i below. since.kept i (omega arith)) ready)
 
-  view-before : (s t : Arrays) → Since told.width s t → (mark : ℕ) → mark % 1024 ≤ logged s
+  view_before : (s t : Arrays) → Since told.width s t → (mark : ℕ) → mark % 1024 ≤ logged s
       → view (back_to told.width t mark) ≡ view (back_to told.width s mark)
   unfolding back_to view
-  view-before s t since mark low = rw (same-before told.width s t since mark low) refl
+  view_before s t since mark low = rw (same_before told.width s t since mark low) refl
 
   -- THE PAST STAYS: what is decided later is undone first
-  pub past-since : {start : ℕ} → start % 1024 ≡ 0 → (s t : Arrays) {marks : List ℕ} {states : List State} → Since told.width s t → length t.log ≡ 1440
+  pub past_since : {start : ℕ} → start % 1024 ≡ 0 → (s t : Arrays) {marks : List ℕ} {states : List State} → Since told.width s t → length t.log ≡ 1440
       → Past told g start s marks states → Past told g start t marks states
   unfolding back_to
-  past-since {start} empty s t since long (begun ready shows) = begun (ready-before s t since long start (omega arith) ready) (view-before s t since start (omega arith) ∙ shows)
-  past-since empty s t since long (marked {mark = mark} low ready shows past) = marked {s = t} {mark = mark} (omega (arith, since.longer)) (ready-before s t since long mark low ready)
-      (view-before s t since mark low ∙ shows) (past-since empty (back_to told.width s mark) (back_to told.width t mark) (since-before told.width s t since mark low) long past)
+  past_since {start} empty s t since long (begun ready shows) = begun (ready_before s t since long start (omega arith) ready) (view_before s t since start (omega arith) ∙ shows)
+  past_since empty s t since long (marked {mark = mark} low ready shows past) = marked {s = t} {mark = mark} (omega (arith, since.longer)) (ready_before s t since long mark low ready)
+      (view_before s t since mark low ∙ shows) (past_since empty (back_to told.width s mark) (back_to told.width t mark) (since_before told.width s t since mark low) long past)
 
   -- back to where the board stands
   here : (s : Arrays) → back_to told.width s s.count ≡ s
@@ -93,28 +93,28 @@ module _ (told g : Grid) where
       none = omega arith
 
   -- A FRESH BOARD, and a checkpoint
-  pub past-fresh : (s : Arrays) → Ready told s → view s ≡ fresh g → Past told g s.count s [] []
-  past-fresh s ready shows = let at = here s in begun {s = s} (rw at ready) (rw at shows)
+  pub past_fresh : (s : Arrays) → Ready told s → view s ≡ fresh g → Past told g s.count s [] []
+  past_fresh s ready shows = let at = here s in begun {s = s} (rw at ready) (rw at shows)
 
-  pub past-marked : (s : Arrays) {start : ℕ} {marks : List ℕ} {states : List State} → Ready told s → Past told g start s marks states
+  pub past_marked : (s : Arrays) {start : ℕ} {marks : List ℕ} {states : List State} → Ready told s → Past told g start s marks states
       → Past told g start s (s.count ∷ marks) (view s ∷ states)
-  past-marked s {marks} {states} ready past = let at = here s in marked {s = s} {mark = s.count} {marks = marks} {states = states} (omega arith) (rw at ready) (ap view at) (rw at past)
+  past_marked s {marks} {states} ready past = let at = here s in marked {s = s} {mark = s.count} {marks = marks} {states = states} (omega arith) (rw at ready) (ap view at) (rw at past)
 
 -- THE MARKS that stand, the last one first
-unfoldable pub standing-marks : List ℕ → ℕ → List ℕ
-standing-marks marks zero = []
-standing-marks marks (suc n) = get_or marks n 0 ∷ standing-marks marks n
+unfoldable pub standing_marks : List ℕ → ℕ → List ℕ
+standing_marks marks zero = []
+standing_marks marks (suc n) = get_or marks n 0 ∷ standing_marks marks n
 
-pub as_many : (marks : List ℕ) (n : ℕ) → length (standing-marks marks n) ≡ n
-unfolding standing-marks
+pub as_many : (marks : List ℕ) (n : ℕ) → length (standing_marks marks n) ≡ n
+unfolding standing_marks
 as_many marks zero = refl
 as_many marks (suc n) = ap suc (as_many marks n)
 
-pub other-mark : (marks : List ℕ) (n i mark : ℕ) → n ≤ i → standing-marks (set marks i mark) n ≡ standing-marks marks n
-unfolding standing-marks
-other-mark marks zero i mark low = refl
-other-mark marks (suc n) i mark low = rw (other-mark marks n i mark (omega arith), get_or-set_other marks i n mark 0 (λ same. omega arith)) refl
+pub other_mark : (marks : List ℕ) (n i mark : ℕ) → n ≤ i → standing_marks (set marks i mark) n ≡ standing_marks marks n
+unfolding standing_marks
+other_mark marks zero i mark low = refl
+other_mark marks (suc n) i mark low = rw (other_mark marks n i mark (omega arith), get_or-set_other marks i n mark 0 (λ same. omega arith)) refl
 
-pub one-more-mark : (marks : List ℕ) (n mark : ℕ) → n < length marks → standing-marks (set marks n mark) (suc n) ≡ mark ∷ standing-marks marks n
-unfolding standing-marks
-one-more-mark marks n mark low = rw (other-mark marks n n mark (omega arith), get_or-set_same marks n mark 0 low) refl
+pub one_more_mark : (marks : List ℕ) (n mark : ℕ) → n < length marks → standing_marks (set marks n mark) (suc n) ≡ mark ∷ standing_marks marks n
+unfolding standing_marks
+one_more_mark marks n mark low = rw (other_mark marks n n mark (omega arith), get_or-set_same marks n mark 0 low) refl

@@ -2,16 +2,16 @@
 // these calls. What each call does is said in the crate `model`, specs/Calls.antt there; specs/Held.antt says what a board of this crate
 // holds of a board there.
 ghost use Rattle.std.specs.Prelude.{◌≡◌, true, false, ℕ, ◌+◌, ◌*◌, ◌-◌, ◌%◌, ◌≤◌, ◌<◌, length, get_or, take};
-ghost use Rattle.rules.specs.Grid.{OnBoard, Accepted, grid-of, places};
+ghost use Rattle.rules.specs.Grid.{OnBoard, Accepted, grid_of, places};
 ghost use Rattle.rules.specs.Drawing.{num};
-ghost use Rattle.model.specs.Board.{line-or-none};
+ghost use Rattle.model.specs.Board.{line_or_none};
 ghost use Rattle.model.specs.Calls as model;
-ghost use Rattle.grid.specs.PadsAt.{pads-of, place_of, IfEdge};
-ghost use Rattle.boardview.specs.View.{flag-in, grid-in, Kinds, Ready, Decided};
-ghost use Rattle.boardview.specs.ShownRecord.{record-shown};
-ghost use Rattle.board.specs.Held.{Held, IsBoard, Says, Shows, declined-with};
-ghost use Rattle.board.specs.ShowLaws.{Laid, end-at-index};
-ghost use Rattle.board.specs.CallLaws.{CanGoBack, board-back};
+ghost use Rattle.grid.specs.PadsAt.{pads_of, place_of, IfEdge};
+ghost use Rattle.boardview.specs.View.{flag_in, grid_in, Kinds, Ready, Decided};
+ghost use Rattle.boardview.specs.ShownRecord.{record_shown};
+ghost use Rattle.board.specs.Held.{Held, IsBoard, Says, Shows, declined_with};
+ghost use Rattle.board.specs.ShowLaws.{Laid, end_at_index};
+ghost use Rattle.board.specs.CallLaws.{CanGoBack, board_back};
 
 use boardparts::FLAGGED;
 use grid::{Edge, Pads};
@@ -55,7 +55,7 @@ pub struct Shown {
 // The pads that a place joins, any numbers; outside the field there are none.
 fn pads_at(kind: &[u8; 1024], y: usize, x: usize) -> Pads
     requires { Kinds kind.now }
-    ensures { result ≡ pads-of (grid-in kind.now).width (model.edge_at (grid-in kind.now) y x) }
+    ensures { result ≡ pads_of (grid_in kind.now).width (model.edge_at (grid_in kind.now) y x) }
 {
     let width = boardparts::width(kind);
     if y >= 2 * boardparts::height(kind) - 1 {
@@ -77,8 +77,8 @@ fn decide_pads(
     line: bool,
     count: usize,
 ) -> usize
-    requires { IfEdge (place_of pads) (λ e. OnBoard (grid-in kind.now) e) × Kinds kind.now × Ready (grid-in kind.now) (record { edges = edges.now; ends = ends.old; log = log.old; count = count }) }
-    ensures { IfEdge (place_of pads) (λ e. Decided (grid-in kind.now) (record { edges = edges.entry.now; ends = ends.old; log = log.old; count = count }) e (line-or-none line) (record { edges = edges.exit.now; ends = ends.new; log = log.new; count = result })) }
+    requires { IfEdge (place_of pads) (λ e. OnBoard (grid_in kind.now) e) × Kinds kind.now × Ready (grid_in kind.now) (record { edges = edges.now; ends = ends.old; log = log.old; count = count }) }
+    ensures { IfEdge (place_of pads) (λ e. Decided (grid_in kind.now) (record { edges = edges.entry.now; ends = ends.old; log = log.old; count = count }) e (line_or_none line) (record { edges = edges.exit.now; ends = ends.new; log = log.new; count = result })) }
 {
     match pads {
         Pads::Beside(v, _) => decision::decide_right(edges, ends, log, kind, v, line, count),
@@ -89,7 +89,7 @@ fn decide_pads(
 
 // 1 if the flag is set.
 fn flag_number(count: usize) -> usize
-    ensures { result ≡ num (flag-in count) }
+    ensures { result ≡ num (flag_in count) }
 {
     if count < FLAGGED { 0 } else { 1 }
 }
@@ -120,7 +120,7 @@ fn no_marks() -> [usize; 256]
 
 // A declined call: its number, and the board as it was.
 fn declined(board: Board, number: u8) -> Answer
-    ensures { result ≡ declined-with number board }
+    ensures { result ≡ declined_with number board }
 {
     Answer {
         number,
@@ -132,7 +132,7 @@ fn declined(board: Board, number: u8) -> Answer
 // The fresh board of an accepted grid.
 fn fresh(height: usize, width: usize, cells: &[i64]) -> Board
     requires { Accepted height width cells.now }
-    ensures { Held result (model.fresh-board (grid-of height width cells.now)) }
+    ensures { Held result (model.fresh_board (grid_of height width cells.now)) }
 {
     let arrays = boardfresh::fresh_board(height, width, cells);
     let edges = arrays.edges;
@@ -152,15 +152,15 @@ fn fresh(height: usize, width: usize, cells: &[i64]) -> Board
 
 // The fresh 2 by 2 blank board.
 fn blank() -> Board
-    ensures { Held result model.blank-board }
+    ensures { Held result model.blank_board }
 {
     fresh(2, 2, &[-1, -1, -1, -1])
 }
 
 // The board and the flag after the edge between two pads is decided.
 fn decided(board: Board, pads: Pads, line: bool) -> Answer
-    requires { IsBoard board × IfEdge (place_of pads) (λ e. OnBoard (grid-in board.kind) e) }
-    ensures { (B : model.Board) → Held board B → IfEdge (place_of pads) (λ e. Says result (model.decided B e (line-or-none line))) }
+    requires { IsBoard board × IfEdge (place_of pads) (λ e. OnBoard (grid_in board.kind) e) }
+    ensures { (B : model.Board) → Held board B → IfEdge (place_of pads) (λ e. Says result (model.decided B e (line_or_none line))) }
 {
     let mut edges = board.edges;
     let mut ends = board.ends;
@@ -195,7 +195,7 @@ fn decided(board: Board, pads: Pads, line: bool) -> Answer
 // The board after undoing the entries of the log since a mark, with so many checkpoints standing.
 fn back_to(board: Board, mark: usize, standing: usize) -> Board
     requires { CanGoBack board mark }
-    ensures { result ≡ board-back board mark standing }
+    ensures { result ≡ board_back board mark standing }
 {
     let mut edges = board.edges;
     let mut ends = board.ends;
@@ -226,7 +226,7 @@ fn back_to(board: Board, mark: usize, standing: usize) -> Board
 // The record of the edges; past it the bytes are of no account.
 fn record_of(edges: &[u8; 1024], kind: &[u8; 1024]) -> [u8; 961]
     requires { Kinds kind.now × (length edges.now ≡ 1024) × ((n : ℕ) → get_or edges.now n 2 ≤ 2) }
-    ensures { take (places (grid-in kind.now).height (grid-in kind.now).width) result ≡ record-shown (grid-in kind.now) edges.now }
+    ensures { take (places (grid_in kind.now).height (grid_in kind.now).width) result ≡ record_shown (grid_in kind.now) edges.now }
 {
     let mut bytes = no_bytes();
     boardrecord::put_record(edges, kind, &mut bytes, 0);
@@ -236,7 +236,7 @@ fn record_of(edges: &[u8; 1024], kind: &[u8; 1024]) -> [u8; 961]
 // The ends of the first 256 pads.
 fn shown_ends(ends: &[i64; 512]) -> [i64; 256]
     requires { length ends.now ≡ 512 }
-    ensures { Laid (end-at-index ends.now) 256 result 256 }
+    ensures { Laid (end_at_index ends.now) 256 result 256 }
 {
     let mut shown = no_ends();
     let mut i = 0;
@@ -270,7 +270,7 @@ impl Board {
     // Decides the edge at a place, any numbers; 10 no such edge place, then 11 a state neither 1 nor 2; accepted, the answer is the flag.
     pub fn decide_edge(self, y: usize, x: usize, state: Edge) -> Answer
         requires { IsBoard self }
-        ensures { (B : model.Board) → Held self B → Says result (model.decide-edge B y x state.0) }
+        ensures { (B : model.Board) → Held self B → Says result (model.decide_edge B y x state.0) }
     {
         let kind = self.kind;
         let pads = pads_at(&kind, y, x);
@@ -289,7 +289,7 @@ impl Board {
     // Reads the edge at a place, any numbers; 10 no such edge place; accepted, the answer is the edge's byte.
     pub fn get_edge(self, y: usize, x: usize) -> Answer
         requires { IsBoard self }
-        ensures { (B : model.Board) → Held self B → Says result (model.read-edge B y x) }
+        ensures { (B : model.Board) → Held self B → Says result (model.read_edge B y x) }
     {
         let kind = self.kind;
         let edges = self.edges;
@@ -308,7 +308,7 @@ impl Board {
     // A checkpoint; 12 with 256 standing.
     pub fn add_checkpoint(self) -> Answer
         requires { IsBoard self }
-        ensures { (B : model.Board) → Held self B → Says result (model.add-checkpoint B) }
+        ensures { (B : model.Board) → Held self B → Says result (model.add_checkpoint B) }
     {
         let standing = self.standing;
         if standing >= MOST_CHECKPOINTS {

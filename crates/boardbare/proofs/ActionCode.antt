@@ -2,42 +2,42 @@
 use Prim.Native.Nat.{ℕ, ◌+◌, ◌≤◌, ◌<◌}
 use mathlib.Core.Path.{◌≡◌}
 use borrow.Author.Tests.{lt-ltb, le-ltb, eq-eqb, ne_eqb}
-use Rattle.boardview.specs.View.{bytes-equal, undecided-side, action-code}
+use Rattle.boardview.specs.View.{bytes_equal, undecided_side, action_code}
 
 module _ (clues l r u d : ℕ) where
   abbrev degree : ℕ
-  degree = clues + bytes-equal l r u d 1
+  degree = clues + bytes_equal l r u d 1
 
   abbrev undecided : ℕ
-  undecided = bytes-equal l r u d 0
+  undecided = bytes_equal l r u d 0
 
-  pub too_many : 2 < degree → 1 ≡ action-code clues l r u d
-  unfolding action-code
+  pub too_many : 2 < degree → 1 ≡ action_code clues l r u d
+  unfolding action_code
   too_many h = simp (lt-ltb _ _ h)
 
   module _ (few : degree ≤ 2) where
-    pub one-alone : undecided ≡ 0 → degree ≡ 1 → 1 ≡ action-code clues l r u d
-    unfolding action-code
-    one-alone h k = simp (le-ltb _ _ few, eq-eqb _ _ h, eq-eqb _ _ k)
+    pub one_alone : undecided ≡ 0 → degree ≡ 1 → 1 ≡ action_code clues l r u d
+    unfolding action_code
+    one_alone h k = simp (le-ltb _ _ few, eq-eqb _ _ h, eq-eqb _ _ k)
 
-    pub all-decided : undecided ≡ 0 → (degree ≡ 1 → ⊥) → 0 ≡ action-code clues l r u d
-    unfolding action-code
-    all-decided h k = simp (le-ltb _ _ few, eq-eqb _ _ h, ne_eqb _ _ k)
+    pub all_decided : undecided ≡ 0 → (degree ≡ 1 → ⊥) → 0 ≡ action_code clues l r u d
+    unfolding action_code
+    all_decided h k = simp (le-ltb _ _ few, eq-eqb _ _ h, ne_eqb _ _ k)
 
-    module _ (some : undecided ≡ 0 → ⊥) (side : ℕ) (es : side ≡ undecided-side l r u) where
-      pub two-lines : degree ≡ 2 → 6 + side ≡ action-code clues l r u d
-      unfolding action-code
-      two-lines h = simp (le-ltb _ _ few, ne_eqb _ _ some, eq-eqb _ _ h, ← es)
+    module _ (some : undecided ≡ 0 → ⊥) (side : ℕ) (es : side ≡ undecided_side l r u) where
+      pub two_lines : degree ≡ 2 → 6 + side ≡ action_code clues l r u d
+      unfolding action_code
+      two_lines h = simp (le-ltb _ _ few, ne_eqb _ _ some, eq-eqb _ _ h, ← es)
 
-      module _ (not-two : degree ≡ 2 → ⊥) where
-        pub last_line : undecided ≡ 1 → degree ≡ 1 → 2 + side ≡ action-code clues l r u d
-        unfolding action-code
-        last_line h k = simp (le-ltb _ _ few, ne_eqb _ _ some, ne_eqb _ _ not-two, eq-eqb _ _ h, eq-eqb _ _ k, ← es)
+      module _ (not_two : degree ≡ 2 → ⊥) where
+        pub last_line : undecided ≡ 1 → degree ≡ 1 → 2 + side ≡ action_code clues l r u d
+        unfolding action_code
+        last_line h k = simp (le-ltb _ _ few, ne_eqb _ _ some, ne_eqb _ _ not_two, eq-eqb _ _ h, eq-eqb _ _ k, ← es)
 
-        pub last_none : undecided ≡ 1 → (degree ≡ 1 → ⊥) → 6 + side ≡ action-code clues l r u d
-        unfolding action-code
-        last_none h k = simp (le-ltb _ _ few, ne_eqb _ _ some, ne_eqb _ _ not-two, eq-eqb _ _ h, ne_eqb _ _ k, ← es)
+        pub last_none : undecided ≡ 1 → (degree ≡ 1 → ⊥) → 6 + side ≡ action_code clues l r u d
+        unfolding action_code
+        last_none h k = simp (le-ltb _ _ few, ne_eqb _ _ some, ne_eqb _ _ not_two, eq-eqb _ _ h, ne_eqb _ _ k, ← es)
 
-        pub several-left : (undecided ≡ 1 → ⊥) → 0 ≡ action-code clues l r u d
-        unfolding action-code
-        several-left h = simp (le-ltb _ _ few, ne_eqb _ _ some, ne_eqb _ _ not-two, ne_eqb _ _ h)
+        pub several_left : (undecided ≡ 1 → ⊥) → 0 ≡ action_code clues l r u d
+        unfolding action_code
+        several_left h = simp (le-ltb _ _ few, ne_eqb _ _ some, ne_eqb _ _ not_two, ne_eqb _ _ h)

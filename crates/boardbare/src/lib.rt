@@ -1,9 +1,9 @@
 // The arrays of a bare board, from the sizes and a lent list of cells: a byte for each edge, an end number for each pad, and the kinds
 // of the pads. What they hold is said in specs/BareArrays.antt; that they show the model's bare board is proved in specs/BareView.antt.
 ghost use Rattle.std.specs.Prelude.{◌≡◌, true, false, ◌+◌, ◌*◌, ◌≤◌, ◌<◌, length, set};
-ghost use Rattle.rules.specs.Grid.{Size, Accepted, grid-of};
-ghost use Rattle.boardview.specs.View.{bytes-equal, undecided-side, action-code, action-entry};
-ghost use Rattle.boardbare.specs.BareArrays.{right-byte, down-byte, edge-byte, EdgesFrom, end-number-at, EndsFrom, CellsInRange, kind-byte, is-clue, is-taken, corner-test, barred-in, barred-below, bar-test, kind-from, TableFrom, AllKinds};
+ghost use Rattle.rules.specs.Grid.{Size, Accepted, grid_of};
+ghost use Rattle.boardview.specs.View.{bytes_equal, undecided_side, action_code, action_entry};
+ghost use Rattle.boardbare.specs.BareArrays.{right_byte, down_byte, edge_byte, EdgesFrom, end_number_at, EndsFrom, CellsInRange, kind_byte, is_clue_at, is_taken, corner_test, barred_in, barred_below, bar_test, kind_from, TableFrom, AllKinds};
 ghost use Rattle.boardbare.specs.BareView.{BareBoard};
 
 use boardparts::{BAR_LEFT, BAR_RIGHT, CORNER_LEFT, CORNER_RIGHT, TAKEN};
@@ -19,7 +19,7 @@ const NONE: u8 = Edge::NONE.0;
 // The byte of the edge to the right of a pad: undecided, or none in the last column and past the last pad.
 fn right_byte(width: usize, pads: usize, v: usize) -> u8
     requires { (0 < width) × (width ≤ 16) }
-    ensures { result ≡ right-byte width pads v }
+    ensures { result ≡ right_byte width pads v }
 {
     if v < pads {
         if v % width + 1 < width {
@@ -32,7 +32,7 @@ fn right_byte(width: usize, pads: usize, v: usize) -> u8
 // The byte of the edge downward: undecided, or none in the last row and past the last pad.
 fn down_byte(width: usize, pads: usize, v: usize) -> u8
     requires { (width ≤ 16) × (v < 512) }
-    ensures { result ≡ down-byte width pads v }
+    ensures { result ≡ down_byte width pads v }
 {
     if v + width < pads {
         return UNDECIDED;
@@ -43,7 +43,7 @@ fn down_byte(width: usize, pads: usize, v: usize) -> u8
 // The byte of a slot; 32 slots before the first edge hold none.
 fn edge_byte(width: usize, pads: usize, slot: usize) -> u8
     requires { (0 < width) × (width ≤ 16) × (slot < 1024) }
-    ensures { result ≡ edge-byte width pads slot }
+    ensures { result ≡ edge_byte width pads slot }
 {
     if slot < 32 {
         return NONE;
@@ -72,7 +72,7 @@ fn bare_edges(height: usize, width: usize) -> [u8; 1024]
 // The end number of one pad is stored: -v - 2 for a clue of value v, its own index for a blank pad and for a hole.
 fn put_bare_end(ends: &mut [i64; 512], cells: &[i64], v: usize)
     requires { (v < 512) × CellsInRange cells.now }
-    ensures { ends.new ≡ set ends.old v (end-number-at cells.now v) }
+    ensures { ends.new ≡ set ends.old v (end_number_at cells.now v) }
 {
     if v >= cells.len() {
         ends[v] = v as i64;
@@ -103,7 +103,7 @@ pub fn bare_ends(cells: &[i64]) -> [i64; 512]
 // Whether a pad is a clue: a blank pad and a hole are below 0.
 fn clue_at(cells: &[i64], v: usize) -> bool
     requires { v < length cells.now }
-    ensures { result ≡ is-clue cells.now v }
+    ensures { result ≡ is_clue_at cells.now v }
 {
     let code = cells[v];
     if code < 0 {
@@ -115,7 +115,7 @@ fn clue_at(cells: &[i64], v: usize) -> bool
 // Whether a pad is taken: a clue or a hole.
 fn taken_at(cells: &[i64], v: usize) -> bool
     requires { v < length cells.now }
-    ensures { result ≡ is-taken cells.now v }
+    ensures { result ≡ is_taken cells.now v }
 {
     let cell = cells[v];
     if cell == BLANK {
@@ -127,7 +127,7 @@ fn taken_at(cells: &[i64], v: usize) -> bool
 // Whether a pad has an edge downward and one to that side.
 fn has_corner(width: usize, pads: usize, right: bool, v: usize) -> bool
     requires { (0 < width) × (width ≤ 16) × (v < 256) }
-    ensures { result ≡ corner-test width pads right v }
+    ensures { result ≡ corner_test width pads right v }
 {
     if v + width >= pads {
         return false;
@@ -141,7 +141,7 @@ fn has_corner(width: usize, pads: usize, right: bool, v: usize) -> bool
 // Whether a pad is barred, by its byte.
 fn is_barred(kind: &[u8; 1024], v: usize, corner: u8, bar: u8) -> bool
     requires { v < 1024 }
-    ensures { result ≡ barred-in kind.now v corner bar }
+    ensures { result ≡ barred_in kind.now v corner bar }
 {
     if boardparts::has(kind, v, corner) {
         return boardparts::has(kind, v, bar);
@@ -152,7 +152,7 @@ fn is_barred(kind: &[u8; 1024], v: usize, corner: u8, bar: u8) -> bool
 // Whether the pad diagonally below on that side is barred.
 fn is_barred_below(kind: &[u8; 1024], width: usize, right: bool, v: usize) -> bool
     requires { (0 < width) × (width ≤ 16) × (v < 256) }
-    ensures { result ≡ barred-below kind.now width right v }
+    ensures { result ≡ barred_below kind.now width right v }
 {
     if right {
         return is_barred(kind, v + width + 1, CORNER_RIGHT, BAR_RIGHT);
@@ -163,7 +163,7 @@ fn is_barred_below(kind: &[u8; 1024], width: usize, right: bool, v: usize) -> bo
 // Whether a pad with a corner on that side is barred there.
 fn has_bar(kind: &[u8; 1024], width: usize, pads: usize, taken: bool, right: bool, v: usize) -> bool
     requires { (0 < width) × (width ≤ 16) × (v < 256) }
-    ensures { result ≡ bar-test kind.now width pads taken right v }
+    ensures { result ≡ bar_test kind.now width pads taken right v }
 {
     if !has_corner(width, pads, right, v) {
         return false;
@@ -183,7 +183,7 @@ fn kind_byte(
     corner_left: bool,
     taken: bool,
 ) -> u8
-    ensures { result ≡ kind-byte clue bar_right bar_left corner_right corner_left taken }
+    ensures { result ≡ kind_byte clue bar_right bar_left corner_right corner_left taken }
 {
     boardparts::one_if(clue)
         + BAR_RIGHT * boardparts::one_if(bar_right)
@@ -196,7 +196,7 @@ fn kind_byte(
 // The byte of a pad, from the bytes of the pads below it.
 fn pad_kind(kind: &[u8; 1024], width: usize, pads: usize, cells: &[i64], v: usize) -> u8
     requires { (0 < width) × (width ≤ 16) × (v < 256) × (v < length cells.now) }
-    ensures { result ≡ kind-from kind.now width pads cells.now v }
+    ensures { result ≡ kind_from kind.now width pads cells.now v }
 {
     let clue = clue_at(cells, v);
     let taken = taken_at(cells, v);
@@ -209,7 +209,7 @@ fn pad_kind(kind: &[u8; 1024], width: usize, pads: usize, cells: &[i64], v: usiz
 
 // How many of four bytes are this one.
 fn bytes_equal(left: u8, right: u8, up: u8, down: u8, byte: u8) -> u8
-    ensures { (result ≡ bytes-equal left right up down byte) × (result ≤ 4) }
+    ensures { (result ≡ bytes_equal left right up down byte) × (result ≤ 4) }
 {
     let first = boardparts::one_if(left == byte);
     let second = boardparts::one_if(right == byte);
@@ -220,7 +220,7 @@ fn bytes_equal(left: u8, right: u8, up: u8, down: u8, byte: u8) -> u8
 
 // The side of a pad's first undecided edge: 0 left, 1 right, 2 up, 3 down.
 fn undecided_side(left: u8, right: u8, up: u8) -> u8
-    ensures { (result ≡ undecided-side left right up) × (result ≤ 3) }
+    ensures { (result ≡ undecided_side left right up) × (result ≤ 3) }
 {
     if left == UNDECIDED {
         return 0;
@@ -238,7 +238,7 @@ fn undecided_side(left: u8, right: u8, up: u8) -> u8
 // 6 + a side none there.
 fn action_code(clue: u8, left: u8, right: u8, up: u8, down: u8) -> u8
     requires { clue ≤ 1 }
-    ensures { result ≡ action-code clue left right up down }
+    ensures { result ≡ action_code clue left right up down }
 {
     let degree = clue + bytes_equal(left, right, up, down, LINE);
     let undecided = bytes_equal(left, right, up, down, UNDECIDED);
@@ -267,7 +267,7 @@ fn action_code(clue: u8, left: u8, right: u8, up: u8, down: u8) -> u8
 // An entry of the pad check's table: the digits of the index are the bytes of the four edges and the clue.
 fn action_entry(i: usize) -> u8
     requires { i < 512 }
-    ensures { result ≡ action-entry i }
+    ensures { result ≡ action_entry i }
 {
     action_code(
         (i / 256) as u8,
@@ -319,7 +319,7 @@ pub struct Bare {
 // The arrays of the bare board of an accepted grid.
 pub fn bare_board(height: usize, width: usize, cells: &[i64]) -> Bare
     requires { Accepted height width cells.now }
-    ensures { BareBoard (grid-of height width cells.now) result.edges result.ends result.kind }
+    ensures { BareBoard (grid_of height width cells.now) result.edges result.ends result.kind }
 {
     let edges = bare_edges(height, width);
     let ends = bare_ends(cells);

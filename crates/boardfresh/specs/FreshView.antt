@@ -6,8 +6,8 @@ use Rattle.std.proofs.Math.Path.{ap}
 use Rattle.std.proofs.lemmas.Bool.{lt-leb}
 use Rattle.rules.specs.Grid.{Grid, pads}
 use Rattle.model.specs.Board.{State, bare, prepared, fresh}
-use Rattle.boardview.specs.View.{pick, Arrays, flag-in, view, grid-in, Kinds, Ready}
-use Rattle.boardview.specs.SameKinds.{Shows, shown-prepares}
+use Rattle.boardview.specs.View.{pick, Arrays, flag_in, view, grid_in, Kinds, Ready}
+use Rattle.boardview.specs.SameKinds.{Shows, shown_prepares}
 use Rattle.boardview.specs.Stores.{relogged}
 use Rattle.boardbare.specs.BareView.{BareBoard}
 use Rattle.boardfresh.specs.Shutting.{Shown}
@@ -20,13 +20,13 @@ restarted count = pick (ltb count 1024) 0 2048
 pub record FreshBoard (g : Grid) (edges : List ℕ) (ends : List ℤ) (kind : List ℕ) (count : ℕ) : Type 0 where
   pub kinds : Kinds kind
   pub told : Shows g kind
-  pub ready : (log : List ℤ) → length log ≡ 1440 → Ready (grid-in kind) (record { edges = edges; ends = ends; log = log; count = count })
+  pub ready : (log : List ℤ) → length log ≡ 1440 → Ready (grid_in kind) (record { edges = edges; ends = ends; log = log; count = count })
   pub shows : (log : List ℤ) → view (record { edges = edges; ends = ends; log = log; count = count }) ≡ fresh g
-  pub no-entries : count % 1024 ≡ 0
+  pub no_entries : count % 1024 ≡ 0
 
 record Restarted (count : ℕ) : Type 0 where
-  same_flag : flag-in (restarted count) ≡ flag-in count
-  in-mode : restarted count < 3072
+  same_flag : flag_in (restarted count) ≡ flag_in count
+  in_mode : restarted count < 3072
   empty : restarted count % 1024 ≡ 0
 
 restart : (count : ℕ) → Restarted count
@@ -34,39 +34,39 @@ unfolding restarted
 restart count = go (ltb count 1024) refl
   where
     go : (b : Bool) → ltb count 1024 ≡ b → Restarted count
-    go true h = record { same_flag = rw (h, lt-leb 1024 count (ltb-true count 1024 h)) refl; in-mode = rw h (omega arith); empty = rw h refl }
-    go false h = record { same_flag = rw (h, le-leb 1024 count (ltb-false count 1024 h)) refl; in-mode = rw h (omega arith); empty = rw h refl }
+    go true h = record { same_flag = rw (h, lt-leb 1024 count (ltb-true count 1024 h)) refl; in_mode = rw h (omega arith); empty = rw h refl }
+    go false h = record { same_flag = rw (h, le-leb 1024 count (ltb-false count 1024 h)) refl; in_mode = rw h (omega arith); empty = rw h refl }
 
 -- the arrays with a new log
 module _ (g : Grid) (s : Arrays) (log : List ℤ) where
   abbrev anew : Arrays
   anew = record { edges = s.edges; ends = s.ends; log = log; count = restarted s.count }
 
-  view-anew : view anew ≡ view s
+  view_anew : view anew ≡ view s
   unfolding view
-  view-anew = λ i. record { edge = (view s).edge; end = (view s).end; flag = (restart s.count).same_flag i }
+  view_anew = λ i. record { edge = (view s).edge; end = (view s).end; flag = (restart s.count).same_flag i }
 
-  ready-anew : Ready g s → length log ≡ 1440 → Ready g anew
-  ready-anew ready long = let r = restart s.count in
-      relogged g s log (restarted s.count) ready long r.in-mode (omega (arith, r.empty)) (λ k below. absurd (omega (arith, r.empty)))
+  ready_anew : Ready g s → length log ≡ 1440 → Ready g anew
+  ready_anew ready long = let r = restart s.count in
+      relogged g s log (restarted s.count) ready long r.in_mode (omega (arith, r.empty)) (λ k below. absurd (omega (arith, r.empty)))
 
 module _ (g : Grid) (edges : List ℕ) (ends : List ℤ) (kind : List ℕ) (made : BareBoard g edges ends kind) (log : List ℤ) (s : Arrays)
-    (shut : Shown (grid-in kind) s (prepared (grid-in kind) (pads (grid-in kind)) 0 (view (record { edges = edges; ends = ends; log = log; count = 0 })))) where
-  same-pads : pads (grid-in kind) ≡ pads g
-  same-pads = λ i. made.told.height i * made.told.width i
+    (shut : Shown (grid_in kind) s (prepared (grid_in kind) (pads (grid_in kind)) 0 (view (record { edges = edges; ends = ends; log = log; count = 0 })))) where
+  same_pads : pads (grid_in kind) ≡ pads g
+  same_pads = λ i. made.told.height i * made.told.width i
 
-  shows-fresh : view s ≡ fresh g
+  shows_fresh : view s ≡ fresh g
   unfolding fresh
-  shows-fresh = shut.shows
-      ∙ ap (λ (S : State). prepared (grid-in kind) (pads (grid-in kind)) 0 S) (made.shows log)
-      ∙ shown-prepares made.told (pads (grid-in kind)) 0 (bare g)
-      ∙ ap (λ (n : ℕ). prepared g n 0 (bare g)) same-pads
+  shows_fresh = shut.shows
+      ∙ ap (λ (S : State). prepared (grid_in kind) (pads (grid_in kind)) 0 S) (made.shows log)
+      ∙ shown_prepares made.told (pads (grid_in kind)) 0 (bare g)
+      ∙ ap (λ (n : ℕ). prepared g n 0 (bare g)) same_pads
 
-  pub fresh-made : FreshBoard g s.edges s.ends kind (restarted s.count)
-  fresh-made = record {
+  pub fresh_made : FreshBoard g s.edges s.ends kind (restarted s.count)
+  fresh_made = record {
     kinds = made.kinds;
     told = made.told;
-    ready = λ other long. ready-anew (grid-in kind) s other shut.ready long;
-    shows = λ other. view-anew (grid-in kind) s other ∙ shows-fresh;
-    no-entries = (restart s.count).empty;
+    ready = λ other long. ready_anew (grid_in kind) s other shut.ready long;
+    shows = λ other. view_anew (grid_in kind) s other ∙ shows_fresh;
+    no_entries = (restart s.count).empty;
   }

@@ -2,11 +2,11 @@
 // hole has been put to a decision as none, holes in index order, each left, right, up, down, even once the flag is set. The log begins
 // anew after that, so nothing can be undone behind it. That they show the model's fresh board is proved in specs/FreshView.antt.
 ghost use Rattle.std.specs.Prelude.{◌≡◌, ℕ, ◌+◌, ◌*◌, ◌-◌, ◌≤◌, ◌<◌, length};
-ghost use Rattle.rules.specs.Grid.{Accepted, grid-of, pads};
-ghost use Rattle.model.specs.PadTests.{isHole};
+ghost use Rattle.rules.specs.Grid.{Accepted, grid_of, pads};
+ghost use Rattle.model.specs.PadTests.{is_hole};
 ghost use Rattle.model.specs.Board.{shut_at, prepared};
-ghost use Rattle.boardview.specs.View.{grid-in, Kinds, Ready, view};
-ghost use Rattle.boardfresh.specs.Shutting.{Shown, shut-slot};
+ghost use Rattle.boardview.specs.View.{grid_in, Kinds, Ready, view};
+ghost use Rattle.boardfresh.specs.Shutting.{Shown, shut_slot};
 ghost use Rattle.boardfresh.specs.FreshView.{restarted, FreshBoard};
 
 use boardparts::{CLUE, ENDED, FLAGGED, TAKEN};
@@ -18,7 +18,7 @@ const NONE: u8 = Edge::NONE.0;
 // Whether a pad is a hole: taken, and no clue.
 fn is_hole(kind: &[u8; 1024], v: usize) -> bool
     requires { v < 256 }
-    ensures { result ≡ isHole ((grid-in kind.now).cell v) }
+    ensures { result ≡ is_hole ((grid_in kind.now).cell v) }
 {
     if boardparts::has(kind, v, CLUE) {
         return false;
@@ -35,9 +35,9 @@ fn shut_edge(
     slot: usize,
     count: usize,
 ) -> usize
-    requires { (slot < 1024) × Kinds kind.now × Ready (grid-in kind.now) (record { edges = edges.now; ends = ends.old; log = log.old; count = count }) }
-    ensures { Shown (grid-in kind.now) (record { edges = edges.exit.now; ends = ends.new; log = log.new; count = result })
-        (shut-slot (grid-in kind.now) slot (view (record { edges = edges.entry.now; ends = ends.old; log = log.old; count = count }))) }
+    requires { (slot < 1024) × Kinds kind.now × Ready (grid_in kind.now) (record { edges = edges.now; ends = ends.old; log = log.old; count = count }) }
+    ensures { Shown (grid_in kind.now) (record { edges = edges.exit.now; ends = ends.new; log = log.new; count = result })
+        (shut_slot (grid_in kind.now) slot (view (record { edges = edges.entry.now; ends = ends.old; log = log.old; count = count }))) }
 {
     if edges[slot] == NONE {
         return count;
@@ -54,9 +54,9 @@ fn shut_pad(
     v: usize,
     count: usize,
 ) -> usize
-    requires { (v < pads (grid-in kind.now)) × Kinds kind.now × Ready (grid-in kind.now) (record { edges = edges.now; ends = ends.old; log = log.old; count = count }) }
-    ensures { Shown (grid-in kind.now) (record { edges = edges.exit.now; ends = ends.new; log = log.new; count = result })
-        (shut_at (grid-in kind.now) v (view (record { edges = edges.entry.now; ends = ends.old; log = log.old; count = count }))) }
+    requires { (v < pads (grid_in kind.now)) × Kinds kind.now × Ready (grid_in kind.now) (record { edges = edges.now; ends = ends.old; log = log.old; count = count }) }
+    ensures { Shown (grid_in kind.now) (record { edges = edges.exit.now; ends = ends.new; log = log.new; count = result })
+        (shut_at (grid_in kind.now) v (view (record { edges = edges.entry.now; ends = ends.old; log = log.old; count = count }))) }
 {
     if !is_hole(kind, v) {
         return count;
@@ -75,9 +75,9 @@ fn shut_holes(
     log: &mut [i64; 1440],
     kind: &[u8; 1024],
 ) -> usize
-    requires { Kinds kind.now × Ready (grid-in kind.now) (record { edges = edges.now; ends = ends.old; log = log.old; count = 0 }) }
-    ensures { Shown (grid-in kind.now) (record { edges = edges.exit.now; ends = ends.new; log = log.new; count = result })
-        (prepared (grid-in kind.now) (pads (grid-in kind.now)) 0 (view (record { edges = edges.entry.now; ends = ends.old; log = log.old; count = 0 }))) }
+    requires { Kinds kind.now × Ready (grid_in kind.now) (record { edges = edges.now; ends = ends.old; log = log.old; count = 0 }) }
+    ensures { Shown (grid_in kind.now) (record { edges = edges.exit.now; ends = ends.new; log = log.new; count = result })
+        (prepared (grid_in kind.now) (pads (grid_in kind.now)) 0 (view (record { edges = edges.entry.now; ends = ends.old; log = log.old; count = 0 }))) }
 {
     let pads = boardparts::height(kind) * boardparts::width(kind);
     let mut count = 0;
@@ -111,7 +111,7 @@ pub struct Fresh {
 // The arrays of the fresh board of an accepted grid.
 pub fn fresh_board(height: usize, width: usize, cells: &[i64]) -> Fresh
     requires { Accepted height width cells.now }
-    ensures { FreshBoard (grid-of height width cells.now) result.edges result.ends result.kind result.count }
+    ensures { FreshBoard (grid_of height width cells.now) result.edges result.ends result.kind result.count }
 {
     let bare = boardbare::bare_board(height, width, cells);
     let mut edges = bare.edges;

@@ -3,9 +3,9 @@
 ghost use Rattle.std.specs.Prelude.{◌≡◌, true, false, ℕ, ◌+◌, ◌*◌, ◌-◌, ◌/◌, ◌%◌, ◌≤◌, ◌<◌, get_or, set, length, eqb, ltb, pos};
 ghost use Rattle.rules.specs.Drawing.{num};
 ghost use Rattle.model.specs.JoinedEnds.{is_through, unjoinable};
-ghost use Rattle.boardview.specs.View.{pick, stopped, ended, going, end-at, has-bit, grid-in, second-pad, joined, pad-number, code-number, rival, keeps-apart, clue-apart, slot-around, past-around, action-around, Kinds};
-ghost use Rattle.boardview.specs.Actions.{action-index};
-ghost use Rattle.boardview.specs.Unwind.{log-stored, log-joined, LineBegun};
+ghost use Rattle.boardview.specs.View.{pick, stopped, ended, going, end_at, has_bit, grid_in, second_pad, joined, pad_number, code_number, rival, keeps_apart, clue_apart, slot_around, past_around, action_around, Kinds};
+ghost use Rattle.boardview.specs.Actions.{action_index};
+ghost use Rattle.boardview.specs.Unwind.{log_stored, log_joined, LineBegun};
 
 use grid::Edge;
 
@@ -45,14 +45,14 @@ pub fn wide(byte: u8) -> usize
 
 // The number of rows, which the kinds hold behind the pads.
 pub fn height(kind: &[u8; 1024]) -> usize
-    ensures { result ≡ (grid-in kind.now).height }
+    ensures { result ≡ (grid_in kind.now).height }
 {
     wide(kind[510])
 }
 
 // The number of columns.
 pub fn width(kind: &[u8; 1024]) -> usize
-    ensures { result ≡ (grid-in kind.now).width }
+    ensures { result ≡ (grid_in kind.now).width }
 {
     wide(kind[511])
 }
@@ -98,7 +98,7 @@ pub fn rest(action: usize, count: usize) -> usize
 // A fact of a pad, by its bit.
 pub fn has(kind: &[u8; 1024], v: usize, bit: u8) -> bool
     requires { v < 1024 }
-    ensures { result ≡ has-bit kind.now v bit }
+    ensures { result ≡ has_bit kind.now v bit }
 {
     kind[v] & bit != 0
 }
@@ -106,7 +106,7 @@ pub fn has(kind: &[u8; 1024], v: usize, bit: u8) -> bool
 // The slot if the pad has the bit, else slot 0, which holds none for ever.
 pub fn slot_where(kind: &[u8; 1024], v: usize, bit: u8, slot: usize) -> usize
     requires { v < 1024 }
-    ensures { result ≡ pick (has-bit kind.now v bit) slot 0 }
+    ensures { result ≡ pick (has_bit kind.now v bit) slot 0 }
 {
     if has(kind, v, bit) {
         return slot;
@@ -125,7 +125,7 @@ pub fn first_pad(slot: usize) -> usize
 // Its second pad, to the right or below.
 pub fn second_pad(slot: usize, width: usize) -> usize
     requires { (32 ≤ slot) × (slot < 1024) × (width ≤ 16) }
-    ensures { result ≡ second-pad width slot }
+    ensures { result ≡ second_pad width slot }
 {
     if slot % 2 == 0 {
         return slot / 2 - 15;
@@ -136,7 +136,7 @@ pub fn second_pad(slot: usize, width: usize) -> usize
 // The pad that a pad's end names, or 512.
 pub fn end_pad(ends: &[i64; 512], v: usize) -> usize
     requires { (v < 512) × (length ends.now ≡ 512) }
-    ensures { result ≡ pad-number (end-at ends.now v) }
+    ensures { result ≡ pad_number (end_at ends.now v) }
 {
     let a = ends[v];
     if a < 0 {
@@ -148,7 +148,7 @@ pub fn end_pad(ends: &[i64; 512], v: usize) -> usize
 // 1 more than the code of the clue that a pad's end names, or 0.
 pub fn end_code(ends: &[i64; 512], v: usize) -> usize
     requires { (v < 512) × (length ends.now ≡ 512) }
-    ensures { result ≡ code-number (end-at ends.now v) }
+    ensures { result ≡ code_number (end_at ends.now v) }
 {
     let a = ends[v];
     if a < 0 {
@@ -160,7 +160,7 @@ pub fn end_code(ends: &[i64; 512], v: usize) -> usize
 // A line passes through the pad.
 fn passed(ends: &[i64; 512], v: usize) -> bool
     requires { (v < 512) × (length ends.now ≡ 512) }
-    ensures { result ≡ is_through (end-at ends.now v) }
+    ensures { result ≡ is_through (end_at ends.now v) }
 {
     let a = ends[v];
     if a == -1 {
@@ -182,7 +182,7 @@ fn rivals(a: usize, b: usize) -> bool
 // Step c: the line cannot be, by the ends of its pads.
 pub fn cannot_join(ends: &[i64; 512], v: usize, q: usize) -> bool
     requires { (v < 512) × (q < 512) × (length ends.now ≡ 512) }
-    ensures { result ≡ unjoinable (end-at ends.now v) (end-at ends.now q) q }
+    ensures { result ≡ unjoinable (end_at ends.now v) (end_at ends.now q) q }
 {
     if passed(ends, v) {
         return true;
@@ -200,7 +200,7 @@ pub fn cannot_join(ends: &[i64; 512], v: usize, q: usize) -> bool
 // Stores the state of an edge, and an entry of the log for it.
 pub fn store(edges: &mut [u8; 1024], log: &mut [i64; 1440], slot: usize, state: u8, count: usize)
     requires { (slot < 1024) × (count % 1024 < 480) }
-    ensures { (edges.new ≡ set edges.old slot state) × (log.new ≡ log-stored log.old (count % 1024) slot) }
+    ensures { (edges.new ≡ set edges.old slot state) × (log.new ≡ log_stored log.old (count % 1024) slot) }
 {
     let k = 3 * (count % FLAGGED);
     edges[slot] = state;
@@ -211,7 +211,7 @@ pub fn store(edges: &mut [u8; 1024], log: &mut [i64; 1440], slot: usize, state: 
 // Stores an entry of the log for a line that joins the chains of pads v and q.
 fn log_line(ends: &[i64; 512], log: &mut [i64; 1440], slot: usize, v: usize, q: usize, count: usize)
     requires { (slot < 1024) × (v < 512) × (q < 512) × (count % 1024 < 480) × (length ends.now ≡ 512) }
-    ensures { log.new ≡ log-joined log.old (count % 1024) slot (get_or ends.now v (pos v)) (get_or ends.now q (pos q)) }
+    ensures { log.new ≡ log_joined log.old (count % 1024) slot (get_or ends.now v (pos v)) (get_or ends.now q (pos q)) }
 {
     let k = 3 * (count % FLAGGED);
     log[k] = slot as i64;
@@ -272,7 +272,7 @@ pub fn begin_line(
 // The edge at a slot is to be none, since it leads to a pad whose end is of another clue than `code`. `past` is 16 more than that pad.
 fn keeps_apart(edges: &[u8; 1024], ends: &[i64; 512], code: usize, slot: usize, past: usize) -> bool
     requires { (slot < 1024) × (past < 528) × (get_or edges.now slot 0 ≡ 0 → 16 ≤ past) × (length ends.now ≡ 512) }
-    ensures { result ≡ keeps-apart edges.now ends.now code slot (past - 16) }
+    ensures { result ≡ keeps_apart edges.now ends.now code slot (past - 16) }
 {
     if edges[slot] == UNDECIDED {
         return rivals(code, end_code(ends, past - 16));
@@ -290,7 +290,7 @@ pub fn slot_apart(
     count: usize,
 ) -> usize
     requires { (slot < 1024) × (past < 528) × (get_or edges.now slot 0 ≡ 0 → 16 ≤ past) × (length ends.now ≡ 512) }
-    ensures { (result ≡ pick (ltb count 2048) (pick (keeps-apart edges.now ends.now code slot (past - 16)) slot 0) 0) × (result < 1024) }
+    ensures { (result ≡ pick (ltb count 2048) (pick (keeps_apart edges.now ends.now code slot (past - 16)) slot 0) 0) × (result < 1024) }
 {
     if count < ENDED {
         if keeps_apart(edges, ends, code, slot, past) {
@@ -314,7 +314,7 @@ pub fn count_after(slot: usize, before: usize, after: usize) -> usize
 // One of the four edges at a pad is to be none.
 fn some_apart(edges: &[u8; 1024], ends: &[i64; 512], width: usize, v: usize) -> bool
     requires { (v < 256) × (2 ≤ width) × (width ≤ 16) × (length ends.now ≡ 512) × (get_or edges.now (30 + 2 * v) 0 ≡ 0 → 1 ≤ v) × (get_or edges.now (33 + 2 * v - 2 * width) 0 ≡ 0 → width ≤ v) }
-    ensures { result ≡ clue-apart edges.now ends.now width v }
+    ensures { result ≡ clue_apart edges.now ends.now width v }
 {
     let code = end_code(ends, v);
     if code == 0 {
@@ -335,7 +335,7 @@ fn some_apart(edges: &[u8; 1024], ends: &[i64; 512], width: usize, v: usize) -> 
 // Behind the last of a pad's four sides if none of its edges is to be none, else the first side.
 pub fn first_side(edges: &[u8; 1024], ends: &[i64; 512], width: usize, v: usize) -> usize
     requires { (v < 256) × (2 ≤ width) × (width ≤ 16) × (length ends.now ≡ 512) × (get_or edges.now (30 + 2 * v) 0 ≡ 0 → 1 ≤ v) × (get_or edges.now (33 + 2 * v - 2 * width) 0 ≡ 0 → width ≤ v) }
-    ensures { result ≡ pick (clue-apart edges.now ends.now width v) 0 4 }
+    ensures { result ≡ pick (clue_apart edges.now ends.now width v) 0 4 }
 {
     if some_apart(edges, ends, width, v) {
         return 0;
@@ -346,7 +346,7 @@ pub fn first_side(edges: &[u8; 1024], ends: &[i64; 512], width: usize, v: usize)
 // The slot of the edge on a side of a pad: 0 left, 1 right, 2 up, 3 down.
 pub fn slot_around(width: usize, v: usize, side: usize) -> usize
     requires { (v < 256) × (width ≤ 16) }
-    ensures { (result ≡ slot-around width v side) × (result < 1024) }
+    ensures { (result ≡ slot_around width v side) × (result < 1024) }
 {
     if side == 0 {
         return 30 + 2 * v;
@@ -363,7 +363,7 @@ pub fn slot_around(width: usize, v: usize, side: usize) -> usize
 // 16 more than the pad beyond that edge.
 pub fn past_around(width: usize, v: usize, side: usize) -> usize
     requires { (v < 256) × (width ≤ 16) }
-    ensures { (result ≡ past-around width v side) × (result < 528) }
+    ensures { (result ≡ past_around width v side) × (result < 528) }
 {
     if side == 0 {
         return 15 + v;
@@ -390,7 +390,7 @@ pub fn one_if(test: bool) -> u8
 // The index of a pad's code in the table of the pad check: the bytes of its four edges and the clue are the digits.
 fn action_index(edges: &[u8; 1024], kind: &[u8; 1024], width: usize, v: usize) -> usize
     requires { (v < 256) × (width ≤ 16) × ((n : ℕ) → get_or edges.now n 2 ≤ 2) }
-    ensures { (result ≡ action-index kind.now edges.now width v) × (result < 512) }
+    ensures { (result ≡ action_index kind.now edges.now width v) × (result < 512) }
 {
     let left = wide(edges[30 + 2 * v]);
     let right = wide(edges[32 + 2 * v]);
@@ -403,7 +403,7 @@ fn action_index(edges: &[u8; 1024], kind: &[u8; 1024], width: usize, v: usize) -
 // What the pad check does last, from the table behind the kinds: 0 nothing, 1 the flag, a slot: a line there, 1024 + a slot: none there.
 pub fn action(edges: &[u8; 1024], kind: &[u8; 1024], width: usize, v: usize) -> usize
     requires { (v < 256) × (width ≤ 16) × ((n : ℕ) → get_or edges.now n 2 ≤ 2) × Kinds kind.now }
-    ensures { (result ≡ action-around kind.now edges.now width v) × (result < 2048) }
+    ensures { (result ≡ action_around kind.now edges.now width v) × (result < 2048) }
 {
     let code = wide(kind[512 + action_index(edges, kind, width, v)]);
     if code < 2 {

@@ -1,12 +1,12 @@
 // The record of a board's edges, the field row by row, laid out once: for the search and for what a board shows. Which pads a place joins
 // is told by grid::pads_at; the byte of an edge stands at the slot of these pads. What the record is stands in boardview's ShownRecord.antt.
 ghost use Rattle.std.specs.Prelude.{◌≡◌, ℕ, ◌+◌, ◌*◌, ◌≤◌, ◌<◌, length, get_or};
-ghost use Rattle.rules.specs.Grid.{first, field-side, places, place_at};
-ghost use Rattle.rules.specs.Record.{byte-at-place, record-lines};
+ghost use Rattle.rules.specs.Grid.{first, field_side, places, place_at};
+ghost use Rattle.rules.specs.Record.{byte_at_place, record_lines};
 ghost use Rattle.grid.specs.PadsAt.{place_of, IfEdge};
-ghost use Rattle.boardview.specs.View.{grid-in, Kinds};
-ghost use Rattle.model.specs.PutBytes.{put-bytes};
-ghost use Rattle.boardview.specs.ShownRecord.{bytes-shown, row-shown, record-shown, slot-of-place};
+ghost use Rattle.boardview.specs.View.{grid_in, Kinds};
+ghost use Rattle.model.specs.PutBytes.{put_bytes};
+ghost use Rattle.boardview.specs.ShownRecord.{bytes_shown, row_shown, record_shown, slot_of_place};
 
 use grid::{Edge, Pads};
 
@@ -18,7 +18,7 @@ const LINE: u8 = Edge::LINE.0;
 // The number of places, which is the length of a record.
 pub fn record_size(kind: &[u8; 1024]) -> usize
     requires { Kinds kind.now }
-    ensures { result ≡ places (grid-in kind.now).height (grid-in kind.now).width }
+    ensures { result ≡ places (grid_in kind.now).height (grid_in kind.now).width }
 {
     (2 * boardparts::height(kind) - 1) * (2 * boardparts::width(kind) - 1)
 }
@@ -26,7 +26,7 @@ pub fn record_size(kind: &[u8; 1024]) -> usize
 // The slot of the edge between two pads; 0 where there is no edge.
 pub fn slot_of(pads: Pads) -> usize
     requires { IfEdge (place_of pads) (λ e. first e < 256) }
-    ensures { (result ≡ slot-of-place (place_of pads)) × (result < 1024) }
+    ensures { (result ≡ slot_of_place (place_of pads)) × (result < 1024) }
 {
     match pads {
         Pads::Beside(first, _) => 32 + 2 * first,
@@ -38,7 +38,7 @@ pub fn slot_of(pads: Pads) -> usize
 // The byte at a place of the record; a place that is no edge holds undecided.
 fn byte_at(edges: &[u8; 1024], width: usize, row: usize, column: usize) -> u8
     requires { (width ≤ 16) × (row < 31) × (column < 31) × (length edges.now ≡ 1024) × ((n : ℕ) → get_or edges.now n 2 ≤ 2) }
-    ensures { result ≡ byte-at-place (bytes-shown edges.now) (place_at width row column) }
+    ensures { result ≡ byte_at_place (bytes_shown edges.now) (place_at width row column) }
 {
     let slot = slot_of(grid::pads_at(width, row, column));
     if slot == 0 {
@@ -49,9 +49,9 @@ fn byte_at(edges: &[u8; 1024], width: usize, row: usize, column: usize) -> u8
 
 // Puts one row of the record into the buffer from an index on and counts its lines.
 fn put_row(edges: &[u8; 1024], width: usize, row: usize, buffer: &mut [u8], at: usize) -> usize
-    requires { (2 ≤ width) × (width ≤ 16) × (row < 31) × (length edges.now ≡ 1024) × ((n : ℕ) → get_or edges.now n 2 ≤ 2) × (at + field-side width ≤ length buffer.old) }
-    ensures { (buffer.new ≡ put-bytes at (row-shown width edges.now row) buffer.old)
-        × (result ≡ record-lines (row-shown width edges.now row)) }
+    requires { (2 ≤ width) × (width ≤ 16) × (row < 31) × (length edges.now ≡ 1024) × ((n : ℕ) → get_or edges.now n 2 ≤ 2) × (at + field_side width ≤ length buffer.old) }
+    ensures { (buffer.new ≡ put_bytes at (row_shown width edges.now row) buffer.old)
+        × (result ≡ record_lines (row_shown width edges.now row)) }
 {
     let side = 2 * width - 1;
     let mut lines: usize = 0;
@@ -68,9 +68,9 @@ fn put_row(edges: &[u8; 1024], width: usize, row: usize, buffer: &mut [u8], at: 
 // Puts the record into the buffer from an index on, row by row, and counts its lines.
 pub fn put_record(edges: &[u8; 1024], kind: &[u8; 1024], buffer: &mut [u8], at: usize) -> usize
     requires { Kinds kind.now × (length edges.now ≡ 1024) × ((n : ℕ) → get_or edges.now n 2 ≤ 2)
-        × (at + places (grid-in kind.now).height (grid-in kind.now).width ≤ length buffer.old) }
-    ensures { (buffer.new ≡ put-bytes at (record-shown (grid-in kind.now) edges.now) buffer.old)
-        × (result ≡ record-lines (record-shown (grid-in kind.now) edges.now)) }
+        × (at + places (grid_in kind.now).height (grid_in kind.now).width ≤ length buffer.old) }
+    ensures { (buffer.new ≡ put_bytes at (record_shown (grid_in kind.now) edges.now) buffer.old)
+        × (result ≡ record_lines (record_shown (grid_in kind.now) edges.now)) }
 {
     let width = boardparts::width(kind);
     let rows = 2 * boardparts::height(kind) - 1;

@@ -2,7 +2,7 @@
 // The result equals boardview's unwinding of the log (View.antt, unwound); with SINCE this is the state before the entries were made.
 ghost use Rattle.std.specs.Prelude.{◌≡◌, ℕ, ◌+◌, ◌*◌, ◌-◌, ◌≤◌, ◌<◌, get_or, length, pos};
 ghost use Rattle.rules.specs.Grid.{pads};
-ghost use Rattle.boardview.specs.View.{end_of, grid-in, Kinds, Entry, pad-number, slot-logged, unjoined, undone-one, unwound};
+ghost use Rattle.boardview.specs.View.{end_of, grid_in, Kinds, Entry, pad_number, slot_logged, unjoined, undone_one, unwound};
 
 use grid::Edge;
 
@@ -12,7 +12,7 @@ const UNDECIDED: u8 = Edge::UNDECIDED.0;
 // The pad that the number at an index of the log names, or 512.
 fn logged_pad(log: &[i64; 1440], i: usize) -> usize
     requires { i < 1440 }
-    ensures { result ≡ pad-number (end_of (get_or log.now i (pos 0))) }
+    ensures { result ≡ pad_number (end_of (get_or log.now i (pos 0))) }
 {
     let a = log[i];
     if a < 0 {
@@ -51,8 +51,8 @@ fn unjoin(ends: &mut [i64; 512], log: &[i64; 1440], k: usize, v: usize, q: usize
 
 // The slot of an entry.
 fn logged_slot(log: &[i64; 1440], k: usize) -> usize
-    requires { (k < 480) × (get_or log.now (3 * k) (pos 0) ≡ pos (slot-logged log.now k)) }
-    ensures { result ≡ slot-logged log.now k }
+    requires { (k < 480) × (get_or log.now (3 * k) (pos 0) ≡ pos (slot_logged log.now k)) }
+    ensures { result ≡ slot_logged log.now k }
 {
     log[3 * k] as usize
 }
@@ -65,8 +65,8 @@ fn undo_one(
     kind: &[u8; 1024],
     k: usize,
 )
-    requires { (k < 480) × (length ends.old ≡ 512) × Kinds kind.now × (pads (grid-in kind.now) ≤ 256) × Entry (grid-in kind.now) log.now k }
-    ensures { (edges.new, ends.new) ≡ undone-one (grid-in kind.now).width log.now k (edges.old, ends.old) }
+    requires { (k < 480) × (length ends.old ≡ 512) × Kinds kind.now × (pads (grid_in kind.now) ≤ 256) × Entry (grid_in kind.now) log.now k }
+    ensures { (edges.new, ends.new) ≡ undone_one (grid_in kind.now).width log.now k (edges.old, ends.old) }
 {
     let slot = logged_slot(log, k);
     let v = boardparts::first_pad(slot);
@@ -84,8 +84,8 @@ pub fn undo(
     from: usize,
     to: usize,
 )
-    requires { (to ≤ from) × (from ≤ 480) × (length ends.old ≡ 512) × Kinds kind.now × (pads (grid-in kind.now) ≤ 256) × ((k : ℕ) → k < from → Entry (grid-in kind.now) log.now k) }
-    ensures { (edges.new, ends.new) ≡ unwound (grid-in kind.now).width log.now to (from - to) (edges.old, ends.old) }
+    requires { (to ≤ from) × (from ≤ 480) × (length ends.old ≡ 512) × Kinds kind.now × (pads (grid_in kind.now) ≤ 256) × ((k : ℕ) → k < from → Entry (grid_in kind.now) log.now k) }
+    ensures { (edges.new, ends.new) ≡ unwound (grid_in kind.now).width log.now to (from - to) (edges.old, ends.old) }
 {
     let mut k = from;
     while to < k {

@@ -5,23 +5,23 @@ use Rattle.std.proofs.Common.{sym, ap, ◌∙◌, not-suc-le-zero, le_of_suc-le-
 use Rattle.std.proofs.lemmas.Bool.{eqb-false}
 use Rattle.rules.specs.Grid.{Edge, right, down, Grid}
 use Rattle.rules.specs.Tests.{both}
-use Rattle.model.specs.PadTests.{on-board}
-use Rattle.model.specs.Board.{undecided, line, none, is_line, isUndecided, sameEdge, set-edge}
-use Rattle.boardview.specs.View.{Arrays, slot, edge_of, slot-on, state-of, view, pick, undecided-in, flag-in, end-at}
+use Rattle.model.specs.PadTests.{on_board}
+use Rattle.model.specs.Board.{undecided, line, none, is_line, is_undecided, same_edge, set_edge}
+use Rattle.boardview.specs.View.{Arrays, slot, edge_of, slot_on, state_of, view, pick, undecided_in, flag_in, end_at}
 
 -- BYTES
-pub undecided-byte-test : (b : ℕ) → isUndecided (state-of b) ≡ eqb b 0
-unfolding state-of
-undecided-byte-test b = go (eqb b 0) (eqb b 1)
+pub undecided_byte_test : (b : ℕ) → is_undecided (state_of b) ≡ eqb b 0
+unfolding state_of
+undecided_byte_test b = go (eqb b 0) (eqb b 1)
   where
-    go : (x y : Bool) → isUndecided (pick x undecided (pick y line none)) ≡ x
+    go : (x y : Bool) → is_undecided (pick x undecided (pick y line none)) ≡ x
     go true y = refl
     go false true = refl
     go false false = refl
 
-pub line-byte-test : (b : ℕ) → is_line (state-of b) ≡ eqb b 1
-unfolding state-of
-line-byte-test b = go (eqb b 0) refl (eqb b 1) refl
+pub line_byte_test : (b : ℕ) → is_line (state_of b) ≡ eqb b 1
+unfolding state_of
+line_byte_test b = go (eqb b 0) refl (eqb b 1) refl
   where
     go : (x : Bool) → eqb b 0 ≡ x → (y : Bool) → eqb b 1 ≡ y → is_line (pick x undecided (pick y line none)) ≡ y
     go true p true q = absurd (omega (arith, eqb-true b 0 p, eqb-true b 1 q))
@@ -30,23 +30,23 @@ line-byte-test b = go (eqb b 0) refl (eqb b 1) refl
     go false p false q = refl
 
 -- SLOTS
-pub slot-of-edge : (s : ℕ) → 32 ≤ s → slot (edge_of s) ≡ s
+pub slot_of_edge : (s : ℕ) → 32 ≤ s → slot (edge_of s) ≡ s
 unfolding edge_of
-slot-of-edge s h = go (eqb (s % 2) 0) refl
+slot_of_edge s h = go (eqb (s % 2) 0) refl
   where
     go : (b : Bool) → eqb (s % 2) 0 ≡ b → slot (pick b (right (s / 2 - 16)) (down (s / 2 - 16))) ≡ s
     go true p = omega (arith, eqb-true (s % 2) 0 p)
     go false p = omega (arith, eqb-false (s % 2) 0 p)
 
-pub right-slot : (v : ℕ) → edge_of (32 + 2 * v) ≡ right v
+pub right_slot : (v : ℕ) → edge_of (32 + 2 * v) ≡ right v
 unfolding edge_of
-right-slot v = rw (eq-eqb ((32 + 2 * v) % 2) 0 (omega arith)) (ap right (omega arith))
+right_slot v = rw (eq-eqb ((32 + 2 * v) % 2) 0 (omega arith)) (ap right (omega arith))
 
-pub down-slot : (v : ℕ) → edge_of (33 + 2 * v) ≡ down v
+pub down_slot : (v : ℕ) → edge_of (33 + 2 * v) ≡ down v
 unfolding edge_of
-down-slot v = rw (ne_eqb ((33 + 2 * v) % 2) 0 (omega arith)) (ap down (omega arith))
+down_slot v = rw (ne_eqb ((33 + 2 * v) % 2) 0 (omega arith)) (ap down (omega arith))
 
-pub slots_apart : (x e : Edge) → eqb (slot x) (slot e) ≡ sameEdge x e
+pub slots_apart : (x e : Edge) → eqb (slot x) (slot e) ≡ same_edge x e
 slots_apart (right a) (right b) = go (eqb a b) refl
   where
     go : (t : Bool) → eqb a b ≡ t → eqb (32 + 2 * a) (32 + 2 * b) ≡ t
@@ -61,54 +61,54 @@ slots_apart (down a) (down b) = go (eqb a b) refl
     go false p = ne_eqb (33 + 2 * a) (33 + 2 * b) (omega (arith, eqb-false a b p))
 
 -- a slot of an edge of the board
-pub edge_on : (g : Grid) (e : Edge) → slot-on g (slot e) ≡ on-board g e
-unfolding slot-on
-edge_on g (right v) = rw (right-slot v, le-leb 32 (32 + 2 * v) (omega arith)) refl
-edge_on g (down v) = rw (down-slot v, le-leb 32 (33 + 2 * v) (omega arith)) refl
+pub edge_on : (g : Grid) (e : Edge) → slot_on g (slot e) ≡ on_board g e
+unfolding slot_on
+edge_on g (right v) = rw (right_slot v, le-leb 32 (32 + 2 * v) (omega arith)) refl
+edge_on g (down v) = rw (down_slot v, le-leb 32 (33 + 2 * v) (omega arith)) refl
 
-pub on-slot : (g : Grid) (s : ℕ) → slot-on g s ≡ true → (32 ≤ s) × (on-board g (edge_of s) ≡ true)
-unfolding slot-on
-on-slot g s h = let b = both (leb 32 s) (on-board g (edge_of s)) h in (leb-true 32 s b.0, b.1)
+pub on_slot : (g : Grid) (s : ℕ) → slot_on g s ≡ true → (32 ≤ s) × (on_board g (edge_of s) ≡ true)
+unfolding slot_on
+on_slot g s h = let b = both (leb 32 s) (on_board g (edge_of s)) h in (leb-true 32 s b.0, b.1)
 
 -- THE NUMBER OF UNDECIDED EDGES
-pub one_fewer : (l : List ℕ) (p v : ℕ) → p < length l → get_or l p 0 ≡ 0 → 0 < v → undecided-in (set l p v) + 1 ≡ undecided-in l
-unfolding undecided-in
+pub one_fewer : (l : List ℕ) (p v : ℕ) → p < length l → get_or l p 0 ≡ 0 → 0 < v → undecided_in (set l p v) + 1 ≡ undecided_in l
+unfolding undecided_in
 one_fewer [] p v h z q = absurd (not-suc-le-zero h)
 one_fewer (x ∷ xs) zero v h z q = simp (eq-eqb x 0 z, ne_eqb v 0 (omega arith)) (omega arith)
 one_fewer (x ∷ xs) (suc p) v h z q = split (eqb x 0) (one_fewer xs p v (le_of_suc-le-suc h) z q)
   where
-    split : (b : Bool) → undecided-in (set xs p v) + 1 ≡ undecided-in xs
-        → (pick b (suc (undecided-in (set xs p v))) (undecided-in (set xs p v))) + 1 ≡ pick b (suc (undecided-in xs)) (undecided-in xs)
+    split : (b : Bool) → undecided_in (set xs p v) + 1 ≡ undecided_in xs
+        → (pick b (suc (undecided_in (set xs p v))) (undecided_in (set xs p v))) + 1 ≡ pick b (suc (undecided_in xs)) (undecided_in xs)
     split true e = omega arith
     split false e = e
 
-pub some-undecided : (l : List ℕ) (p : ℕ) → p < length l → get_or l p 0 ≡ 0 → 0 < undecided-in l
-some-undecided l p h z = omega (arith, one_fewer l p 1 h z (omega arith))
+pub some_undecided : (l : List ℕ) (p : ℕ) → p < length l → get_or l p 0 ≡ 0 → 0 < undecided_in l
+some_undecided l p h z = omega (arith, one_fewer l p 1 h z (omega arith))
 
 -- THE VIEW after a byte is stored
-pub byte-stored : (l : List ℕ) (p v x : ℕ) → p < length l → state-of (get_or (set l p v) x 2) ≡ pick (eqb x p) (state-of v) (state-of (get_or l x 2))
-byte-stored l p v x h = go (eqb x p) refl
+pub byte_stored : (l : List ℕ) (p v x : ℕ) → p < length l → state_of (get_or (set l p v) x 2) ≡ pick (eqb x p) (state_of v) (state_of (get_or l x 2))
+byte_stored l p v x h = go (eqb x p) refl
   where
-    go : (b : Bool) → eqb x p ≡ b → state-of (get_or (set l p v) x 2) ≡ pick b (state-of v) (state-of (get_or l x 2))
+    go : (b : Bool) → eqb x p ≡ b → state_of (get_or (set l p v) x 2) ≡ pick b (state_of v) (state_of (get_or l x 2))
     go true q = rw (eqb-true x p q, get_or-set_same l p v 2 h) refl
     go false q = rw (get_or-set_other l p x v 2 (eqb-false x p q)) refl
 
 -- the model chooses by `elim`
-pub as-elim : {A : Type 0} (b : Bool) (x y : A) → pick b x y ≡ elim b [ true ↦ x | false ↦ y ]
-as-elim true x y = refl
-as-elim false x y = refl
+pub as_elim : {A : Type 0} (b : Bool) (x y : A) → pick b x y ≡ elim b [ true ↦ x | false ↦ y ]
+as_elim true x y = refl
+as_elim false x y = refl
 
-pub elim-true : {A : Type 0} (b : Bool) (x y : A) → b ≡ true → elim b [ true ↦ x | false ↦ y ] ≡ x
-elim-true b x y h = sym (as-elim b x y) ∙ rw h refl
+pub elim_true : {A : Type 0} (b : Bool) (x y : A) → b ≡ true → elim b [ true ↦ x | false ↦ y ] ≡ x
+elim_true b x y h = sym (as_elim b x y) ∙ rw h refl
 
-pub elim-false : {A : Type 0} (b : Bool) (x y : A) → b ≡ false → elim b [ true ↦ x | false ↦ y ] ≡ y
-elim-false b x y h = sym (as-elim b x y) ∙ rw h refl
+pub elim_false : {A : Type 0} (b : Bool) (x y : A) → b ≡ false → elim b [ true ↦ x | false ↦ y ] ≡ y
+elim_false b x y h = sym (as_elim b x y) ∙ rw h refl
 
 module _ (edges : List ℕ) (e : Edge) (v : ℕ) (h : slot e < length edges) where
-  pub edge-stored : (x : Edge) → state-of (get_or (set edges (slot e) v) (slot x) 2) ≡ elim (sameEdge x e) [ true ↦ state-of v | false ↦ state-of (get_or edges (slot x) 2) ]
-  edge-stored x = byte-stored edges (slot e) v (slot x) h ∙ (ap (λ (t : Bool). pick t (state-of v) (state-of (get_or edges (slot x) 2))) (slots_apart x e) ∙ as-elim (sameEdge x e) (state-of v) (state-of (get_or edges (slot x) 2)))
+  pub edge_stored : (x : Edge) → state_of (get_or (set edges (slot e) v) (slot x) 2) ≡ elim (same_edge x e) [ true ↦ state_of v | false ↦ state_of (get_or edges (slot x) 2) ]
+  edge_stored x = byte_stored edges (slot e) v (slot x) h ∙ (ap (λ (t : Bool). pick t (state_of v) (state_of (get_or edges (slot x) 2))) (slots_apart x e) ∙ as_elim (same_edge x e) (state_of v) (state_of (get_or edges (slot x) 2)))
 
-pub view-stored : (s : Arrays) (e : Edge) (v : ℕ) (log : List ℤ) (count : ℕ) → slot e < length s.edges → flag-in count ≡ flag-in s.count
-    → view (record { edges = set s.edges (slot e) v; ends = s.ends; log = log; count = count }) ≡ set-edge (view s) e (state-of v)
-unfolding view set-edge
-view-stored s e v log count h k = λ i. record { edge = λ x. edge-stored s.edges e v h x i; end = λ u. end-at s.ends u; flag = k i }
+pub view_stored : (s : Arrays) (e : Edge) (v : ℕ) (log : List ℤ) (count : ℕ) → slot e < length s.edges → flag_in count ≡ flag_in s.count
+    → view (record { edges = set s.edges (slot e) v; ends = s.ends; log = log; count = count }) ≡ set_edge (view s) e (state_of v)
+unfolding view set_edge
+view_stored s e v log count h k = λ i. record { edge = λ x. edge_stored s.edges e v h x i; end = λ u. end_at s.ends u; flag = k i }

@@ -14,468 +14,468 @@ use Rattle.std.proofs.Math.Dec.{eqb}
 use Rattle.std.proofs.Math.ListN.{get_or}
 use borrow.Author.Tests.{eqb-true, eqb-false, eq-eqb, ne_eqb, lt-ltb, ltb-true}
 use Rattle.rules.specs.Grid.{Edge, right, down, first, second, Grid, pads}
-use Rattle.rules.specs.Drawing.{Side, on-left, on-right}
-use Rattle.rules.specs.Tests.{both, neither, conflict, not_so, is-so}
-use Rattle.model.specs.JoinedEnds.{End, through, at-pad, at-clue, unjoinable}
-use Rattle.model.specs.PadTests.{has_right, has_left, has-down, has-up, on-board}
-use Rattle.model.specs.Board.{line, Item, has-side, barred, shape-items, keep-aparts, around}
-use Rattle.boardview.specs.View.{Arrays, logged, stopped, ended, going, pick, slot, edge_of, slot-on, state-of, end-at, second-pad, has-bit, grid-in, corner-bit, joined, undecided-in, Kinds, Ready, Decided, Done, NoneAt, Settled, pad-number, detour-at, corner-at, bar-at, check-at, code-number, keeps-apart, some-apart, clue-apart, keep_at, slot-around, past-around, action-around}
+use Rattle.rules.specs.Drawing.{Side, on_left, on_right}
+use Rattle.rules.specs.Tests.{both, neither, conflict, not_so, is_so}
+use Rattle.model.specs.JoinedEnds.{End, through, at_pad, at_clue, unjoinable}
+use Rattle.model.specs.PadTests.{has_right, has_left, has_down, has_up, on_board}
+use Rattle.model.specs.Board.{line, Item, has_side, barred, shape_items, keep_aparts, around}
+use Rattle.boardview.specs.View.{Arrays, logged, stopped, ended, going, pick, slot, edge_of, slot_on, state_of, end_at, second_pad, has_bit, grid_in, corner_bit, joined, undecided_in, Kinds, Ready, Decided, Done, NoneAt, Settled, pad_number, detour_at, corner_at, bar_at, check_at, code_number, keeps_apart, some_apart, clue_apart, keep_at, slot_around, past_around, action_around}
 use Rattle.model.specs.Lists.{default_free}
-use Rattle.boardview.specs.Bytes.{slot-of-edge, on-slot}
-use Rattle.boardview.specs.Unwind.{log-stored, log-joined, LineBegun}
-use Rattle.boardview.specs.Geometry.{column-before, right-on, down-on, beyond-right, upper-left, upper-right, upper, lower-left, lower-right, lower, right-items, left-side, lower-left-side, far-left, right_side, lower-right-side, far-right, down-items, next-down-on}
-use Rattle.boardview.specs.Stores.{Stored, going-count, few-logged, first-inside, second-inside}
-use Rattle.boardview.specs.Steps.{with-count, done-then, done-as, done-nothing, slot-is-on}
-use Rattle.boardview.specs.Check.{settle-nothing, settle-raise, leave-slot, settle-none, draw-slot, settle-line, keep-rests, keep-step, keeps-is, first-items}
-use Rattle.boardview.specs.Items.{none-arrays, none-stored, decided-none, decided-same, decided-other, line-stopped, line-arrays, line-stored, decided-line}
+use Rattle.boardview.specs.Bytes.{slot_of_edge, on_slot}
+use Rattle.boardview.specs.Unwind.{log_stored, log_joined, LineBegun}
+use Rattle.boardview.specs.Geometry.{column_before, right_on, down_on, beyond_right, upper_left, upper_right, upper, lower_left, lower_right, lower, right_items, left_side, lower_left_side, far_left, right_side, lower_right_side, far_right, down_items, next_down_on}
+use Rattle.boardview.specs.Stores.{Stored, going_count, few_logged, first_inside, second_inside}
+use Rattle.boardview.specs.Steps.{with_count, done_then, done_as, done_nothing, slot_is_on}
+use Rattle.boardview.specs.Check.{settle_nothing, settle_raise, leave_slot, settle_none, draw_slot, settle_line, keep_rests, keep_step, keeps_is, first_items}
+use Rattle.boardview.specs.Items.{none_arrays, none_stored, decided_none, decided_same, decided_other, line_stopped, line_arrays, line_stored, decided_line}
 
-pub same-on : {a b c : Bool} → a ≡ c → b ≡ c → a ≡ true → b ≡ true
-same-on p q h = q ∙ (sym p ∙ h)
+pub same_on : {a b c : Bool} → a ≡ c → b ≡ c → a ≡ true → b ≡ true
+same_on p q h = q ∙ (sym p ∙ h)
 
 -- NONE AT A SLOT
-module _ (kind : List ℕ) (s : Arrays) (n : ℕ) (h : n < 1024) (k : Kinds kind) (y : Ready (grid-in kind) s) where
+module _ (kind : List ℕ) (s : Arrays) (n : ℕ) (h : n < 1024) (k : Kinds kind) (y : Ready (grid_in kind) s) where
   abbrev g : Grid
-  g = grid-in kind
+  g = grid_in kind
 
   module _ (z : get_or s.edges n 0 ≡ 0) where
-    pub none-on : slot-on g n ≡ true
-    none-on = slot-is-on g s y n h (omega arith)
+    pub none_on : slot_on g n ≡ true
+    none_on = slot_is_on g s y n h (omega arith)
 
-    pub none-high : 32 ≤ n
-    none-high = (on-slot g n none-on).0
+    pub none_high : 32 ≤ n
+    none_high = (on_slot g n none_on).0
 
     at_slot : slot (edge_of n) ≡ n
-    at_slot = slot-of-edge n none-high
+    at_slot = slot_of_edge n none_high
 
-    edge-there : on-board g (edge_of n) ≡ true
-    edge-there = (on-slot g n none-on).1
+    edge_there : on_board g (edge_of n) ≡ true
+    edge_there = (on_slot g n none_on).1
 
-    byte-there : get_or s.edges (slot (edge_of n)) 0 ≡ 0
-    byte-there = ap (λ (x : ℕ). get_or s.edges x 0) at_slot ∙ z
+    byte_there : get_or s.edges (slot (edge_of n)) 0 ≡ 0
+    byte_there = ap (λ (x : ℕ). get_or s.edges x 0) at_slot ∙ z
 
-    pub none-room : logged s < 480
-    none-room = few-logged g s (edge_of n) y edge-there byte-there
+    pub none_room : logged s < 480
+    none_room = few_logged g s (edge_of n) y edge_there byte_there
 
-    first-is : n / 2 - 16 ≡ first (edge_of n)
+    first_is : n / 2 - 16 ≡ first (edge_of n)
     unfolding edge_of
-    first-is = go (eqb (n % 2) 0)
+    first_is = go (eqb (n % 2) 0)
       where
         go : (b : Bool) → n / 2 - 16 ≡ first (pick b (right (n / 2 - 16)) (down (n / 2 - 16)))
         go true = refl
         go false = refl
 
-    second_is : second-pad g.width n ≡ second g.width (edge_of n)
+    second_is : second_pad g.width n ≡ second g.width (edge_of n)
     unfolding edge_of
     second_is = go (eqb (n % 2) 0)
       where
         go : (b : Bool) → pick b (n / 2 - 15) (n / 2 - 16 + g.width) ≡ second g.width (pick b (right (n / 2 - 16)) (down (n / 2 - 16)))
-        go true = omega (arith, none-high)
+        go true = omega (arith, none_high)
         go false = refl
 
     pub none_first : (v : ℕ) → v ≡ n / 2 - 16 → v < pads g
-    none_first v e = omega (arith, e, first-is, first-inside g s (edge_of n) y edge-there byte-there)
+    none_first v e = omega (arith, e, first_is, first_inside g s (edge_of n) y edge_there byte_there)
 
-    pub none-second : (q w : ℕ) → w ≡ g.width → q ≡ second-pad w n → q < pads g
-    none-second q w ew e = omega (arith, (rw ew at e) ∙ second_is, second-inside g s (edge_of n) y edge-there byte-there)
+    pub none_second : (q w : ℕ) → w ≡ g.width → q ≡ second_pad w n → q < pads g
+    none_second q w ew e = omega (arith, (rw ew at e) ∙ second_is, second_inside g s (edge_of n) y edge_there byte_there)
 
-    module _ (es : List ℕ) (l : List ℤ) (r : ℕ) (ee : es ≡ set s.edges n 2) (el : l ≡ log-stored s.log (logged s) n) (er : r ≡ going s.count) where
+    module _ (es : List ℕ) (l : List ℤ) (r : ℕ) (ee : es ≡ set s.edges n 2) (el : l ≡ log_stored s.log (logged s) n) (er : r ≡ going s.count) where
       abbrev after_store : Arrays
       after_store = record { edges = es; ends = s.ends; log = l; count = r + 1 }
 
-      starts : none-arrays g s (edge_of n) y edge-there byte-there ≡ after_store
-      starts = ap (λ (x : ℕ). record { edges = set s.edges x 2; ends = s.ends; log = log-stored s.log (logged s) x; count = going s.count + 1 }) at_slot
+      starts : none_arrays g s (edge_of n) y edge_there byte_there ≡ after_store
+      starts = ap (λ (x : ℕ). record { edges = set s.edges x 2; ends = s.ends; log = log_stored s.log (logged s) x; count = going s.count + 1 }) at_slot
           ∙ (λ i. record { edges = sym ee i; ends = s.ends; log = sym el i; count = sym er i + 1 })
 
-      pub none-is-stored : Stored g s after_store
-      none-is-stored = subst (λ (x : Arrays). Stored g s x) starts (none-stored g s (edge_of n) y edge-there byte-there)
+      pub none_is_stored : Stored g s after_store
+      none_is_stored = subst (λ (x : Arrays). Stored g s x) starts (none_stored g s (edge_of n) y edge_there byte_there)
 
-      pub none-returns : (v q w : ℕ) → v ≡ n / 2 - 16 → w ≡ g.width → q ≡ second-pad w n → (s₁ s₂ : Arrays) → Done g 1 after_store (check-at v) s₁ → Done g 1 s₁ (check-at q) s₂
-          → (c : ℕ) → c ≡ ended s₂.count → NoneAt g s n (with-count s₂ c)
-      none-returns v q w ev ew eq s₁ s₂ d₁ d₂ c ec = record {
-        acts = λ on. rw ec (decided-none g s (edge_of n) y edge-there byte-there s₂ (subst (λ (x : Arrays). Done g 1 x (check-at (first (edge_of n)) ++ check-at (second g.width (edge_of n))) s₂) (sym starts)
-            (rw (ev ∙ first-is, (rw ew at eq) ∙ second_is) at (done-then g d₁ d₂))));
-        rests = λ off. conflict none-on off;
+      pub none_returns : (v q w : ℕ) → v ≡ n / 2 - 16 → w ≡ g.width → q ≡ second_pad w n → (s₁ s₂ : Arrays) → Done g 1 after_store (check_at v) s₁ → Done g 1 s₁ (check_at q) s₂
+          → (c : ℕ) → c ≡ ended s₂.count → NoneAt g s n (with_count s₂ c)
+      none_returns v q w ev ew eq s₁ s₂ d₁ d₂ c ec = record {
+        acts = λ on. rw ec (decided_none g s (edge_of n) y edge_there byte_there s₂ (subst (λ (x : Arrays). Done g 1 x (check_at (first (edge_of n)) ++ check_at (second g.width (edge_of n))) s₂) (sym starts)
+            (rw (ev ∙ first_is, (rw ew at eq) ∙ second_is) at (done_then g d₁ d₂))));
+        rests = λ off. conflict none_on off;
       }
 
   -- decided before
   module _ (z : get_or s.edges n 0 ≡ 0 → ⊥) where
-    inside : slot-on g n ≡ true → slot (edge_of n) < length s.edges
-    inside on = omega (arith, slot-of-edge n (on-slot g n on).0, y.edges-long)
+    inside : slot_on g n ≡ true → slot (edge_of n) < length s.edges
+    inside on = omega (arith, slot_of_edge n (on_slot g n on).0, y.edges_long)
 
-    same_byte : slot-on g n ≡ true → get_or s.edges (slot (edge_of n)) 0 ≡ get_or s.edges n 0
-    same_byte on = ap (λ (x : ℕ). get_or s.edges x 0) (slot-of-edge n (on-slot g n on).0)
+    same_byte : slot_on g n ≡ true → get_or s.edges (slot (edge_of n)) 0 ≡ get_or s.edges n 0
+    same_byte on = ap (λ (x : ℕ). get_or s.edges x 0) (slot_of_edge n (on_slot g n on).0)
 
-    pub none-raised : get_or s.edges n 0 ≡ 1 → (c : ℕ) → c ≡ stopped s.count → NoneAt g s n (with-count s c)
-    unfolding state-of
-    none-raised o c ec = record {
-      acts = λ on. rw ec (decided-other g s (edge_of n) y (on-slot g n on).1 (inside on) 2 (omega arith) (omega arith) (λ e. z (sym (same_byte on) ∙ e)) (λ e. absurd (omega (arith, sym (same_byte on) ∙ e))));
+    pub none_raised : get_or s.edges n 0 ≡ 1 → (c : ℕ) → c ≡ stopped s.count → NoneAt g s n (with_count s c)
+    unfolding state_of
+    none_raised o c ec = record {
+      acts = λ on. rw ec (decided_other g s (edge_of n) y (on_slot g n on).1 (inside on) 2 (omega arith) (omega arith) (λ e. z (sym (same_byte on) ∙ e)) (λ e. absurd (omega (arith, sym (same_byte on) ∙ e))));
       rests = λ off. (refl, refl, refl);
     }
 
-    pub none-again : (get_or s.edges n 0 ≡ 1 → ⊥) → (c : ℕ) → c ≡ ended s.count → NoneAt g s n (with-count s c)
-    unfolding state-of
-    none-again o c ec = record {
-      acts = λ on. rw ec (decided-same g s (edge_of n) y (on-slot g n on).1 (inside on) 2 (omega arith) (omega arith) (λ e. z (sym (same_byte on) ∙ e)) (two on));
+    pub none_again : (get_or s.edges n 0 ≡ 1 → ⊥) → (c : ℕ) → c ≡ ended s.count → NoneAt g s n (with_count s c)
+    unfolding state_of
+    none_again o c ec = record {
+      acts = λ on. rw ec (decided_same g s (edge_of n) y (on_slot g n on).1 (inside on) 2 (omega arith) (omega arith) (λ e. z (sym (same_byte on) ∙ e)) (two on));
       rests = λ off. (refl, refl, refl);
     }
       where
-        two : (on : slot-on g n ≡ true) → get_or s.edges (slot (edge_of n)) 0 ≡ 2
-        two on = omega (arith, same_byte on, z, o, y.bytes n, default_free s.edges n 2 0 (omega (arith, y.edges-long)))
+        two : (on : slot_on g n ≡ true) → get_or s.edges (slot (edge_of n)) 0 ≡ 2
+        two on = omega (arith, same_byte on, z, o, y.bytes n, default_free s.edges n 2 0 (omega (arith, y.edges_long)))
 
 -- A LINE
-module _ (kind : List ℕ) (s : Arrays) (e : Edge) (k : Kinds kind) (y : Ready (grid-in kind) s) (on : on-board (grid-in kind) e ≡ true) where
+module _ (kind : List ℕ) (s : Arrays) (e : Edge) (k : Kinds kind) (y : Ready (grid_in kind) s) (on : on_board (grid_in kind) e ≡ true) where
   abbrev gg : Grid
-  gg = grid-in kind
+  gg = grid_in kind
 
-  line-inside : (x : Edge) → on-board gg x ≡ true → slot x < length s.edges
-  line-inside (right v) o = let b = right-on gg y.least-width y.largest-width v o in omega (arith, b.1, y.few-pads, y.edges-long)
-  line-inside (down v) o = let b = down-on gg y.least-width y.largest-width v o in omega (arith, b, y.few-pads, y.edges-long)
+  line_inside : (x : Edge) → on_board gg x ≡ true → slot x < length s.edges
+  line_inside (right v) o = let b = right_on gg y.least_width y.largest_width v o in omega (arith, b.1, y.few_pads, y.edges_long)
+  line_inside (down v) o = let b = down_on gg y.least_width y.largest_width v o in omega (arith, b, y.few_pads, y.edges_long)
 
-  pub line-again : get_or s.edges (slot e) 0 ≡ 1 → (c : ℕ) → c ≡ ended s.count → Decided gg s e line (with-count s c)
-  unfolding state-of
-  line-again o c ec = rw ec (decided-same gg s e y on (line-inside e on) 1 (omega arith) (omega arith) (λ z. absurd (omega arith)) o)
+  pub line_again : get_or s.edges (slot e) 0 ≡ 1 → (c : ℕ) → c ≡ ended s.count → Decided gg s e line (with_count s c)
+  unfolding state_of
+  line_again o c ec = rw ec (decided_same gg s e y on (line_inside e on) 1 (omega arith) (omega arith) (λ z. absurd (omega arith)) o)
 
-  pub line-raised : (get_or s.edges (slot e) 0 ≡ 0 → ⊥) → (get_or s.edges (slot e) 0 ≡ 1 → ⊥) → (c : ℕ) → c ≡ stopped s.count → Decided gg s e line (with-count s c)
-  unfolding state-of
-  line-raised z o c ec = rw ec (decided-other gg s e y on (line-inside e on) 1 (omega arith) (omega arith) z o)
+  pub line_raised : (get_or s.edges (slot e) 0 ≡ 0 → ⊥) → (get_or s.edges (slot e) 0 ≡ 1 → ⊥) → (c : ℕ) → c ≡ stopped s.count → Decided gg s e line (with_count s c)
+  unfolding state_of
+  line_raised z o c ec = rw ec (decided_other gg s e y on (line_inside e on) 1 (omega arith) (omega arith) z o)
 
   module _ (z : get_or s.edges (slot e) 0 ≡ 0) (q : ℕ) (eq : q ≡ second gg.width e) where
-    pub line-room : logged s < 480
-    line-room = few-logged gg s e y on z
+    pub line_room : logged s < 480
+    line_room = few_logged gg s e y on z
 
     pub line_first : first e < pads gg
-    line_first = first-inside gg s e y on z
+    line_first = first_inside gg s e y on z
 
     pub line_second : q < pads gg
-    line_second = rw eq (second-inside gg s e y on z)
+    line_second = rw eq (second_inside gg s e y on z)
 
     -- the line is begun
     module _ (s₁ : Arrays) (begun : LineBegun s (slot e) (first e) q s₁) where
-      abbrev unjoined-there : ℕ → Bool
-      unjoined-there x = unjoinable (end-at s.ends (first e)) (end-at s.ends x) x
+      abbrev unjoined_there : ℕ → Bool
+      unjoined_there x = unjoinable (end_at s.ends (first e)) (end_at s.ends x) x
 
-      cannot-join : 2048 ≤ s₁.count → unjoined-there q ≡ true
-      cannot-join high = is-so (unjoined-there q) (λ eb. omega (arith, (begun.joins eb).2, (going-count s.count y.mode).0, (going-count s.count y.mode).1, line-room))
+      cannot_join : 2048 ≤ s₁.count → unjoined_there q ≡ true
+      cannot_join high = is_so (unjoined_there q) (λ eb. omega (arith, (begun.joins eb).2, (going_count s.count y.mode).0, (going_count s.count y.mode).1, line_room))
 
-      can-join : s₁.count < 2048 → unjoined-there q ≡ false
-      can-join low = not_so (unjoined-there q) (λ eb. omega (arith, (begun.cannot eb).2))
+      can_join : s₁.count < 2048 → unjoined_there q ≡ false
+      can_join low = not_so (unjoined_there q) (λ eb. omega (arith, (begun.cannot eb).2))
 
-      pub line-stops : 2048 ≤ s₁.count → Decided gg s e line s₁
-      line-stops high = let b = begun.cannot (cannot-join high) in
+      pub line_stops : 2048 ≤ s₁.count → Decided gg s e line s₁
+      line_stops high = let b = begun.cannot (cannot_join high) in
           subst (λ (x : Arrays). Decided gg s e line x) (λ i. record { edges = sym begun.stores i; ends = sym b.0 i; log = sym b.1 i; count = sym b.2 i })
-          (line-stopped gg s e y on z (ap unjoined-there (sym eq) ∙ cannot-join high))
+          (line_stopped gg s e y on z (ap unjoined_there (sym eq) ∙ cannot_join high))
 
       module _ (low : s₁.count < 2048) where
-        joinable : unjoined-there (second gg.width e) ≡ false
-        joinable = ap unjoined-there (sym eq) ∙ can-join low
+        joinable : unjoined_there (second gg.width e) ≡ false
+        joinable = ap unjoined_there (sym eq) ∙ can_join low
 
-        joins : line-arrays gg s e y on z ≡ s₁
-        joins = ap (λ (x : ℕ). record { edges = set s.edges (slot e) 1; ends = joined (first e) x s.ends; log = log-joined s.log (logged s) (slot e) (get_or s.ends (first e) (pos (first e))) (get_or s.ends x (pos x)); count = going s.count + 1 }) (sym eq)
-            ∙ (let b = begun.joins (can-join low) in λ i. record { edges = sym begun.stores i; ends = sym b.0 i; log = sym b.1 i; count = sym b.2 i })
+        joins : line_arrays gg s e y on z ≡ s₁
+        joins = ap (λ (x : ℕ). record { edges = set s.edges (slot e) 1; ends = joined (first e) x s.ends; log = log_joined s.log (logged s) (slot e) (get_or s.ends (first e) (pos (first e))) (get_or s.ends x (pos x)); count = going s.count + 1 }) (sym eq)
+            ∙ (let b = begun.joins (can_join low) in λ i. record { edges = sym begun.stores i; ends = sym b.0 i; log = sym b.1 i; count = sym b.2 i })
 
-        pub line-is-stored : Stored gg s s₁
-        line-is-stored = subst (λ (x : Arrays). Stored gg s x) joins (line-stored gg s e y on z joinable)
+        pub line_is_stored : Stored gg s s₁
+        line_is_stored = subst (λ (x : Arrays). Stored gg s x) joins (line_stored gg s e y on z joinable)
 
-        pub line-returns : (a b : ℕ) → a ≡ pad-number (end-at s.ends (first e)) → b ≡ pad-number (end-at s.ends q) → (s' : Arrays)
-            → Done gg 1 s₁ (shape-items gg e ++ (check-at (first e) ++ (check-at q ++ (check-at a ++ check-at b)))) s'
-            → (c : ℕ) → c ≡ ended s'.count → Decided gg s e line (with-count s' c)
-        line-returns a b ea eb s' d c ec = rw ec (decided-line gg s e y on z joinable s' (subst (λ (x : Arrays). Done gg 1 x (shape-items gg e ++ (check-at (first e) ++ (check-at (second gg.width e)
-            ++ (check-at (pad-number (end-at s.ends (first e))) ++ check-at (pad-number (end-at s.ends (second gg.width e))))))) s') (sym joins)
+        pub line_returns : (a b : ℕ) → a ≡ pad_number (end_at s.ends (first e)) → b ≡ pad_number (end_at s.ends q) → (s' : Arrays)
+            → Done gg 1 s₁ (shape_items gg e ++ (check_at (first e) ++ (check_at q ++ (check_at a ++ check_at b)))) s'
+            → (c : ℕ) → c ≡ ended s'.count → Decided gg s e line (with_count s' c)
+        line_returns a b ea eb s' d c ec = rw ec (decided_line gg s e y on z joinable s' (subst (λ (x : Arrays). Done gg 1 x (shape_items gg e ++ (check_at (first e) ++ (check_at (second gg.width e)
+            ++ (check_at (pad_number (end_at s.ends (first e))) ++ check_at (pad_number (end_at s.ends (second gg.width e))))))) s') (sym joins)
             (rw (ea, eb, eq) at d)))
 
     -- the pads A and B of step c
-    near-pad : (E : End) → ((a : ℕ) → E ≡ at-pad a → a < pads gg) → (pad-number E ≤ 512) × (pad-number E < 512 → pad-number E < pads gg)
-    unfolding pad-number
-    near-pad through n = (omega arith, λ h. absurd (omega arith))
-    near-pad (at-clue c) n = (omega arith, λ h. absurd (omega arith))
-    near-pad (at-pad a) n = (omega (arith, n a refl, y.few-pads), λ h. n a refl)
+    near_pad : (E : End) → ((a : ℕ) → E ≡ at_pad a → a < pads gg) → (pad_number E ≤ 512) × (pad_number E < 512 → pad_number E < pads gg)
+    unfolding pad_number
+    near_pad through n = (omega arith, λ h. absurd (omega arith))
+    near_pad (at_clue c) n = (omega arith, λ h. absurd (omega arith))
+    near_pad (at_pad a) n = (omega (arith, n a refl, y.few_pads), λ h. n a refl)
 
-    pub line-end : (v : ℕ) → v < pads gg → (a : ℕ) → a ≡ pad-number (end-at s.ends v) → (a ≤ 512) × (a < 512 → a < pads gg)
-    line-end v hv a ea = rw ea (near-pad (end-at s.ends v) (λ b eb. y.near v b hv eb))
+    pub line_end : (v : ℕ) → v < pads gg → (a : ℕ) → a ≡ pad_number (end_at s.ends v) → (a ≤ 512) × (a < 512 → a < pads gg)
+    line_end v hv a ea = rw ea (near_pad (end_at s.ends v) (λ b eb. y.near v b hv eb))
 
 -- STEPS D AND E of a line to the right
-module _ (kind : List ℕ) (k : Kinds kind) (few : pads (grid-in kind) ≤ 256) (v w : ℕ) (ew : w ≡ (grid-in kind).width) (on : on-board (grid-in kind) (right v) ≡ true) where
+module _ (kind : List ℕ) (k : Kinds kind) (few : pads (grid_in kind) ≤ 256) (v w : ℕ) (ew : w ≡ (grid_in kind).width) (on : on_board (grid_in kind) (right v) ≡ true) where
   abbrev gr : Grid
-  gr = grid-in kind
+  gr = grid_in kind
 
-  pub right-inside : (v % gr.width + 1 < gr.width) × (v < pads gr)
-  right-inside = right-on gr k.least-width k.largest-width v on
+  pub right_inside : (v % gr.width + 1 < gr.width) × (v < pads gr)
+  right_inside = right_on gr k.least_width k.largest_width v on
 
-  pub right-beyond : v + 1 < pads gr
-  right-beyond = beyond-right gr k.least-width k.largest-width v on
+  pub right_beyond : v + 1 < pads gr
+  right_beyond = beyond_right gr k.least_width k.largest_width v on
 
-  pub right-up-left : slot-on gr (33 + 2 * v - 2 * w) ≡ has-up gr v
-  right-up-left = rw ew (upper-left gr k.least-width k.largest-width v on)
+  pub right_up_left : slot_on gr (33 + 2 * v - 2 * w) ≡ has_up gr v
+  right_up_left = rw ew (upper_left gr k.least_width k.largest_width v on)
 
-  pub right-up-right : slot-on gr (35 + 2 * v - 2 * w) ≡ has-up gr v
-  right-up-right = rw ew (upper-right gr k.least-width k.largest-width v on)
+  pub right_up_right : slot_on gr (35 + 2 * v - 2 * w) ≡ has_up gr v
+  right_up_right = rw ew (upper_right gr k.least_width k.largest_width v on)
 
-  pub right-up : slot-on gr (32 + 2 * v - 2 * w) ≡ has-up gr v
-  right-up = rw ew (upper gr k.least-width k.largest-width v on)
+  pub right_up : slot_on gr (32 + 2 * v - 2 * w) ≡ has_up gr v
+  right_up = rw ew (upper gr k.least_width k.largest_width v on)
 
-  pub right-left : slot-on gr (33 + 2 * v) ≡ has-down gr v
-  right-left = lower-left gr k.least-width k.largest-width v on
+  pub right_left : slot_on gr (33 + 2 * v) ≡ has_down gr v
+  right_left = lower_left gr k.least_width k.largest_width v on
 
-  pub right-right : slot-on gr (35 + 2 * v) ≡ has-down gr v
-  right-right = lower-right gr k.least-width k.largest-width v on
+  pub right_right : slot_on gr (35 + 2 * v) ≡ has_down gr v
+  right_right = lower_right gr k.least_width k.largest_width v on
 
-  pub right-below : slot-on gr (32 + 2 * v + 2 * w) ≡ has-down gr v
-  right-below = rw ew (lower gr k.least-width k.largest-width v on)
+  pub right_below : slot_on gr (32 + 2 * v + 2 * w) ≡ has_down gr v
+  right_below = rw ew (lower gr k.least_width k.largest_width v on)
 
-  next-below : has-down gr v ≡ true → v + gr.width + 1 < pads gr
-  next-below h = omega (arith, ltb-true (v + 1 + gr.width) (pads gr) (sym (next-down-on gr v) ∙ (right-right ∙ h)))
+  next_below : has_down gr v ≡ true → v + gr.width + 1 < pads gr
+  next_below h = omega (arith, ltb-true (v + 1 + gr.width) (pads gr) (sym (next_down_on gr v) ∙ (right_right ∙ h)))
 
   -- the pads below the corners
-  pub right-corner : (q : ℕ) → q ≡ v + w + 1 → slot-on gr (33 + 2 * v) ≡ true → q < pads gr
-  right-corner q e h = omega (arith, ew, next-below (sym right-left ∙ h))
+  pub right_corner : (q : ℕ) → q ≡ v + w + 1 → slot_on gr (33 + 2 * v) ≡ true → q < pads gr
+  right_corner q e h = omega (arith, ew, next_below (sym right_left ∙ h))
 
-  pub left-corner : (q : ℕ) → q ≡ v + w → slot-on gr (35 + 2 * v) ≡ true → q < pads gr
-  left-corner q e h = omega (arith, ew, next-below (sym right-right ∙ h))
+  pub left_corner : (q : ℕ) → q ≡ v + w → slot_on gr (35 + 2 * v) ≡ true → q < pads gr
+  left_corner q e h = omega (arith, ew, next_below (sym right_right ∙ h))
 
-  bars-right : has-bit kind v 2 ≡ ((has-down gr v && has-side gr on-right v) && barred gr on-right gr.height v)
-  bars-right = k.bars on-right v right-inside.1
+  bars_right : has_bit kind v 2 ≡ ((has_down gr v && has_side gr on_right v) && barred gr on_right gr.height v)
+  bars_right = k.bars on_right v right_inside.1
 
-  bars-left : has-bit kind (v + 1) 4 ≡ ((has-down gr (v + 1) && has-side gr on-left (v + 1)) && barred gr on-left gr.height (v + 1))
-  bars-left = k.bars on-left (v + 1) right-beyond
+  bars_left : has_bit kind (v + 1) 4 ≡ ((has_down gr (v + 1) && has_side gr on_left (v + 1)) && barred gr on_left gr.height (v + 1))
+  bars_left = k.bars on_left (v + 1) right_beyond
 
-  pub right-bar-on : has-bit kind v 2 ≡ true → slot-on gr (33 + 2 * v) ≡ true
-  right-bar-on h = right-left ∙ (both (has-down gr v) (has_right gr v) (both _ (barred gr on-right gr.height v) (sym bars-right ∙ h)).0).0
+  pub right_bar_on : has_bit kind v 2 ≡ true → slot_on gr (33 + 2 * v) ≡ true
+  right_bar_on h = right_left ∙ (both (has_down gr v) (has_right gr v) (both _ (barred gr on_right gr.height v) (sym bars_right ∙ h)).0).0
 
-  pub left-bar-on : has-bit kind (v + 1) 4 ≡ true → slot-on gr (35 + 2 * v) ≡ true
-  left-bar-on h = next-down-on gr v ∙ (both (has-down gr (v + 1)) (has_left gr (v + 1)) (both _ (barred gr on-left gr.height (v + 1)) (sym bars-left ∙ h)).0).0
+  pub left_bar_on : has_bit kind (v + 1) 4 ≡ true → slot_on gr (35 + 2 * v) ≡ true
+  left_bar_on h = next_down_on gr v ∙ (both (has_down gr (v + 1)) (has_left gr (v + 1)) (both _ (barred gr on_left gr.height (v + 1)) (sym bars_left ∙ h)).0).0
 
-  pub right-done : {s₀ s' : Arrays} (L : List Item)
-      → Done gr 1 s₀ (detour-at gr (33 + 2 * v - 2 * w) (35 + 2 * v - 2 * w) (32 + 2 * v - 2 * w)
-      ++ (detour-at gr (35 + 2 * v - 2 * w) (33 + 2 * v - 2 * w) (32 + 2 * v - 2 * w)
-      ++ (detour-at gr (32 + 2 * v - 2 * w) (33 + 2 * v - 2 * w) (35 + 2 * v - 2 * w)
-      ++ (detour-at gr (33 + 2 * v) (35 + 2 * v) (32 + 2 * v + 2 * w)
-      ++ (detour-at gr (35 + 2 * v) (33 + 2 * v) (32 + 2 * v + 2 * w)
-      ++ (detour-at gr (32 + 2 * v + 2 * w) (33 + 2 * v) (35 + 2 * v)
-      ++ (corner-at gr on-right (v + w + 1) (33 + 2 * v) ++ (corner-at gr on-left (v + w) (35 + 2 * v)
-      ++ (bar-at gr (has-bit kind v 2) (33 + 2 * v) ++ (bar-at gr (has-bit kind (v + 1) 4) (35 + 2 * v) ++ L)))))))))) s'
-      → Done gr 1 s₀ (shape-items gr (right v) ++ L) s'
-  right-done L d = done-as gr (right-items gr k.least-width k.largest-width v on (has-bit kind v 2) (has-bit kind (v + 1) 4) bars-right bars-left L) (rw ew at d)
+  pub right_done : {s₀ s' : Arrays} (L : List Item)
+      → Done gr 1 s₀ (detour_at gr (33 + 2 * v - 2 * w) (35 + 2 * v - 2 * w) (32 + 2 * v - 2 * w)
+      ++ (detour_at gr (35 + 2 * v - 2 * w) (33 + 2 * v - 2 * w) (32 + 2 * v - 2 * w)
+      ++ (detour_at gr (32 + 2 * v - 2 * w) (33 + 2 * v - 2 * w) (35 + 2 * v - 2 * w)
+      ++ (detour_at gr (33 + 2 * v) (35 + 2 * v) (32 + 2 * v + 2 * w)
+      ++ (detour_at gr (35 + 2 * v) (33 + 2 * v) (32 + 2 * v + 2 * w)
+      ++ (detour_at gr (32 + 2 * v + 2 * w) (33 + 2 * v) (35 + 2 * v)
+      ++ (corner_at gr on_right (v + w + 1) (33 + 2 * v) ++ (corner_at gr on_left (v + w) (35 + 2 * v)
+      ++ (bar_at gr (has_bit kind v 2) (33 + 2 * v) ++ (bar_at gr (has_bit kind (v + 1) 4) (35 + 2 * v) ++ L)))))))))) s'
+      → Done gr 1 s₀ (shape_items gr (right v) ++ L) s'
+  right_done L d = done_as gr (right_items gr k.least_width k.largest_width v on (has_bit kind v 2) (has_bit kind (v + 1) 4) bars_right bars_left L) (rw ew at d)
 
 -- and of a line downward
-module _ (kind : List ℕ) (k : Kinds kind) (few : pads (grid-in kind) ≤ 256) (v w : ℕ) (ew : w ≡ (grid-in kind).width) (on : on-board (grid-in kind) (down v) ≡ true) where
+module _ (kind : List ℕ) (k : Kinds kind) (few : pads (grid_in kind) ≤ 256) (v w : ℕ) (ew : w ≡ (grid_in kind).width) (on : on_board (grid_in kind) (down v) ≡ true) where
   abbrev gd : Grid
-  gd = grid-in kind
+  gd = grid_in kind
 
-  pub down-inside : v + gd.width < pads gd
-  down-inside = down-on gd k.least-width k.largest-width v on
+  pub down_inside : v + gd.width < pads gd
+  down_inside = down_on gd k.least_width k.largest_width v on
 
-  corners-left : has-bit kind v 16 ≡ (has-down gd v && has-side gd on-left v)
-  corners-left = k.corners on-left v (omega (arith, down-inside))
+  corners_left : has_bit kind v 16 ≡ (has_down gd v && has_side gd on_left v)
+  corners_left = k.corners on_left v (omega (arith, down_inside))
 
-  corners-right : has-bit kind v 8 ≡ (has-down gd v && has-side gd on-right v)
-  corners-right = k.corners on-right v (omega (arith, down-inside))
+  corners_right : has_bit kind v 8 ≡ (has_down gd v && has_side gd on_right v)
+  corners_right = k.corners on_right v (omega (arith, down_inside))
 
-  pub down-left : slot-on gd (30 + 2 * v) ≡ has_left gd v
-  down-left = left-side gd k.least-width k.largest-width v on
+  pub down_left : slot_on gd (30 + 2 * v) ≡ has_left gd v
+  down_left = left_side gd k.least_width k.largest_width v on
 
-  pub down-left-below : slot-on gd (30 + 2 * v + 2 * w) ≡ has_left gd v
-  down-left-below = rw ew (lower-left-side gd k.least-width k.largest-width v on)
+  pub down_left_below : slot_on gd (30 + 2 * v + 2 * w) ≡ has_left gd v
+  down_left_below = rw ew (lower_left_side gd k.least_width k.largest_width v on)
 
-  pub down-if-left : (x : ℕ) → x ≡ pick (has-bit kind v 16) (31 + 2 * v) 0 → slot-on gd x ≡ has_left gd v
-  down-if-left x e = rw e (far-left gd k.least-width k.largest-width v on (has-bit kind v 16) corners-left)
+  pub down_if_left : (x : ℕ) → x ≡ pick (has_bit kind v 16) (31 + 2 * v) 0 → slot_on gd x ≡ has_left gd v
+  down_if_left x e = rw e (far_left gd k.least_width k.largest_width v on (has_bit kind v 16) corners_left)
 
-  pub down-right : slot-on gd (32 + 2 * v) ≡ has_right gd v
-  down-right = right_side gd k.least-width k.largest-width v on
+  pub down_right : slot_on gd (32 + 2 * v) ≡ has_right gd v
+  down_right = right_side gd k.least_width k.largest_width v on
 
-  pub down-right-below : slot-on gd (32 + 2 * v + 2 * w) ≡ has_right gd v
-  down-right-below = rw ew (lower-right-side gd k.least-width k.largest-width v on)
+  pub down_right_below : slot_on gd (32 + 2 * v + 2 * w) ≡ has_right gd v
+  down_right_below = rw ew (lower_right_side gd k.least_width k.largest_width v on)
 
-  pub down-if-right : (x : ℕ) → x ≡ pick (has-bit kind v 8) (35 + 2 * v) 0 → slot-on gd x ≡ has_right gd v
-  down-if-right x e = rw e (far-right gd k.least-width k.largest-width v on (has-bit kind v 8) corners-right)
+  pub down_if_right : (x : ℕ) → x ≡ pick (has_bit kind v 8) (35 + 2 * v) 0 → slot_on gd x ≡ has_right gd v
+  down_if_right x e = rw e (far_right gd k.least_width k.largest_width v on (has_bit kind v 8) corners_right)
 
   -- where the edges beside it are, the far ones are too
-  pub down-far-left : has_left gd v ≡ true → slot-on gd (31 + 2 * v) ≡ true
-  down-far-left h = ap (slot-on gd) (sym picked) ∙ (down-if-left _ refl ∙ h)
+  pub down_far_left : has_left gd v ≡ true → slot_on gd (31 + 2 * v) ≡ true
+  down_far_left h = ap (slot_on gd) (sym picked) ∙ (down_if_left _ refl ∙ h)
     where
-      picked : pick (has-bit kind v 16) (31 + 2 * v) 0 ≡ 31 + 2 * v
-      picked = rw (corners-left, on, h) refl
+      picked : pick (has_bit kind v 16) (31 + 2 * v) 0 ≡ 31 + 2 * v
+      picked = rw (corners_left, on, h) refl
 
-  pub down-far-right : has_right gd v ≡ true → slot-on gd (35 + 2 * v) ≡ true
-  down-far-right h = ap (slot-on gd) (sym picked) ∙ (down-if-right _ refl ∙ h)
+  pub down_far_right : has_right gd v ≡ true → slot_on gd (35 + 2 * v) ≡ true
+  down_far_right h = ap (slot_on gd) (sym picked) ∙ (down_if_right _ refl ∙ h)
     where
-      picked : pick (has-bit kind v 8) (35 + 2 * v) 0 ≡ 35 + 2 * v
-      picked = rw (corners-right, on, h) refl
+      picked : pick (has_bit kind v 8) (35 + 2 * v) 0 ≡ 35 + 2 * v
+      picked = rw (corners_right, on, h) refl
 
-  pub picked-small : (b : Bool) (x n : ℕ) → x ≡ pick b n 0 → n < 1024 → x < 1024
-  picked-small true x n e h = omega arith
-  picked-small false x n e h = omega arith
+  pub picked_small : (b : Bool) (x n : ℕ) → x ≡ pick b n 0 → n < 1024 → x < 1024
+  picked_small true x n e h = omega arith
+  picked_small false x n e h = omega arith
 
-  pub down-right-corner : (q : ℕ) → q ≡ v + w + 1 → slot-on gd (32 + 2 * v) ≡ true → q < pads gd
-  down-right-corner q e h = omega (arith, ew, ltb-true (v + 1 + gd.width) (pads gd) (sym (next-down-on gd v) ∙ down-far-right (sym down-right ∙ h)))
+  pub down_right_corner : (q : ℕ) → q ≡ v + w + 1 → slot_on gd (32 + 2 * v) ≡ true → q < pads gd
+  down_right_corner q e h = omega (arith, ew, ltb-true (v + 1 + gd.width) (pads gd) (sym (next_down_on gd v) ∙ down_far_right (sym down_right ∙ h)))
 
-  pub down-left-corner : (q : ℕ) → q ≡ v + w - 1 → q < pads gd
-  down-left-corner q e = omega (arith, ew, down-inside)
+  pub down_left_corner : (q : ℕ) → q ≡ v + w - 1 → q < pads gd
+  down_left_corner q e = omega (arith, ew, down_inside)
 
-  bars-down-left : has-bit kind v 4 ≡ ((has-down gd v && has-side gd on-left v) && barred gd on-left gd.height v)
-  bars-down-left = k.bars on-left v (omega (arith, down-inside))
+  bars_down_left : has_bit kind v 4 ≡ ((has_down gd v && has_side gd on_left v) && barred gd on_left gd.height v)
+  bars_down_left = k.bars on_left v (omega (arith, down_inside))
 
-  bars-down-right : has-bit kind v 2 ≡ ((has-down gd v && has-side gd on-right v) && barred gd on-right gd.height v)
-  bars-down-right = k.bars on-right v (omega (arith, down-inside))
+  bars_down_right : has_bit kind v 2 ≡ ((has_down gd v && has_side gd on_right v) && barred gd on_right gd.height v)
+  bars_down_right = k.bars on_right v (omega (arith, down_inside))
 
-  pub down-left-bar-on : has-bit kind v 4 ≡ true → slot-on gd (30 + 2 * v) ≡ true
-  down-left-bar-on h = down-left ∙ (both (has-down gd v) (has_left gd v) (both _ (barred gd on-left gd.height v) (sym bars-down-left ∙ h)).0).1
+  pub down_left_bar_on : has_bit kind v 4 ≡ true → slot_on gd (30 + 2 * v) ≡ true
+  down_left_bar_on h = down_left ∙ (both (has_down gd v) (has_left gd v) (both _ (barred gd on_left gd.height v) (sym bars_down_left ∙ h)).0).1
 
-  pub down-right-bar-on : has-bit kind v 2 ≡ true → slot-on gd (32 + 2 * v) ≡ true
-  down-right-bar-on h = down-right ∙ (both (has-down gd v) (has_right gd v) (both _ (barred gd on-right gd.height v) (sym bars-down-right ∙ h)).0).1
+  pub down_right_bar_on : has_bit kind v 2 ≡ true → slot_on gd (32 + 2 * v) ≡ true
+  down_right_bar_on h = down_right ∙ (both (has_down gd v) (has_right gd v) (both _ (barred gd on_right gd.height v) (sym bars_down_right ∙ h)).0).1
 
-  pub down-done : {s₀ s' : Arrays} (x y : ℕ) → x ≡ pick (has-bit kind v 16) (31 + 2 * v) 0 → y ≡ pick (has-bit kind v 8) (35 + 2 * v) 0 → (L : List Item)
-      → Done gd 1 s₀ (detour-at gd (30 + 2 * v) (30 + 2 * v + 2 * w) (31 + 2 * v)
-      ++ (detour-at gd (30 + 2 * v + 2 * w) (30 + 2 * v) (31 + 2 * v)
-      ++ (detour-at gd x (30 + 2 * v) (30 + 2 * v + 2 * w)
-      ++ (detour-at gd (32 + 2 * v) (32 + 2 * v + 2 * w) (35 + 2 * v)
-      ++ (detour-at gd (32 + 2 * v + 2 * w) (32 + 2 * v) (35 + 2 * v)
-      ++ (detour-at gd y (32 + 2 * v) (32 + 2 * v + 2 * w)
-      ++ (corner-at gd on-left (v + w - 1) (30 + 2 * v) ++ (corner-at gd on-right (v + w + 1) (32 + 2 * v)
-      ++ (bar-at gd (has-bit kind v 4) (30 + 2 * v) ++ (bar-at gd (has-bit kind v 2) (32 + 2 * v) ++ L)))))))))) s'
-      → Done gd 1 s₀ (shape-items gd (down v) ++ L) s'
-  down-done x y ex ey L d = done-as gd (down-items gd k.least-width k.largest-width v on (has-bit kind v 16) (has-bit kind v 8) (has-bit kind v 4) (has-bit kind v 2)
-      corners-left corners-right bars-down-left bars-down-right L) (rw (ew, ex, ey) at d)
+  pub down_done : {s₀ s' : Arrays} (x y : ℕ) → x ≡ pick (has_bit kind v 16) (31 + 2 * v) 0 → y ≡ pick (has_bit kind v 8) (35 + 2 * v) 0 → (L : List Item)
+      → Done gd 1 s₀ (detour_at gd (30 + 2 * v) (30 + 2 * v + 2 * w) (31 + 2 * v)
+      ++ (detour_at gd (30 + 2 * v + 2 * w) (30 + 2 * v) (31 + 2 * v)
+      ++ (detour_at gd x (30 + 2 * v) (30 + 2 * v + 2 * w)
+      ++ (detour_at gd (32 + 2 * v) (32 + 2 * v + 2 * w) (35 + 2 * v)
+      ++ (detour_at gd (32 + 2 * v + 2 * w) (32 + 2 * v) (35 + 2 * v)
+      ++ (detour_at gd y (32 + 2 * v) (32 + 2 * v + 2 * w)
+      ++ (corner_at gd on_left (v + w - 1) (30 + 2 * v) ++ (corner_at gd on_right (v + w + 1) (32 + 2 * v)
+      ++ (bar_at gd (has_bit kind v 4) (30 + 2 * v) ++ (bar_at gd (has_bit kind v 2) (32 + 2 * v) ++ L)))))))))) s'
+      → Done gd 1 s₀ (shape_items gd (down v) ++ L) s'
+  down_done x y ex ey L d = done_as gd (down_items gd k.least_width k.largest_width v on (has_bit kind v 16) (has_bit kind v 8) (has_bit kind v 4) (has_bit kind v 2)
+      corners_left corners_right bars_down_left bars_down_right L) (rw (ew, ex, ey) at d)
 
 -- A CORNER asks for its two lines
-module _ (kind : List ℕ) (k : Kinds kind) (q : ℕ) (inside : q < pads (grid-in kind)) (t : Bool) where
+module _ (kind : List ℕ) (k : Kinds kind) (q : ℕ) (inside : q < pads (grid_in kind)) (t : Bool) where
   abbrev gc : Grid
-  gc = grid-in kind
+  gc = grid_in kind
 
-  module _ (side : Side) (et : t ≡ has-bit kind q (corner-bit side)) where
-    pub corner-exists : (has-down gc q && has-side gc side q) ≡ t
-    corner-exists = sym (k.corners side q inside) ∙ sym et
+  module _ (side : Side) (et : t ≡ has_bit kind q (corner_bit side)) where
+    pub corner_exists : (has_down gc q && has_side gc side q) ≡ t
+    corner_exists = sym (k.corners side q inside) ∙ sym et
 
-  pub corner-down : (side : Side) → t ≡ has-bit kind q (corner-bit side) → t ≡ true → on-board gc (down q) ≡ true
-  corner-down side et ht = (both (has-down gc q) (has-side gc side q) (corner-exists side et ∙ ht)).0
+  pub corner_down : (side : Side) → t ≡ has_bit kind q (corner_bit side) → t ≡ true → on_board gc (down q) ≡ true
+  corner_down side et ht = (both (has_down gc q) (has_side gc side q) (corner_exists side et ∙ ht)).0
 
-  pub corner-line-right : t ≡ has-bit kind q 8 → t ≡ true → on-board gc (right q) ≡ true
-  corner-line-right et ht = rw ((both (has-down gc q) (has_right gc q) (corner-exists on-right et ∙ ht)).1, lt-ltb q (pads gc) inside) refl
+  pub corner_line_right : t ≡ has_bit kind q 8 → t ≡ true → on_board gc (right q) ≡ true
+  corner_line_right et ht = rw ((both (has_down gc q) (has_right gc q) (corner_exists on_right et ∙ ht)).1, lt-ltb q (pads gc) inside) refl
 
-  left-column : t ≡ has-bit kind q 16 → t ≡ true → 0 < q % gc.width
-  left-column et ht = ltb-true 0 (q % gc.width) (both (has-down gc q) (has_left gc q) (corner-exists on-left et ∙ ht)).1
+  left_column : t ≡ has_bit kind q 16 → t ≡ true → 0 < q % gc.width
+  left_column et ht = ltb-true 0 (q % gc.width) (both (has_down gc q) (has_left gc q) (corner_exists on_left et ∙ ht)).1
 
-  pub corner-not-first : t ≡ has-bit kind q 16 → t ≡ true → 1 ≤ q
-  corner-not-first et ht = omega (arith, left-column et ht, mod-le q gc.width)
+  pub corner_not_first : t ≡ has_bit kind q 16 → t ≡ true → 1 ≤ q
+  corner_not_first et ht = omega (arith, left_column et ht, mod-le q gc.width)
 
-  pub corner-line-left : t ≡ has-bit kind q 16 → t ≡ true → on-board gc (right (q - 1)) ≡ true
-  corner-line-left et ht = rw (lt-ltb ((q - 1) % gc.width + 1) gc.width (column-before gc.width q (omega (arith, k.least-width)) (left-column et ht)), lt-ltb (q - 1) (pads gc) (omega arith)) refl
+  pub corner_line_left : t ≡ has_bit kind q 16 → t ≡ true → on_board gc (right (q - 1)) ≡ true
+  corner_line_left et ht = rw (lt-ltb ((q - 1) % gc.width + 1) gc.width (column_before gc.width q (omega (arith, k.least_width)) (left_column et ht)), lt-ltb (q - 1) (pads gc) (omega arith)) refl
 
 -- the pads beyond, as the code counts them
-pub beyond-left : (v : ℕ) → 15 + v - 16 ≡ v - 1
-beyond-left v = omega arith
+pub beyond_left : (v : ℕ) → 15 + v - 16 ≡ v - 1
+beyond_left v = omega arith
 
-pub beyond-right-side : (v : ℕ) → 17 + v - 16 ≡ v + 1
-beyond-right-side v = omega arith
+pub beyond_right_side : (v : ℕ) → 17 + v - 16 ≡ v + 1
+beyond_right_side v = omega arith
 
-pub beyond-up : (v w : ℕ) → w ≤ 16 → 16 + v - w - 16 ≡ v - w
-beyond-up v w h = omega arith
+pub beyond_up : (v w : ℕ) → w ≤ 16 → 16 + v - w - 16 ≡ v - w
+beyond_up v w h = omega arith
 
-pub beyond-down : (v w : ℕ) → 16 + v + w - 16 ≡ v + w
-beyond-down v w = omega arith
+pub beyond_down : (v w : ℕ) → 16 + v + w - 16 ≡ v + w
+beyond_down v w = omega arith
 
 -- the sides of a pad, told one after the other: the items of those before a side
 unfoldable pub told : Grid → ℕ → ℕ → ℕ → ℕ → List Item
 told g w v code zero = []
-told g w v code (suc side) = told g w v code side ++ keep_at g (code - 1) (slot-around w v side) (past-around w v side - 16)
+told g w v code (suc side) = told g w v code side ++ keep_at g (code - 1) (slot_around w v side) (past_around w v side - 16)
 
 -- THE FIRST PART of the pad check, up to a side: its items have been done, and after the last side they are all that document 01 names.
 -- Where no edge is to be none it begins behind the last side.
 pub record Apart (kind : List ℕ) (s : Arrays) (v w code side : ℕ) (s' : Arrays) : Type 0 where
   pub few : side ≤ 4
   pub clue : side < 4 → 1 ≤ code
-  pub some : side < 4 → Done (grid-in kind) 0 s (told (grid-in kind) w v code side) s'
-  pub all : side ≡ 4 → Done (grid-in kind) 0 s (first-items (grid-in kind) v (end-at s.ends v)) s'
+  pub some : side < 4 → Done (grid_in kind) 0 s (told (grid_in kind) w v code side) s'
+  pub all : side ≡ 4 → Done (grid_in kind) 0 s (first_items (grid_in kind) v (end_at s.ends v)) s'
 
 -- one of the four
-pub one_apart : (g : Grid) (s : Arrays) → Ready g s → (code n past : ℕ) → 1 ≤ code → n < 1024 → (n' : ℕ) → n' ≡ pick (ltb s.count 2048) (pick (keeps-apart s.edges s.ends code n (past - 16)) n 0) 0
-    → (s' : Arrays) → NoneAt g s n' s' → (r : ℕ) → r ≡ pick (eqb n' 0) s.count s'.count → Done g 0 s (keep_at g (code - 1) n (past - 16)) (with-count s' r)
-one_apart g s y code n past hc h n' e s' d r er = let c : suc (code - 1) ≡ code = omega arith in rw er (keep-step g s y (code - 1) n (past - 16) h n' (rw c e) s' d)
+pub one_apart : (g : Grid) (s : Arrays) → Ready g s → (code n past : ℕ) → 1 ≤ code → n < 1024 → (n' : ℕ) → n' ≡ pick (ltb s.count 2048) (pick (keeps_apart s.edges s.ends code n (past - 16)) n 0) 0
+    → (s' : Arrays) → NoneAt g s n' s' → (r : ℕ) → r ≡ pick (eqb n' 0) s.count s'.count → Done g 0 s (keep_at g (code - 1) n (past - 16)) (with_count s' r)
+one_apart g s y code n past hc h n' e s' d r er = let c : suc (code - 1) ≡ code = omega arith in rw er (keep_step g s y (code - 1) n (past - 16) h n' (rw c e) s' d)
 
 -- THE PAD CHECK
-module _ (kind : List ℕ) (s : Arrays) (k : Kinds kind) (y : Ready (grid-in kind) s) (v : ℕ) (inside : v < pads (grid-in kind)) where
+module _ (kind : List ℕ) (s : Arrays) (k : Kinds kind) (y : Ready (grid_in kind) s) (v : ℕ) (inside : v < pads (grid_in kind)) where
   abbrev gk : Grid
-  gk = grid-in kind
+  gk = grid_in kind
 
-  pub small-pad : v < 256
-  small-pad = omega (arith, y.few-pads)
+  pub small_pad : v < 256
+  small_pad = omega (arith, y.few_pads)
 
   -- the pads beyond undecided edges
-  pub past-left : get_or s.edges (30 + 2 * v) 0 ≡ 0 → 1 ≤ v
-  past-left z = omega (arith, (on-slot gk (30 + 2 * v) (slot-is-on gk s y (30 + 2 * v) (omega (arith, small-pad)) (omega arith))).0)
+  pub past_left : get_or s.edges (30 + 2 * v) 0 ≡ 0 → 1 ≤ v
+  past_left z = omega (arith, (on_slot gk (30 + 2 * v) (slot_is_on gk s y (30 + 2 * v) (omega (arith, small_pad)) (omega arith))).0)
 
   pub past_up : (w : ℕ) → w ≡ gk.width → get_or s.edges (33 + 2 * v - 2 * w) 0 ≡ 0 → w ≤ v
-  past_up w ew z = omega (arith, (on-slot gk (33 + 2 * v - 2 * w) (slot-is-on gk s y (33 + 2 * v - 2 * w) (omega (arith, small-pad)) (omega arith))).0)
+  past_up w ew z = omega (arith, (on_slot gk (33 + 2 * v - 2 * w) (slot_is_on gk s y (33 + 2 * v - 2 * w) (omega (arith, small_pad)) (omega arith))).0)
 
   -- the first part: no edge is to be none
-  module _ (w : ℕ) (ew : w ≡ gk.width) (Going-on : s.count < 2048) (t : Bool) (et : t ≡ clue-apart s.edges s.ends w v) where
-    low-slots : (30 + 2 * v < 1024) × (32 + 2 * v < 1024) × (33 + 2 * v - 2 * w < 1024) × (33 + 2 * v < 1024)
-    low-slots = omega (arith, small-pad)
+  module _ (w : ℕ) (ew : w ≡ gk.width) (Going-on : s.count < 2048) (t : Bool) (et : t ≡ clue_apart s.edges s.ends w v) where
+    low_slots : (30 + 2 * v < 1024) × (32 + 2 * v < 1024) × (33 + 2 * v - 2 * w < 1024) × (33 + 2 * v < 1024)
+    low_slots = omega (arith, small_pad)
 
-    none_apart : (code : ℕ) → some-apart s.edges s.ends w (suc code) v ≡ false → Done gk 0 s (keep-aparts code (around gk v)) s
-    unfolding some-apart
+    none_apart : (code : ℕ) → some_apart s.edges s.ends w (suc code) v ≡ false → Done gk 0 s (keep_aparts code (around gk v)) s
+    unfolding some_apart
     none_apart code h =
-        let a = neither (keeps-apart s.edges s.ends (suc code) (30 + 2 * v) (v - 1)) _ h in
-        let b = neither (keeps-apart s.edges s.ends (suc code) (32 + 2 * v) (v + 1)) _ a.1 in
-        let c = neither (keeps-apart s.edges s.ends (suc code) (33 + 2 * v - 2 * w) (v - w)) _ b.1 in
-        done-as gk (keeps-is gk k.least-width k.largest-width code v inside) (rw ew at
-        (done-then gk (keep-rests gk s y code (30 + 2 * v) (v - 1) low-slots.0 Going-on a.0)
-        (done-then gk (keep-rests gk s y code (32 + 2 * v) (v + 1) low-slots.1 Going-on b.0)
-        (done-then gk (keep-rests gk s y code (33 + 2 * v - 2 * w) (v - w) low-slots.2 Going-on c.0)
-        (keep-rests gk s y code (33 + 2 * v) (v + w) low-slots.3 Going-on c.1)))))
+        let a = neither (keeps_apart s.edges s.ends (suc code) (30 + 2 * v) (v - 1)) _ h in
+        let b = neither (keeps_apart s.edges s.ends (suc code) (32 + 2 * v) (v + 1)) _ a.1 in
+        let c = neither (keeps_apart s.edges s.ends (suc code) (33 + 2 * v - 2 * w) (v - w)) _ b.1 in
+        done_as gk (keeps_is gk k.least_width k.largest_width code v inside) (rw ew at
+        (done_then gk (keep_rests gk s y code (30 + 2 * v) (v - 1) low_slots.0 Going-on a.0)
+        (done_then gk (keep_rests gk s y code (32 + 2 * v) (v + 1) low_slots.1 Going-on b.0)
+        (done_then gk (keep_rests gk s y code (33 + 2 * v - 2 * w) (v - w) low_slots.2 Going-on c.0)
+        (keep_rests gk s y code (33 + 2 * v) (v + w) low_slots.3 Going-on c.1)))))
 
-    pub no-apart : t ≡ false → Done gk 0 s (first-items gk v (end-at s.ends v)) s
-    unfolding clue-apart first-items code-number
-    no-apart ht = go (end-at s.ends v) (sym et ∙ ht)
+    pub no_apart : t ≡ false → Done gk 0 s (first_items gk v (end_at s.ends v)) s
+    unfolding clue_apart first_items code_number
+    no_apart ht = go (end_at s.ends v) (sym et ∙ ht)
       where
-        go : (E : End) → pick (eqb (code-number E) 0) false (some-apart s.edges s.ends w (code-number E) v) ≡ false → Done gk 0 s (first-items gk v E) s
-        go through h = done-nothing gk 0 s y
-        go (at-pad a) h = done-nothing gk 0 s y
-        go (at-clue code) h = none_apart code (sym (ap (λ (b : Bool). pick b false (some-apart s.edges s.ends w (suc code) v)) (ne_eqb (suc code) 0 (omega arith))) ∙ h)
+        go : (E : End) → pick (eqb (code_number E) 0) false (some_apart s.edges s.ends w (code_number E) v) ≡ false → Done gk 0 s (first_items gk v E) s
+        go through h = done_nothing gk 0 s y
+        go (at_pad a) h = done_nothing gk 0 s y
+        go (at_clue code) h = none_apart code (sym (ap (λ (b : Bool). pick b false (some_apart s.edges s.ends w (suc code) v)) (ne_eqb (suc code) 0 (omega arith))) ∙ h)
 
     -- some edge is to be none: the pad's end is of a clue
-    pub clue-there : t ≡ true → (code : ℕ) → code ≡ code-number (end-at s.ends v) → 1 ≤ code
-    unfolding clue-apart
-    clue-there ht code ec = go (eqb (code-number (end-at s.ends v)) 0) refl (sym et ∙ ht)
+    pub clue_there : t ≡ true → (code : ℕ) → code ≡ code_number (end_at s.ends v) → 1 ≤ code
+    unfolding clue_apart
+    clue_there ht code ec = go (eqb (code_number (end_at s.ends v)) 0) refl (sym et ∙ ht)
       where
-        go : (b : Bool) → eqb (code-number (end-at s.ends v)) 0 ≡ b → pick b false (some-apart s.edges s.ends w (code-number (end-at s.ends v)) v) ≡ true → 1 ≤ code
+        go : (b : Bool) → eqb (code_number (end_at s.ends v)) 0 ≡ b → pick b false (some_apart s.edges s.ends w (code_number (end_at s.ends v)) v) ≡ true → 1 ≤ code
         go true e h = absurd (false≢true h)
-        go false e h = omega (arith, ec, eqb-false (code-number (end-at s.ends v)) 0 e)
+        go false e h = omega (arith, ec, eqb-false (code_number (end_at s.ends v)) 0 e)
 
-  clue-items : (code : ℕ) (E : End) → code ≡ code-number E → 1 ≤ code → first-items gk v E ≡ keep-aparts (code - 1) (around gk v)
-  unfolding first-items code-number
-  clue-items code through ec h = absurd (omega arith)
-  clue-items code (at-pad a) ec h = absurd (omega arith)
-  clue-items code (at-clue c) ec h = let same : c ≡ code - 1 = omega arith in rw same refl
+  clue_items : (code : ℕ) (E : End) → code ≡ code_number E → 1 ≤ code → first_items gk v E ≡ keep_aparts (code - 1) (around gk v)
+  unfolding first_items code_number
+  clue_items code through ec h = absurd (omega arith)
+  clue_items code (at_pad a) ec h = absurd (omega arith)
+  clue_items code (at_clue c) ec h = let same : c ≡ code - 1 = omega arith in rw same refl
 
   -- all four are told
-  pub four-apart : (w : ℕ) → w ≡ gk.width → (code : ℕ) → code ≡ code-number (end-at s.ends v) → 1 ≤ code → (s' : Arrays)
+  pub four_apart : (w : ℕ) → w ≡ gk.width → (code : ℕ) → code ≡ code_number (end_at s.ends v) → 1 ≤ code → (s' : Arrays)
       → Done gk 0 s (keep_at gk (code - 1) (30 + 2 * v) (15 + v - 16) ++ (keep_at gk (code - 1) (32 + 2 * v) (17 + v - 16) ++ (keep_at gk (code - 1) (33 + 2 * v - 2 * w) (16 + v - w - 16) ++ keep_at gk (code - 1) (33 + 2 * v) (16 + v + w - 16)))) s'
-      → Done gk 0 s (first-items gk v (end-at s.ends v)) s'
-  four-apart w ew code ec h s' d =
-      done-as gk (keeps-is gk k.least-width k.largest-width (code - 1) v inside ∙ sym (clue-items code (end-at s.ends v) ec h)) (rw (beyond-left v, beyond-right-side v, beyond-up v w (rw ew k.largest-width), beyond-down v w, ew) at d)
+      → Done gk 0 s (first_items gk v (end_at s.ends v)) s'
+  four_apart w ew code ec h s' d =
+      done_as gk (keeps_is gk k.least_width k.largest_width (code - 1) v inside ∙ sym (clue_items code (end_at s.ends v) ec h)) (rw (beyond_left v, beyond_right_side v, beyond_up v w (rw ew k.largest_width), beyond_down v w, ew) at d)
 
-  module _ (w : ℕ) (ew : w ≡ gk.width) (code : ℕ) (ec : code ≡ code-number (end-at s.ends v)) where
-    pub apart-begins : s.count < 2048 → (side : ℕ) → side ≡ pick (clue-apart s.edges s.ends w v) 0 4 → Apart kind s v w code side s
+  module _ (w : ℕ) (ew : w ≡ gk.width) (code : ℕ) (ec : code ≡ code_number (end_at s.ends v)) where
+    pub apart_begins : s.count < 2048 → (side : ℕ) → side ≡ pick (clue_apart s.edges s.ends w v) 0 4 → Apart kind s v w code side s
     unfolding told
-    apart-begins low side es = go (clue-apart s.edges s.ends w v) refl side es
+    apart_begins low side es = go (clue_apart s.edges s.ends w v) refl side es
       where
-        go : (b : Bool) → clue-apart s.edges s.ends w v ≡ b → (side : ℕ) → side ≡ pick b 0 4 → Apart kind s v w code side s
-        go true e side es = rw es (record { few = omega arith; clue = λ h. clue-there w ew low true (sym e) refl code ec; some = λ h. done-nothing gk 0 s y; all = λ h. absurd (omega arith) })
-        go false e side es = rw es (record { few = omega arith; clue = λ h. absurd (omega arith); some = λ h. absurd (omega arith); all = λ h. no-apart w ew low false (sym e) refl })
+        go : (b : Bool) → clue_apart s.edges s.ends w v ≡ b → (side : ℕ) → side ≡ pick b 0 4 → Apart kind s v w code side s
+        go true e side es = rw es (record { few = omega arith; clue = λ h. clue_there w ew low true (sym e) refl code ec; some = λ h. done_nothing gk 0 s y; all = λ h. absurd (omega arith) })
+        go false e side es = rw es (record { few = omega arith; clue = λ h. absurd (omega arith); some = λ h. absurd (omega arith); all = λ h. no_apart w ew low false (sym e) refl })
 
-    side-small : (side : ℕ) → slot-around w v side < 1024
-    unfolding slot-around
-    side-small side = go (eqb side 0) (eqb side 1) (eqb side 2)
+    side_small : (side : ℕ) → slot_around w v side < 1024
+    unfolding slot_around
+    side_small side = go (eqb side 0) (eqb side 1) (eqb side 2)
       where
         go : (a b c : Bool) → pick a (30 + 2 * v) (pick b (32 + 2 * v) (pick c (33 + 2 * v - 2 * w) (33 + 2 * v))) < 1024
-        go true b c = omega (arith, small-pad)
-        go false true c = omega (arith, small-pad)
-        go false false true = omega (arith, small-pad)
-        go false false false = omega (arith, small-pad)
+        go true b c = omega (arith, small_pad)
+        go false true c = omega (arith, small_pad)
+        go false false true = omega (arith, small_pad)
+        go false false false = omega (arith, small_pad)
 
     module _ (side : ℕ) (s₁ : Arrays) (so_far : Apart kind s v w code side s₁) where
-      apart-either : (Ready gk s₁) × (undecided-in s₁.edges ≤ undecided-in s.edges)
-      apart-either = elim (dec_lt side 4) [
+      apart_either : (Ready gk s₁) × (undecided_in s₁.edges ≤ undecided_in s.edges)
+      apart_either = elim (dec_lt side 4) [
         | yes low ↦ ((so_far.some low).ready, (so_far.some low).fewer)
         | no high ↦ ((so_far.all (last high)).ready, (so_far.all (last high)).fewer)
       ]
@@ -484,94 +484,94 @@ module _ (kind : List ℕ) (s : Arrays) (k : Kinds kind) (y : Ready (grid-in kin
           last high = omega (arith, so_far.few)
 
       pub apart_ready : Ready gk s₁
-      apart_ready = apart-either.0
+      apart_ready = apart_either.0
 
-      pub apart-fewer : undecided-in s₁.edges ≤ undecided-in s.edges
-      apart-fewer = apart-either.1
+      pub apart_fewer : undecided_in s₁.edges ≤ undecided_in s.edges
+      apart_fewer = apart_either.1
 
-      pub apart-done : (side < 4 → ⊥) → Done gk 0 s (first-items gk v (end-at s.ends v)) s₁
-      apart-done high = so_far.all (omega (arith, so_far.few))
+      pub apart_done : (side < 4 → ⊥) → Done gk 0 s (first_items gk v (end_at s.ends v)) s₁
+      apart_done high = so_far.all (omega (arith, so_far.few))
 
       module _ (low : side < 4) where
-        all_told : side + 1 ≡ 4 → (s' : Arrays) → Done gk 0 s (told gk w v code (suc side)) s' → Done gk 0 s (first-items gk v (end-at s.ends v)) s'
-        unfolding slot-around past-around told keep_at
-        all_told h s' d = let three : side ≡ 3 = omega arith in four-apart w ew code ec (so_far.clue low) s' (done-as gk in_order (rw three at d))
+        all_told : side + 1 ≡ 4 → (s' : Arrays) → Done gk 0 s (told gk w v code (suc side)) s' → Done gk 0 s (first_items gk v (end_at s.ends v)) s'
+        unfolding slot_around past_around told keep_at
+        all_told h s' d = let three : side ≡ 3 = omega arith in four_apart w ew code ec (so_far.clue low) s' (done_as gk in_order (rw three at d))
           where
             in_order : told gk w v code 4 ≡ (keep_at gk (code - 1) (30 + 2 * v) (15 + v - 16) ++ (keep_at gk (code - 1) (32 + 2 * v) (17 + v - 16) ++ (keep_at gk (code - 1) (33 + 2 * v - 2 * w) (16 + v - w - 16) ++ keep_at gk (code - 1) (33 + 2 * v) (16 + v + w - 16))))
             in_order = append_assoc (keep_at gk (code - 1) (30 + 2 * v) (15 + v - 16) ++ keep_at gk (code - 1) (32 + 2 * v) (17 + v - 16)) (keep_at gk (code - 1) (33 + 2 * v - 2 * w) (16 + v - w - 16)) (keep_at gk (code - 1) (33 + 2 * v) (16 + v + w - 16))
                 ∙ append_assoc (keep_at gk (code - 1) (30 + 2 * v) (15 + v - 16)) (keep_at gk (code - 1) (32 + 2 * v) (17 + v - 16)) (keep_at gk (code - 1) (33 + 2 * v - 2 * w) (16 + v - w - 16) ++ keep_at gk (code - 1) (33 + 2 * v) (16 + v + w - 16))
 
-        pub apart_more : (n : ℕ) → n ≡ pick (ltb s₁.count 2048) (pick (keeps-apart s₁.edges s₁.ends code (slot-around w v side) (past-around w v side - 16)) (slot-around w v side) 0) 0
-            → (s₂ : Arrays) → NoneAt gk s₁ n s₂ → (r : ℕ) → r ≡ pick (eqb n 0) s₁.count s₂.count → Apart kind s v w code (side + 1) (with-count s₂ r)
+        pub apart_more : (n : ℕ) → n ≡ pick (ltb s₁.count 2048) (pick (keeps_apart s₁.edges s₁.ends code (slot_around w v side) (past_around w v side - 16)) (slot_around w v side) 0) 0
+            → (s₂ : Arrays) → NoneAt gk s₁ n s₂ → (r : ℕ) → r ≡ pick (eqb n 0) s₁.count s₂.count → Apart kind s v w code (side + 1) (with_count s₂ r)
         unfolding told
-        apart_more n en s₂ none-there r er =
-            let d = done-then gk (so_far.some low) (one_apart gk s₁ apart_ready code (slot-around w v side) (past-around w v side) (so_far.clue low) (side-small side) n en s₂ none-there r er) in
+        apart_more n en s₂ none_there r er =
+            let d = done_then gk (so_far.some low) (one_apart gk s₁ apart_ready code (slot_around w v side) (past_around w v side) (so_far.clue low) (side_small side) n en s₂ none_there r er) in
             let next : side + 1 ≡ suc side = omega arith in
-            record { few = omega arith; clue = λ h. so_far.clue low; some = λ h. rw next d; all = λ h. all_told h (with-count s₂ r) d }
+            record { few = omega arith; clue = λ h. so_far.clue low; some = λ h. rw next d; all = λ h. all_told h (with_count s₂ r) d }
 
         -- an undecided edge on that side leads to a pad
-        pub past-there : get_or s₁.edges (slot-around w v side) 0 ≡ 0 → 16 ≤ past-around w v side
-        unfolding slot-around past-around
-        past-there = go (eqb side 0) (eqb side 1) (eqb side 2)
+        pub past_there : get_or s₁.edges (slot_around w v side) 0 ≡ 0 → 16 ≤ past_around w v side
+        unfolding slot_around past_around
+        past_there = go (eqb side 0) (eqb side 1) (eqb side 2)
           where
             go : (a b c : Bool) → get_or s₁.edges (pick a (30 + 2 * v) (pick b (32 + 2 * v) (pick c (33 + 2 * v - 2 * w) (33 + 2 * v)))) 0 ≡ 0 → 16 ≤ pick a (15 + v) (pick b (17 + v) (pick c (16 + v - w) (16 + v + w)))
-            go true b c z = omega (arith, (on-slot gk (30 + 2 * v) (slot-is-on gk s₁ apart_ready (30 + 2 * v) (omega (arith, small-pad)) (omega arith))).0)
+            go true b c z = omega (arith, (on_slot gk (30 + 2 * v) (slot_is_on gk s₁ apart_ready (30 + 2 * v) (omega (arith, small_pad)) (omega arith))).0)
             go false true c z = omega arith
-            go false false true z = omega (arith, (on-slot gk (33 + 2 * v - 2 * w) (slot-is-on gk s₁ apart_ready (33 + 2 * v - 2 * w) (omega (arith, small-pad)) (omega arith))).0)
+            go false false true z = omega (arith, (on_slot gk (33 + 2 * v - 2 * w) (slot_is_on gk s₁ apart_ready (33 + 2 * v - 2 * w) (omega (arith, small_pad)) (omega arith))).0)
             go false false false z = omega arith
 
 -- THE LAST PART by the code's branches
-module _ (kind : List ℕ) (s : Arrays) (k : Kinds kind) (y : Ready (grid-in kind) s) (v : ℕ) (inside : v < pads (grid-in kind)) (w : ℕ) (ew : w ≡ (grid-in kind).width) (t : ℕ) (et : t ≡ action-around kind s.edges w v) where
+module _ (kind : List ℕ) (s : Arrays) (k : Kinds kind) (y : Ready (grid_in kind) s) (v : ℕ) (inside : v < pads (grid_in kind)) (w : ℕ) (ew : w ≡ (grid_in kind).width) (t : ℕ) (et : t ≡ action_around kind s.edges w v) where
   abbrev gs : Grid
-  gs = grid-in kind
+  gs = grid_in kind
 
-  action-eq : t ≡ action-around kind s.edges gs.width v
-  action-eq = rw ew at et
+  action_eq : t ≡ action_around kind s.edges gs.width v
+  action_eq = rw ew at et
 
-  pub settle-rests : t < 2 → (c : ℕ) → c ≡ pick (eqb t 0) (ended s.count) (stopped s.count) → Settled gs s v (with-count s c)
-  settle-rests h c ec = go (eqb t 0) refl
+  pub settle_rests : t < 2 → (c : ℕ) → c ≡ pick (eqb t 0) (ended s.count) (stopped s.count) → Settled gs s v (with_count s c)
+  settle_rests h c ec = go (eqb t 0) refl
     where
-      go : (b : Bool) → eqb t 0 ≡ b → Settled gs s v (with-count s c)
-      go true e = rw (ec, e) (settle-nothing kind s y v t inside action-eq (eqb-true t 0 e))
-      go false e = rw (ec, e) (settle-raise kind s y v t inside action-eq (omega (arith, eqb-false t 0 e)))
+      go : (b : Bool) → eqb t 0 ≡ b → Settled gs s v (with_count s c)
+      go true e = rw (ec, e) (settle_nothing kind s y v t inside action_eq (eqb-true t 0 e))
+      go false e = rw (ec, e) (settle_raise kind s y v t inside action_eq (omega (arith, eqb-false t 0 e)))
 
-  pub leave-there : 1024 ≤ t → t - 1024 < 1024
-  leave-there h = (leave-slot kind s y v t inside action-eq h).1
+  pub leave_there : 1024 ≤ t → t - 1024 < 1024
+  leave_there h = (leave_slot kind s y v t inside action_eq h).1
 
-  pub settle-leaves : 1024 ≤ t → (s' : Arrays) → NoneAt gs s (t - 1024) s' → Settled gs s v s'
-  settle-leaves h s' d = settle-none kind s y v t inside action-eq h s' (d.acts (leave-slot kind s y v t inside action-eq h).0)
+  pub settle_leaves : 1024 ≤ t → (s' : Arrays) → NoneAt gs s (t - 1024) s' → Settled gs s v s'
+  settle_leaves h s' d = settle_none kind s y v t inside action_eq h s' (d.acts (leave_slot kind s y v t inside action_eq h).0)
 
   module _ (lo : 2 ≤ t) (hi : t < 1024) where
-    drawn : slot-on gs t ≡ true
-    drawn = draw-slot kind s y v t inside action-eq (omega arith) (omega arith) hi
+    drawn : slot_on gs t ≡ true
+    drawn = draw_slot kind s y v t inside action_eq (omega arith) (omega arith) hi
 
-    pub draw-high : 32 ≤ t
-    draw-high = (on-slot gs t drawn).0
+    pub draw_high : 32 ≤ t
+    draw_high = (on_slot gs t drawn).0
 
     module _ (pad : ℕ) (ep : pad ≡ t / 2 - 16) where
       right_there : t % 2 ≡ 0 → edge_of t ≡ right pad
       unfolding edge_of
       right_there e = rw (eq-eqb (t % 2) 0 e, ← ep) refl
 
-      down-there : (t % 2 ≡ 0 → ⊥) → edge_of t ≡ down pad
+      down_there : (t % 2 ≡ 0 → ⊥) → edge_of t ≡ down pad
       unfolding edge_of
-      down-there e = rw (ne_eqb (t % 2) 0 e, ← ep) refl
+      down_there e = rw (ne_eqb (t % 2) 0 e, ← ep) refl
 
-      pub draw-right : t % 2 ≡ 0 → on-board gs (right pad) ≡ true
-      draw-right e = ap (on-board gs) (sym (right_there e)) ∙ (on-slot gs t drawn).1
+      pub draw_right : t % 2 ≡ 0 → on_board gs (right pad) ≡ true
+      draw_right e = ap (on_board gs) (sym (right_there e)) ∙ (on_slot gs t drawn).1
 
-      pub draw-down : (t % 2 ≡ 0 → ⊥) → on-board gs (down pad) ≡ true
-      draw-down e = ap (on-board gs) (sym (down-there e)) ∙ (on-slot gs t drawn).1
+      pub draw_down : (t % 2 ≡ 0 → ⊥) → on_board gs (down pad) ≡ true
+      draw_down e = ap (on_board gs) (sym (down_there e)) ∙ (on_slot gs t drawn).1
 
-      pub draw-small : pad < 256
-      draw-small = go (eqb (t % 2) 0) refl
+      pub draw_small : pad < 256
+      draw_small = go (eqb (t % 2) 0) refl
         where
           go : (b : Bool) → eqb (t % 2) 0 ≡ b → pad < 256
-          go true e = omega (arith, (right-on gs y.least-width y.largest-width pad (draw-right (eqb-true (t % 2) 0 e))).1, y.few-pads)
-          go false e = omega (arith, down-on gs y.least-width y.largest-width pad (draw-down (eqb-false (t % 2) 0 e)), y.few-pads)
+          go true e = omega (arith, (right_on gs y.least_width y.largest_width pad (draw_right (eqb-true (t % 2) 0 e))).1, y.few_pads)
+          go false e = omega (arith, down_on gs y.least_width y.largest_width pad (draw_down (eqb-false (t % 2) 0 e)), y.few_pads)
 
-      pub settle-draws-right : t % 2 ≡ 0 → (s' : Arrays) → Decided gs s (right pad) line s' → Settled gs s v s'
-      settle-draws-right e s' d = settle-line kind s y v t inside action-eq (omega arith) (omega arith) hi s' (subst (λ (x : Edge). Decided gs s x line s') (sym (right_there e)) d)
+      pub settle_draws_right : t % 2 ≡ 0 → (s' : Arrays) → Decided gs s (right pad) line s' → Settled gs s v s'
+      settle_draws_right e s' d = settle_line kind s y v t inside action_eq (omega arith) (omega arith) hi s' (subst (λ (x : Edge). Decided gs s x line s') (sym (right_there e)) d)
 
-      pub settle-draws-down : (t % 2 ≡ 0 → ⊥) → (s' : Arrays) → Decided gs s (down pad) line s' → Settled gs s v s'
-      settle-draws-down e s' d = settle-line kind s y v t inside action-eq (omega arith) (omega arith) hi s' (subst (λ (x : Edge). Decided gs s x line s') (sym (down-there e)) d)
+      pub settle_draws_down : (t % 2 ≡ 0 → ⊥) → (s' : Arrays) → Decided gs s (down pad) line s' → Settled gs s v s'
+      settle_draws_down e s' d = settle_line kind s y v t inside action_eq (omega arith) (omega arith) hi s' (subst (λ (x : Edge). Decided gs s x line s') (sym (down_there e)) d)

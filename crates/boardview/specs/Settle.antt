@@ -9,65 +9,65 @@ use Rattle.std.proofs.Math.Dec.{eqb, ltb, leb}
 use borrow.Author.Tests.{eqb-true, eqb-false, eq-eqb, ne_eqb, lt-leb, le-leb, ltb-false}
 use Rattle.rules.specs.Grid.{Edge, right, down, Grid, pads}
 use Rattle.rules.specs.Drawing.{num}
-use Rattle.model.specs.PadTests.{has_right, has_left, has-down, has-up}
-use Rattle.model.specs.Board.{EdgeState, line, none, isUndecided, State, set-flag, Decide, with-edge, lines, undecideds, decide-first, line-or-none, around, degree, settled}
-use Rattle.boardview.specs.View.{Arrays, pick, edge_of, slot-on, view, grid-in, Ready, edges-around, undecided-around, degree-around, first-around, action-around}
-use Rattle.boardview.specs.Bytes.{elim-true, elim-false, right-slot, down-slot, on-slot}
-use Rattle.boardview.specs.Geometry.{slot-left, slot-right, slot-up, slot-down, edge-left, edge-up}
-use Rattle.boardview.specs.Steps.{line_at, undecided-at}
-use Rattle.boardview.specs.Items.{clue-test}
+use Rattle.model.specs.PadTests.{has_right, has_left, has_down, has_up}
+use Rattle.model.specs.Board.{EdgeState, line, none, is_undecided, State, set_flag, Decide, with_edge, lines, undecideds, decide_first, line_or_none, around, degree, settled}
+use Rattle.boardview.specs.View.{Arrays, pick, edge_of, slot_on, view, grid_in, Ready, edges_around, undecided_around, degree_around, first_around, action_around}
+use Rattle.boardview.specs.Bytes.{elim_true, elim_false, right_slot, down_slot, on_slot}
+use Rattle.boardview.specs.Geometry.{slot_left, slot_right, slot_up, slot_down, edge_left, edge_up}
+use Rattle.boardview.specs.Steps.{line_at, undecided_at}
+use Rattle.boardview.specs.Items.{clue_test}
 
 -- COUNTING: one edge that may be there
-module _ (g : Grid) (s : Arrays) (y : Ready g s) (n : ℕ) (h : n < 1024) (b : Bool) (eb : slot-on g n ≡ b) (e : Edge) (ee : b ≡ true → edge_of n ≡ e) (u : ℕ) (l : List (Edge × ℕ)) where
+module _ (g : Grid) (s : Arrays) (y : Ready g s) (n : ℕ) (h : n < 1024) (b : Bool) (eb : slot_on g n ≡ b) (e : Edge) (ee : b ≡ true → edge_of n ≡ e) (u : ℕ) (l : List (Edge × ℕ)) where
   inside : n < length s.edges
-  inside = omega (arith, y.edges-long)
+  inside = omega (arith, y.edges_long)
 
   abbrev byte : ℕ
   byte = get_or s.edges n 0
 
-  pub undecideds-one : undecideds (view s) (with-edge b e u l) ≡ num (eqb byte 0) + undecideds (view s) l
+  pub undecideds_one : undecideds (view s) (with_edge b e u l) ≡ num (eqb byte 0) + undecideds (view s) l
   unfolding undecideds
-  undecideds-one = go b eb ee
+  undecideds_one = go b eb ee
     where
-      go : (b : Bool) → slot-on g n ≡ b → (b ≡ true → edge_of n ≡ e) → undecideds (view s) (with-edge b e u l) ≡ num (eqb byte 0) + undecideds (view s) l
-      go true q k = rw (← (undecided-at s n (on-slot g n q).0 inside), k refl) refl
+      go : (b : Bool) → slot_on g n ≡ b → (b ≡ true → edge_of n ≡ e) → undecideds (view s) (with_edge b e u l) ≡ num (eqb byte 0) + undecideds (view s) l
+      go true q k = rw (← (undecided_at s n (on_slot g n q).0 inside), k refl) refl
       go false q k = rw (y.rim n h q) (omega arith)
 
-  pub lines-one : lines (view s) (with-edge b e u l) ≡ num (eqb byte 1) + lines (view s) l
+  pub lines_one : lines (view s) (with_edge b e u l) ≡ num (eqb byte 1) + lines (view s) l
   unfolding lines
-  lines-one = go b eb ee
+  lines_one = go b eb ee
     where
-      go : (b : Bool) → slot-on g n ≡ b → (b ≡ true → edge_of n ≡ e) → lines (view s) (with-edge b e u l) ≡ num (eqb byte 1) + lines (view s) l
-      go true q k = rw (← (line_at s n (on-slot g n q).0 inside), k refl) refl
+      go : (b : Bool) → slot_on g n ≡ b → (b ≡ true → edge_of n ≡ e) → lines (view s) (with_edge b e u l) ≡ num (eqb byte 1) + lines (view s) l
+      go true q k = rw (← (line_at s n (on_slot g n q).0 inside), k refl) refl
       go false q k = rw (y.rim n h q) (omega arith)
 
-  pub first-here : (dec : Decide) (m : EdgeState) → byte ≡ 0 → decide-first dec m (with-edge b e u l) (view s) ≡ dec (edge_of n) m (view s)
-  unfolding decide-first
-  first-here dec m z = go b eb ee
+  pub first_here : (dec : Decide) (m : EdgeState) → byte ≡ 0 → decide_first dec m (with_edge b e u l) (view s) ≡ dec (edge_of n) m (view s)
+  unfolding decide_first
+  first_here dec m z = go b eb ee
     where
-      go : (b : Bool) → slot-on g n ≡ b → (b ≡ true → edge_of n ≡ e) → decide-first dec m (with-edge b e u l) (view s) ≡ dec (edge_of n) m (view s)
-      go true q k = rw (← (k refl)) (elim-true (isUndecided ((view s).edge (edge_of n))) _ _ (undecided-at s n (on-slot g n q).0 inside ∙ eq-eqb byte 0 z))
+      go : (b : Bool) → slot_on g n ≡ b → (b ≡ true → edge_of n ≡ e) → decide_first dec m (with_edge b e u l) (view s) ≡ dec (edge_of n) m (view s)
+      go true q k = rw (← (k refl)) (elim_true (is_undecided ((view s).edge (edge_of n))) _ _ (undecided_at s n (on_slot g n q).0 inside ∙ eq-eqb byte 0 z))
       go false q k = absurd (omega (arith, y.rim n h q))
 
-  pub first-later : (dec : Decide) (m : EdgeState) → (byte ≡ 0 → ⊥) → decide-first dec m (with-edge b e u l) (view s) ≡ decide-first dec m l (view s)
-  unfolding decide-first
-  first-later dec m z = go b eb ee
+  pub first_later : (dec : Decide) (m : EdgeState) → (byte ≡ 0 → ⊥) → decide_first dec m (with_edge b e u l) (view s) ≡ decide_first dec m l (view s)
+  unfolding decide_first
+  first_later dec m z = go b eb ee
     where
-      go : (b : Bool) → slot-on g n ≡ b → (b ≡ true → edge_of n ≡ e) → decide-first dec m (with-edge b e u l) (view s) ≡ decide-first dec m l (view s)
-      go true q k = rw (← (k refl)) (elim-false (isUndecided ((view s).edge (edge_of n))) _ _ (undecided-at s n (on-slot g n q).0 inside ∙ ne_eqb byte 0 z))
+      go : (b : Bool) → slot_on g n ≡ b → (b ≡ true → edge_of n ≡ e) → decide_first dec m (with_edge b e u l) (view s) ≡ decide_first dec m l (view s)
+      go true q k = rw (← (k refl)) (elim_false (is_undecided ((view s).edge (edge_of n))) _ _ (undecided_at s n (on_slot g n q).0 inside ∙ ne_eqb byte 0 z))
       go false q k = refl
 
 -- THE ACTION of the last part, as the model has it
 pub data Action (kind : List ℕ) (s : Arrays) (v t : ℕ) : Type 0 where
-  nothing : t ≡ 0 → ((dec : Decide) → settled (grid-in kind) dec v (view s) ≡ view s) → Action kind s v t
-  raise : t ≡ 1 → ((dec : Decide) → settled (grid-in kind) dec v (view s) ≡ set-flag (view s)) → Action kind s v t
-  draw : (n : ℕ) → t ≡ n → n < 1024 → get_or s.edges n 0 ≡ 0 → ((dec : Decide) → settled (grid-in kind) dec v (view s) ≡ dec (edge_of n) line (view s)) → Action kind s v t
-  leave : (n : ℕ) → t ≡ n + 1024 → n < 1024 → get_or s.edges n 0 ≡ 0 → ((dec : Decide) → settled (grid-in kind) dec v (view s) ≡ dec (edge_of n) none (view s)) → Action kind s v t
+  nothing : t ≡ 0 → ((dec : Decide) → settled (grid_in kind) dec v (view s) ≡ view s) → Action kind s v t
+  raise : t ≡ 1 → ((dec : Decide) → settled (grid_in kind) dec v (view s) ≡ set_flag (view s)) → Action kind s v t
+  draw : (n : ℕ) → t ≡ n → n < 1024 → get_or s.edges n 0 ≡ 0 → ((dec : Decide) → settled (grid_in kind) dec v (view s) ≡ dec (edge_of n) line (view s)) → Action kind s v t
+  leave : (n : ℕ) → t ≡ n + 1024 → n < 1024 → get_or s.edges n 0 ≡ 0 → ((dec : Decide) → settled (grid_in kind) dec v (view s) ≡ dec (edge_of n) none (view s)) → Action kind s v t
 
 -- ALL FOUR
-module _ (kind : List ℕ) (s : Arrays) (y : Ready (grid-in kind) s) (v : ℕ) (inside-board : v < pads (grid-in kind)) where
+module _ (kind : List ℕ) (s : Arrays) (y : Ready (grid_in kind) s) (v : ℕ) (inside_board : v < pads (grid_in kind)) where
   abbrev g : Grid
-  g = grid-in kind
+  g = grid_in kind
 
   abbrev w : ℕ
   w = g.width
@@ -76,70 +76,70 @@ module _ (kind : List ℕ) (s : Arrays) (y : Ready (grid-in kind) s) (v : ℕ) (
   es = s.edges
 
   small : v < 256
-  small = omega (arith, y.few-pads)
+  small = omega (arith, y.few_pads)
 
-  low-left : 30 + 2 * v < 1024
-  low-left = omega (arith, small)
+  low_left : 30 + 2 * v < 1024
+  low_left = omega (arith, small)
 
-  low-right : 32 + 2 * v < 1024
-  low-right = omega (arith, small)
+  low_right : 32 + 2 * v < 1024
+  low_right = omega (arith, small)
 
   low_up : 33 + 2 * v - 2 * w < 1024
   low_up = omega (arith, small)
 
-  low-down : 33 + 2 * v < 1024
-  low-down = omega (arith, small)
+  low_down : 33 + 2 * v < 1024
+  low_down = omega (arith, small)
 
-  at_left : slot-on g (30 + 2 * v) ≡ has_left g v
-  at_left = slot-left g y.least-width y.largest-width v inside-board
+  at_left : slot_on g (30 + 2 * v) ≡ has_left g v
+  at_left = slot_left g y.least_width y.largest_width v inside_board
 
-  at_right : slot-on g (32 + 2 * v) ≡ has_right g v
-  at_right = slot-right g y.least-width y.largest-width v inside-board
+  at_right : slot_on g (32 + 2 * v) ≡ has_right g v
+  at_right = slot_right g y.least_width y.largest_width v inside_board
 
-  at_up : slot-on g (33 + 2 * v - 2 * w) ≡ has-up g v
-  at_up = slot-up g y.least-width y.largest-width v inside-board
+  at_up : slot_on g (33 + 2 * v - 2 * w) ≡ has_up g v
+  at_up = slot_up g y.least_width y.largest_width v inside_board
 
-  at-down : slot-on g (33 + 2 * v) ≡ has-down g v
-  at-down = slot-down g y.least-width y.largest-width v inside-board
+  at_down : slot_on g (33 + 2 * v) ≡ has_down g v
+  at_down = slot_down g y.least_width y.largest_width v inside_board
 
-  is-left : has_left g v ≡ true → edge_of (30 + 2 * v) ≡ right (v - 1)
-  is-left = edge-left g y.least-width y.largest-width v inside-board
+  is_left : has_left g v ≡ true → edge_of (30 + 2 * v) ≡ right (v - 1)
+  is_left = edge_left g y.least_width y.largest_width v inside_board
 
   is_right : has_right g v ≡ true → edge_of (32 + 2 * v) ≡ right v
-  is_right e = right-slot v
+  is_right e = right_slot v
 
-  is_up : has-up g v ≡ true → edge_of (33 + 2 * v - 2 * w) ≡ down (v - w)
-  is_up = edge-up g y.least-width y.largest-width v inside-board
+  is_up : has_up g v ≡ true → edge_of (33 + 2 * v - 2 * w) ≡ down (v - w)
+  is_up = edge_up g y.least_width y.largest_width v inside_board
 
-  is_down : has-down g v ≡ true → edge_of (33 + 2 * v) ≡ down v
-  is_down e = down-slot v
+  is_down : has_down g v ≡ true → edge_of (33 + 2 * v) ≡ down v
+  is_down e = down_slot v
 
-  abbrev from-down : List (Edge × ℕ)
-  from-down = with-edge (has-down g v) (down v) (v + w) []
+  abbrev from_down : List (Edge × ℕ)
+  from_down = with_edge (has_down g v) (down v) (v + w) []
 
   abbrev from_up : List (Edge × ℕ)
-  from_up = with-edge (has-up g v) (down (v - w)) (v - w) from-down
+  from_up = with_edge (has_up g v) (down (v - w)) (v - w) from_down
 
-  abbrev from-right : List (Edge × ℕ)
-  from-right = with-edge (has_right g v) (right v) (v + 1) from_up
+  abbrev from_right : List (Edge × ℕ)
+  from_right = with_edge (has_right g v) (right v) (v + 1) from_up
 
-  pub undecideds-is : undecideds (view s) (around g v) ≡ undecided-around es w v
-  unfolding around edges-around undecideds
-  undecideds-is = undecideds-one g s y (30 + 2 * v) low-left (has_left g v) at_left (right (v - 1)) is-left (v - 1) from-right
+  pub undecideds_is : undecideds (view s) (around g v) ≡ undecided_around es w v
+  unfolding around edges_around undecideds
+  undecideds_is = undecideds_one g s y (30 + 2 * v) low_left (has_left g v) at_left (right (v - 1)) is_left (v - 1) from_right
       ∙ rw (
-        undecideds-one g s y (32 + 2 * v) low-right (has_right g v) at_right (right v) is_right (v + 1) from_up,
-        undecideds-one g s y (33 + 2 * v - 2 * w) low_up (has-up g v) at_up (down (v - w)) is_up (v - w) from-down,
-        undecideds-one g s y (33 + 2 * v) low-down (has-down g v) at-down (down v) is_down (v + w) [],
+        undecideds_one g s y (32 + 2 * v) low_right (has_right g v) at_right (right v) is_right (v + 1) from_up,
+        undecideds_one g s y (33 + 2 * v - 2 * w) low_up (has_up g v) at_up (down (v - w)) is_up (v - w) from_down,
+        undecideds_one g s y (33 + 2 * v) low_down (has_down g v) at_down (down v) is_down (v + w) [],
       ) (omega arith)
 
-  pub degree-is : degree g (view s) v ≡ degree-around kind es w v
-  unfolding around degree edges-around degree-around lines
-  degree-is = rw (
-    clue-test kind v small,
-    lines-one g s y (30 + 2 * v) low-left (has_left g v) at_left (right (v - 1)) is-left (v - 1) from-right,
-    lines-one g s y (32 + 2 * v) low-right (has_right g v) at_right (right v) is_right (v + 1) from_up,
-    lines-one g s y (33 + 2 * v - 2 * w) low_up (has-up g v) at_up (down (v - w)) is_up (v - w) from-down,
-    lines-one g s y (33 + 2 * v) low-down (has-down g v) at-down (down v) is_down (v + w) [],
+  pub degree_is : degree g (view s) v ≡ degree_around kind es w v
+  unfolding around degree edges_around degree_around lines
+  degree_is = rw (
+    clue_test kind v small,
+    lines_one g s y (30 + 2 * v) low_left (has_left g v) at_left (right (v - 1)) is_left (v - 1) from_right,
+    lines_one g s y (32 + 2 * v) low_right (has_right g v) at_right (right v) is_right (v + 1) from_up,
+    lines_one g s y (33 + 2 * v - 2 * w) low_up (has_up g v) at_up (down (v - w)) is_up (v - w) from_down,
+    lines_one g s y (33 + 2 * v) low_down (has_down g v) at_down (down v) is_down (v + w) [],
   ) (omega arith)
 
   -- the first undecided edge
@@ -147,8 +147,8 @@ module _ (kind : List ℕ) (s : Arrays) (y : Ready (grid-in kind) s) (v : ℕ) (
     abbrev bytes_left : ℕ
     bytes_left = get_or es (30 + 2 * v) 0
 
-    abbrev bytes-right : ℕ
-    bytes-right = get_or es (32 + 2 * v) 0
+    abbrev bytes_right : ℕ
+    bytes_right = get_or es (32 + 2 * v) 0
 
     abbrev bytes_up : ℕ
     bytes_up = get_or es (33 + 2 * v - 2 * w) 0
@@ -156,107 +156,107 @@ module _ (kind : List ℕ) (s : Arrays) (y : Ready (grid-in kind) s) (v : ℕ) (
     abbrev bytes_down : ℕ
     bytes_down = get_or es (33 + 2 * v) 0
 
-    skip-left : (bytes_left ≡ 0 → ⊥) → decide-first dec m (around g v) (view s) ≡ decide-first dec m from-right (view s)
+    skip_left : (bytes_left ≡ 0 → ⊥) → decide_first dec m (around g v) (view s) ≡ decide_first dec m from_right (view s)
     unfolding around
-    skip-left = first-later g s y (30 + 2 * v) low-left (has_left g v) at_left (right (v - 1)) is-left (v - 1) from-right dec m
+    skip_left = first_later g s y (30 + 2 * v) low_left (has_left g v) at_left (right (v - 1)) is_left (v - 1) from_right dec m
 
-    skip-right : (bytes-right ≡ 0 → ⊥) → decide-first dec m from-right (view s) ≡ decide-first dec m from_up (view s)
-    skip-right = first-later g s y (32 + 2 * v) low-right (has_right g v) at_right (right v) is_right (v + 1) from_up dec m
+    skip_right : (bytes_right ≡ 0 → ⊥) → decide_first dec m from_right (view s) ≡ decide_first dec m from_up (view s)
+    skip_right = first_later g s y (32 + 2 * v) low_right (has_right g v) at_right (right v) is_right (v + 1) from_up dec m
 
-    skip-up : (bytes_up ≡ 0 → ⊥) → decide-first dec m from_up (view s) ≡ decide-first dec m from-down (view s)
-    skip-up = first-later g s y (33 + 2 * v - 2 * w) low_up (has-up g v) at_up (down (v - w)) is_up (v - w) from-down dec m
+    skip_up : (bytes_up ≡ 0 → ⊥) → decide_first dec m from_up (view s) ≡ decide_first dec m from_down (view s)
+    skip_up = first_later g s y (33 + 2 * v - 2 * w) low_up (has_up g v) at_up (down (v - w)) is_up (v - w) from_down dec m
 
-    skip-down : (bytes_down ≡ 0 → ⊥) → decide-first dec m from-down (view s) ≡ view s
-    unfolding decide-first
-    skip-down = first-later g s y (33 + 2 * v) low-down (has-down g v) at-down (down v) is_down (v + w) [] dec m
+    skip_down : (bytes_down ≡ 0 → ⊥) → decide_first dec m from_down (view s) ≡ view s
+    unfolding decide_first
+    skip_down = first_later g s y (33 + 2 * v) low_down (has_down g v) at_down (down v) is_down (v + w) [] dec m
 
-    take_left : bytes_left ≡ 0 → decide-first dec m (around g v) (view s) ≡ dec (edge_of (30 + 2 * v)) m (view s)
+    take_left : bytes_left ≡ 0 → decide_first dec m (around g v) (view s) ≡ dec (edge_of (30 + 2 * v)) m (view s)
     unfolding around
-    take_left = first-here g s y (30 + 2 * v) low-left (has_left g v) at_left (right (v - 1)) is-left (v - 1) from-right dec m
+    take_left = first_here g s y (30 + 2 * v) low_left (has_left g v) at_left (right (v - 1)) is_left (v - 1) from_right dec m
 
-    take-right : bytes-right ≡ 0 → decide-first dec m from-right (view s) ≡ dec (edge_of (32 + 2 * v)) m (view s)
-    take-right = first-here g s y (32 + 2 * v) low-right (has_right g v) at_right (right v) is_right (v + 1) from_up dec m
+    take_right : bytes_right ≡ 0 → decide_first dec m from_right (view s) ≡ dec (edge_of (32 + 2 * v)) m (view s)
+    take_right = first_here g s y (32 + 2 * v) low_right (has_right g v) at_right (right v) is_right (v + 1) from_up dec m
 
-    take-up : bytes_up ≡ 0 → decide-first dec m from_up (view s) ≡ dec (edge_of (33 + 2 * v - 2 * w)) m (view s)
-    take-up = first-here g s y (33 + 2 * v - 2 * w) low_up (has-up g v) at_up (down (v - w)) is_up (v - w) from-down dec m
+    take_up : bytes_up ≡ 0 → decide_first dec m from_up (view s) ≡ dec (edge_of (33 + 2 * v - 2 * w)) m (view s)
+    take_up = first_here g s y (33 + 2 * v - 2 * w) low_up (has_up g v) at_up (down (v - w)) is_up (v - w) from_down dec m
 
-    take-down : bytes_down ≡ 0 → decide-first dec m from-down (view s) ≡ dec (edge_of (33 + 2 * v)) m (view s)
-    take-down = first-here g s y (33 + 2 * v) low-down (has-down g v) at-down (down v) is_down (v + w) [] dec m
+    take_down : bytes_down ≡ 0 → decide_first dec m from_down (view s) ≡ dec (edge_of (33 + 2 * v)) m (view s)
+    take_down = first_here g s y (33 + 2 * v) low_down (has_down g v) at_down (down v) is_down (v + w) [] dec m
 
     zero_of : (b : ℕ) → num (eqb b 0) ≡ 0 → b ≡ 0 → ⊥
     zero_of b h z = absurd (omega (arith, sym (ap num (eq-eqb b 0 z)) ∙ h))
 
-    pub none-undecided : undecided-around es w v ≡ 0 → decide-first dec m (around g v) (view s) ≡ view s
-    unfolding edges-around
-    none-undecided h = skip-left (zero_of bytes_left (omega arith)) ∙ (skip-right (zero_of bytes-right (omega arith)) ∙ (skip-up (zero_of bytes_up (omega arith)) ∙ skip-down (zero_of bytes_down (omega arith))))
+    pub none_undecided : undecided_around es w v ≡ 0 → decide_first dec m (around g v) (view s) ≡ view s
+    unfolding edges_around
+    none_undecided h = skip_left (zero_of bytes_left (omega arith)) ∙ (skip_right (zero_of bytes_right (omega arith)) ∙ (skip_up (zero_of bytes_up (omega arith)) ∙ skip_down (zero_of bytes_down (omega arith))))
 
     -- the first undecided edge: it is decided, and its byte is 0
     abbrev Claim : ℕ → Type 0
-    Claim n = (decide-first dec m (around g v) (view s) ≡ dec (edge_of n) m (view s)) × (get_or es n 0 ≡ 0) × (n < 1024)
+    Claim n = (decide_first dec m (around g v) (view s) ≡ dec (edge_of n) m (view s)) × (get_or es n 0 ≡ 0) × (n < 1024)
 
-    pub first-undecided : (undecided-around es w v ≡ 0 → ⊥) → Claim (first-around es w v)
-    unfolding edges-around first-around
-    first-undecided h = go1 (eqb bytes_left 0) refl
+    pub first_undecided : (undecided_around es w v ≡ 0 → ⊥) → Claim (first_around es w v)
+    unfolding edges_around first_around
+    first_undecided h = go1 (eqb bytes_left 0) refl
       where
-        go4 : (bytes_left ≡ 0 → ⊥) → (bytes-right ≡ 0 → ⊥) → (bytes_up ≡ 0 → ⊥) → (b : Bool) → eqb bytes_down 0 ≡ b → Claim (33 + 2 * v)
-        go4 a c d true e = (skip-left a ∙ (skip-right c ∙ (skip-up d ∙ take-down (eqb-true bytes_down 0 e))), eqb-true bytes_down 0 e, low-down)
-        go4 a c d false e = absurd (h (rw (ne_eqb bytes_left 0 a, ne_eqb bytes-right 0 c, ne_eqb bytes_up 0 d, e) refl))
+        go4 : (bytes_left ≡ 0 → ⊥) → (bytes_right ≡ 0 → ⊥) → (bytes_up ≡ 0 → ⊥) → (b : Bool) → eqb bytes_down 0 ≡ b → Claim (33 + 2 * v)
+        go4 a c d true e = (skip_left a ∙ (skip_right c ∙ (skip_up d ∙ take_down (eqb-true bytes_down 0 e))), eqb-true bytes_down 0 e, low_down)
+        go4 a c d false e = absurd (h (rw (ne_eqb bytes_left 0 a, ne_eqb bytes_right 0 c, ne_eqb bytes_up 0 d, e) refl))
 
-        go3 : (bytes_left ≡ 0 → ⊥) → (bytes-right ≡ 0 → ⊥) → (b : Bool) → eqb bytes_up 0 ≡ b → Claim (pick b (33 + 2 * v - 2 * w) (33 + 2 * v))
-        go3 a c true e = (skip-left a ∙ (skip-right c ∙ take-up (eqb-true bytes_up 0 e)), eqb-true bytes_up 0 e, low_up)
+        go3 : (bytes_left ≡ 0 → ⊥) → (bytes_right ≡ 0 → ⊥) → (b : Bool) → eqb bytes_up 0 ≡ b → Claim (pick b (33 + 2 * v - 2 * w) (33 + 2 * v))
+        go3 a c true e = (skip_left a ∙ (skip_right c ∙ take_up (eqb-true bytes_up 0 e)), eqb-true bytes_up 0 e, low_up)
         go3 a c false e = go4 a c (eqb-false bytes_up 0 e) (eqb bytes_down 0) refl
 
-        go2 : (bytes_left ≡ 0 → ⊥) → (b : Bool) → eqb bytes-right 0 ≡ b → Claim (pick b (32 + 2 * v) (pick (eqb bytes_up 0) (33 + 2 * v - 2 * w) (33 + 2 * v)))
-        go2 a true e = (skip-left a ∙ take-right (eqb-true bytes-right 0 e), eqb-true bytes-right 0 e, low-right)
-        go2 a false e = go3 a (eqb-false bytes-right 0 e) (eqb bytes_up 0) refl
+        go2 : (bytes_left ≡ 0 → ⊥) → (b : Bool) → eqb bytes_right 0 ≡ b → Claim (pick b (32 + 2 * v) (pick (eqb bytes_up 0) (33 + 2 * v - 2 * w) (33 + 2 * v)))
+        go2 a true e = (skip_left a ∙ take_right (eqb-true bytes_right 0 e), eqb-true bytes_right 0 e, low_right)
+        go2 a false e = go3 a (eqb-false bytes_right 0 e) (eqb bytes_up 0) refl
 
-        go1 : (b : Bool) → eqb bytes_left 0 ≡ b → Claim (pick b (30 + 2 * v) (pick (eqb bytes-right 0) (32 + 2 * v) (pick (eqb bytes_up 0) (33 + 2 * v - 2 * w) (33 + 2 * v))))
-        go1 true e = (take_left (eqb-true bytes_left 0 e), eqb-true bytes_left 0 e, low-left)
-        go1 false e = go2 (eqb-false bytes_left 0 e) (eqb bytes-right 0) refl
+        go1 : (b : Bool) → eqb bytes_left 0 ≡ b → Claim (pick b (30 + 2 * v) (pick (eqb bytes_right 0) (32 + 2 * v) (pick (eqb bytes_up 0) (33 + 2 * v - 2 * w) (33 + 2 * v))))
+        go1 true e = (take_left (eqb-true bytes_left 0 e), eqb-true bytes_left 0 e, low_left)
+        go1 false e = go2 (eqb-false bytes_left 0 e) (eqb bytes_right 0) refl
 
   -- THE MODEL'S LAST PART, by its tests
   module _ (dec : Decide) where
     abbrev D : ℕ
-    D = degree-around kind es w v
+    D = degree_around kind es w v
 
     abbrev N : ℕ
-    N = undecided-around es w v
+    N = undecided_around es w v
 
     abbrev decides : ℕ → ℕ → State
-    decides d n = elim (eqb n 1 || leb 2 d) [ true ↦ decide-first dec (line-or-none (eqb d 1)) (around g v) (view s) | false ↦ view s ]
+    decides d n = elim (eqb n 1 || leb 2 d) [ true ↦ decide_first dec (line_or_none (eqb d 1)) (around g v) (view s) | false ↦ view s ]
 
-    settled_is : settled g dec v (view s) ≡ elim (ltb 2 D || (eqb D 1 && eqb N 0)) [ true ↦ set-flag (view s) | false ↦ decides D N ]
+    settled_is : settled g dec v (view s) ≡ elim (ltb 2 D || (eqb D 1 && eqb N 0)) [ true ↦ set_flag (view s) | false ↦ decides D N ]
     unfolding settled
-    settled_is = ap (λ (d : ℕ). elim (ltb 2 d || (eqb d 1 && eqb (undecideds (view s) (around g v)) 0)) [ true ↦ set-flag (view s) | false ↦ decides d (undecideds (view s) (around g v)) ]) degree-is
-        ∙ ap (λ (n : ℕ). elim (ltb 2 D || (eqb D 1 && eqb n 0)) [ true ↦ set-flag (view s) | false ↦ decides D n ]) undecideds-is
+    settled_is = ap (λ (d : ℕ). elim (ltb 2 d || (eqb d 1 && eqb (undecideds (view s) (around g v)) 0)) [ true ↦ set_flag (view s) | false ↦ decides d (undecideds (view s) (around g v)) ]) degree_is
+        ∙ ap (λ (n : ℕ). elim (ltb 2 D || (eqb D 1 && eqb n 0)) [ true ↦ set_flag (view s) | false ↦ decides D n ]) undecideds_is
 
-    flags : (ltb 2 D || (eqb D 1 && eqb N 0)) ≡ true → settled g dec v (view s) ≡ set-flag (view s)
-    flags h = settled_is ∙ elim-true (ltb 2 D || (eqb D 1 && eqb N 0)) (set-flag (view s)) (decides D N) h
+    flags : (ltb 2 D || (eqb D 1 && eqb N 0)) ≡ true → settled g dec v (view s) ≡ set_flag (view s)
+    flags h = settled_is ∙ elim_true (ltb 2 D || (eqb D 1 && eqb N 0)) (set_flag (view s)) (decides D N) h
 
-    firsts : (ltb 2 D || (eqb D 1 && eqb N 0)) ≡ false → (eqb N 1 || leb 2 D) ≡ true → settled g dec v (view s) ≡ decide-first dec (line-or-none (eqb D 1)) (around g v) (view s)
-    firsts h k = settled_is ∙ (elim-false (ltb 2 D || (eqb D 1 && eqb N 0)) (set-flag (view s)) (decides D N) h
-        ∙ elim-true (eqb N 1 || leb 2 D) (decide-first dec (line-or-none (eqb D 1)) (around g v) (view s)) (view s) k)
+    firsts : (ltb 2 D || (eqb D 1 && eqb N 0)) ≡ false → (eqb N 1 || leb 2 D) ≡ true → settled g dec v (view s) ≡ decide_first dec (line_or_none (eqb D 1)) (around g v) (view s)
+    firsts h k = settled_is ∙ (elim_false (ltb 2 D || (eqb D 1 && eqb N 0)) (set_flag (view s)) (decides D N) h
+        ∙ elim_true (eqb N 1 || leb 2 D) (decide_first dec (line_or_none (eqb D 1)) (around g v) (view s)) (view s) k)
 
     rests : (ltb 2 D || (eqb D 1 && eqb N 0)) ≡ false → (eqb N 1 || leb 2 D) ≡ false → settled g dec v (view s) ≡ view s
-    rests h k = settled_is ∙ (elim-false (ltb 2 D || (eqb D 1 && eqb N 0)) (set-flag (view s)) (decides D N) h
-        ∙ elim-false (eqb N 1 || leb 2 D) (decide-first dec (line-or-none (eqb D 1)) (around g v) (view s)) (view s) k)
+    rests h k = settled_is ∙ (elim_false (ltb 2 D || (eqb D 1 && eqb N 0)) (set_flag (view s)) (decides D N) h
+        ∙ elim_false (eqb N 1 || leb 2 D) (decide_first dec (line_or_none (eqb D 1)) (around g v) (view s)) (view s) k)
 
   -- THE ACTION
-  first-facts : (N (λ e m S. S) ≡ 0 → ⊥) → (get_or es (first-around es w v) 0 ≡ 0) × (first-around es w v < 1024)
-  first-facts h = let c = first-undecided (λ e m S. S) line h in (c.1, c.2)
+  first_facts : (N (λ e m S. S) ≡ 0 → ⊥) → (get_or es (first_around es w v) 0 ≡ 0) × (first_around es w v < 1024)
+  first_facts h = let c = first_undecided (λ e m S. S) line h in (c.1, c.2)
 
   abbrev dd : ℕ
-  dd = degree-around kind es w v
+  dd = degree_around kind es w v
 
   abbrev nn : ℕ
-  nn = undecided-around es w v
+  nn = undecided_around es w v
 
   abbrev ff : ℕ
-  ff = first-around es w v
+  ff = first_around es w v
 
-  pub action-is : (t : ℕ) → t ≡ action-around kind es w v → Action kind s v t
-  unfolding action-around
-  action-is t h = rw h (go (ltb 2 dd) refl (eqb nn 0) refl (eqb dd 1) refl (eqb dd 2) refl (eqb nn 1) refl)
+  pub action_is : (t : ℕ) → t ≡ action_around kind es w v → Action kind s v t
+  unfolding action_around
+  action_is t h = rw h (go (ltb 2 dd) refl (eqb nn 0) refl (eqb dd 1) refl (eqb dd 2) refl (eqb nn 1) refl)
     where
       go : (a : Bool) → ltb 2 dd ≡ a → (b : Bool) → eqb nn 0 ≡ b → (c : Bool) → eqb dd 1 ≡ c → (d : Bool) → eqb dd 2 ≡ d → (e : Bool) → eqb nn 1 ≡ e
           → Action kind s v (pick a 1 (pick b (pick c 1 0) (pick d (ff + 1024) (pick e (pick c ff (ff + 1024)) 0))))
@@ -265,13 +265,13 @@ module _ (kind : List ℕ) (s : Arrays) (y : Ready (grid-in kind) s) (v : ℕ) (
       go false pa true pb false pc d pd e pe = nothing refl (λ dec. two dec (leb 2 dd) refl)
         where
           two : (dec : Decide) (x : Bool) → leb 2 dd ≡ x → settled g dec v (view s) ≡ view s
-          two dec true px = firsts dec (rw (pa, pc) refl) (rw px (or-true (eqb nn 1))) ∙ none-undecided dec (line-or-none (eqb dd 1)) (eqb-true nn 0 pb)
+          two dec true px = firsts dec (rw (pa, pc) refl) (rw px (or-true (eqb nn 1))) ∙ none_undecided dec (line_or_none (eqb dd 1)) (eqb-true nn 0 pb)
           two dec false px = rests dec (rw (pa, pc) refl) (rw (ne_eqb nn 1 (omega (arith, eqb-true nn 0 pb)), px) refl)
       go false pa false pb true pc true pd e pe = absurd (omega (arith, eqb-true dd 1 pc, eqb-true dd 2 pd))
-      go false pa false pb false pc true pd e pe = let k = first-facts (eqb-false nn 0 pb) in leave ff refl k.1 k.0
-          (λ dec. firsts dec (rw (pa, pc) refl) (rw (le-leb 2 dd (omega (arith, eqb-true dd 2 pd))) (or-true (eqb nn 1))) ∙ rw pc (first-undecided dec none (eqb-false nn 0 pb)).0)
-      go false pa false pb true pc false pd true pe = let k = first-facts (eqb-false nn 0 pb) in draw ff refl k.1 k.0
-          (λ dec. firsts dec (rw (pa, pc, pb) refl) (rw pe refl) ∙ rw pc (first-undecided dec line (eqb-false nn 0 pb)).0)
-      go false pa false pb false pc false pd true pe = let k = first-facts (eqb-false nn 0 pb) in leave ff refl k.1 k.0
-          (λ dec. firsts dec (rw (pa, pc) refl) (rw pe refl) ∙ rw pc (first-undecided dec none (eqb-false nn 0 pb)).0)
+      go false pa false pb false pc true pd e pe = let k = first_facts (eqb-false nn 0 pb) in leave ff refl k.1 k.0
+          (λ dec. firsts dec (rw (pa, pc) refl) (rw (le-leb 2 dd (omega (arith, eqb-true dd 2 pd))) (or-true (eqb nn 1))) ∙ rw pc (first_undecided dec none (eqb-false nn 0 pb)).0)
+      go false pa false pb true pc false pd true pe = let k = first_facts (eqb-false nn 0 pb) in draw ff refl k.1 k.0
+          (λ dec. firsts dec (rw (pa, pc, pb) refl) (rw pe refl) ∙ rw pc (first_undecided dec line (eqb-false nn 0 pb)).0)
+      go false pa false pb false pc false pd true pe = let k = first_facts (eqb-false nn 0 pb) in leave ff refl k.1 k.0
+          (λ dec. firsts dec (rw (pa, pc) refl) (rw pe refl) ∙ rw pc (first_undecided dec none (eqb-false nn 0 pb)).0)
       go false pa false pb c pc false pd false pe = nothing refl (λ dec. rests dec (rw (pa, pb) (and-false (eqb dd 1))) (rw (pe, lt-leb 2 dd (omega (arith, ltb-false 2 dd pa, eqb-false dd 2 pd))) refl))

@@ -4,19 +4,19 @@ use Rattle.std.specs.Prelude.{ℕ, zero, suc, ◌+◌, ◌*◌, ◌-◌, ◌%◌
 use Rattle.std.proofs.Common.{sym, ap, ◌∙◌, arith, length-set, get_or-set_same, get_or-set_other, set-set}
 use Rattle.std.proofs.lemmas.List.{set-get_or}
 use Rattle.model.specs.JoinedEnds.{is_through, unjoinable}
-use Rattle.boardview.specs.View.{Arrays, logged, pick, end_of, end-at, put-number, joined, unjoined, second-pad, slot-logged, undone-one, unwound, Since, stopped, going}
-use Rattle.boardview.specs.Ends.{length-put}
+use Rattle.boardview.specs.View.{Arrays, logged, pick, end_of, end_at, put_number, joined, unjoined, second_pad, slot_logged, undone_one, unwound, Since, stopped, going}
+use Rattle.boardview.specs.Ends.{length_put}
 
 -- UNDOING ENTRIES
-pub unwound-split : (w : ℕ) (log : List ℤ) (m j i : ℕ) (E : List ℕ × List ℤ) → unwound w log m (j + i) E ≡ unwound w log m j (unwound w log (m + j) i E)
+pub unwound_split : (w : ℕ) (log : List ℤ) (m j i : ℕ) (E : List ℕ × List ℤ) → unwound w log m (j + i) E ≡ unwound w log m j (unwound w log (m + j) i E)
 unfolding unwound
-unwound-split w log m j zero E = ap (λ (n : ℕ). unwound w log m n E) none
+unwound_split w log m j zero E = ap (λ (n : ℕ). unwound w log m n E) none
   where
     none : j + 0 ≡ j
     none = omega arith
-unwound-split w log m j (suc i) E = ap (λ (n : ℕ). unwound w log m n E) more
-    ∙ (ap (λ (n : ℕ). unwound w log m (j + i) (undone-one w log n E)) place
-    ∙ unwound-split w log m j i (undone-one w log (m + j + i) E))
+unwound_split w log m j (suc i) E = ap (λ (n : ℕ). unwound w log m n E) more
+    ∙ (ap (λ (n : ℕ). unwound w log m (j + i) (undone_one w log n E)) place
+    ∙ unwound_split w log m j i (undone_one w log (m + j + i) E))
   where
     more : j + suc i ≡ suc (j + i)
     more = omega arith
@@ -24,101 +24,101 @@ unwound-split w log m j (suc i) E = ap (λ (n : ℕ). unwound w log m n E) more
     place : m + (j + i) ≡ m + j + i
     place = omega arith
 
-pub kept-unwound : (w : ℕ) (log log' : List ℤ) (m j : ℕ) (E : List ℕ × List ℤ) → ((i : ℕ) → i < 3 * (m + j) → get_or log' i (pos 0) ≡ get_or log i (pos 0))
+pub kept_unwound : (w : ℕ) (log log' : List ℤ) (m j : ℕ) (E : List ℕ × List ℤ) → ((i : ℕ) → i < 3 * (m + j) → get_or log' i (pos 0) ≡ get_or log i (pos 0))
     → unwound w log' m j E ≡ unwound w log m j E
-unfolding unwound undone-one
-kept-unwound w log log' m zero E h = refl
-kept-unwound w log log' m (suc j) E h = ap (λ (x : List ℕ × List ℤ). unwound w log' m j x) same ∙ kept-unwound w log log' m j (undone-one w log (m + j) E) (λ i k. h i (omega arith))
+unfolding unwound undone_one
+kept_unwound w log log' m zero E h = refl
+kept_unwound w log log' m (suc j) E h = ap (λ (x : List ℕ × List ℤ). unwound w log' m j x) same ∙ kept_unwound w log log' m j (undone_one w log (m + j) E) (λ i k. h i (omega arith))
   where
-    same : undone-one w log' (m + j) E ≡ undone-one w log (m + j) E
+    same : undone_one w log' (m + j) E ≡ undone_one w log (m + j) E
     same = rw (h (3 * (m + j)) (omega arith), h (3 * (m + j) + 1) (omega arith), h (3 * (m + j) + 2) (omega arith)) refl
 
 -- SINCE
-pub since-still : (w : ℕ) (s : Arrays) (count : ℕ) → count % 1024 ≡ logged s → Since w s (record { edges = s.edges; ends = s.ends; log = s.log; count = count })
+pub since_still : (w : ℕ) (s : Arrays) (count : ℕ) → count % 1024 ≡ logged s → Since w s (record { edges = s.edges; ends = s.ends; log = s.log; count = count })
 unfolding unwound
-since-still w s count h = record { more = 0; longer = omega arith; kept = λ i k. refl; back = refl }
+since_still w s count h = record { more = 0; longer = omega arith; kept = λ i k. refl; back = refl }
 
-pub since-then : (w : ℕ) (s s₁ s₂ : Arrays) → Since w s s₁ → Since w s₁ s₂ → Since w s s₂
-since-then w s s₁ s₂ a b = record {
+pub since_then : (w : ℕ) (s s₁ s₂ : Arrays) → Since w s s₁ → Since w s₁ s₂ → Since w s s₂
+since_then w s s₁ s₂ a b = record {
   more = a.more + b.more;
   longer = omega (arith, a.longer, b.longer);
   kept = λ i k. b.kept i (omega (arith, a.longer)) ∙ a.kept i k;
-  back = unwound-split w s₂.log (logged s) a.more b.more (s₂.edges, s₂.ends)
+  back = unwound_split w s₂.log (logged s) a.more b.more (s₂.edges, s₂.ends)
       ∙ (ap (λ (x : List ℕ × List ℤ). unwound w s₂.log (logged s) a.more x) (rw a.longer at b.back)
-      ∙ (kept-unwound w s₁.log s₂.log (logged s) a.more (s₁.edges, s₁.ends) (λ i k. b.kept i (omega (arith, a.longer)))
+      ∙ (kept_unwound w s₁.log s₂.log (logged s) a.more (s₁.edges, s₁.ends) (λ i k. b.kept i (omega (arith, a.longer)))
       ∙ a.back));
 }
 
 -- AN ENTRY: its slot, and the two ends
-abbrev pub log-stored : List ℤ → ℕ → ℕ → List ℤ
-log-stored log n s = set (set log (3 * n) (pos s)) (3 * n + 1) (negsuc 0)
+abbrev pub log_stored : List ℤ → ℕ → ℕ → List ℤ
+log_stored log n s = set (set log (3 * n) (pos s)) (3 * n + 1) (negsuc 0)
 
-abbrev pub log-joined : List ℤ → ℕ → ℕ → ℤ → ℤ → List ℤ
-log-joined log n s A B = set (set (set log (3 * n) (pos s)) (3 * n + 1) A) (3 * n + 2) B
+abbrev pub log_joined : List ℤ → ℕ → ℕ → ℤ → ℤ → List ℤ
+log_joined log n s A B = set (set (set log (3 * n) (pos s)) (3 * n + 1) A) (3 * n + 2) B
 
 -- A LINE BEGUN at slot n, between pads v and q: its byte and an entry of the log are stored; the ends of its pads are joined, or, where they
 -- cannot be, the flag is set and the decision has ended.
 pub record LineBegun (s : Arrays) (n v q : ℕ) (s' : Arrays) : Type 0 where
   pub stores : s'.edges ≡ set s.edges n 1
-  pub cannot : unjoinable (end-at s.ends v) (end-at s.ends q) q ≡ true
-      → (s'.ends ≡ s.ends) × (s'.log ≡ log-stored s.log (logged s) n) × (s'.count ≡ stopped s.count + 1)
-  pub joins : unjoinable (end-at s.ends v) (end-at s.ends q) q ≡ false
-      → (s'.ends ≡ joined v q s.ends) × (s'.log ≡ log-joined s.log (logged s) n (get_or s.ends v (pos v)) (get_or s.ends q (pos q))) × (s'.count ≡ going s.count + 1)
+  pub cannot : unjoinable (end_at s.ends v) (end_at s.ends q) q ≡ true
+      → (s'.ends ≡ s.ends) × (s'.log ≡ log_stored s.log (logged s) n) × (s'.count ≡ stopped s.count + 1)
+  pub joins : unjoinable (end_at s.ends v) (end_at s.ends q) q ≡ false
+      → (s'.ends ≡ joined v q s.ends) × (s'.log ≡ log_joined s.log (logged s) n (get_or s.ends v (pos v)) (get_or s.ends q (pos q))) × (s'.count ≡ going s.count + 1)
 
 module _ (log : List ℤ) (n s : ℕ) (h : 3 * n + 2 < length log) where
-  pub slot-stored : get_or (log-stored log n s) (3 * n) (pos 0) ≡ pos s
-  slot-stored = get_or-set_other (set log (3 * n) (pos s)) (3 * n + 1) (3 * n) (negsuc 0) (pos 0) (omega arith) ∙ get_or-set_same log (3 * n) (pos s) (pos 0) (omega arith)
+  pub slot_stored : get_or (log_stored log n s) (3 * n) (pos 0) ≡ pos s
+  slot_stored = get_or-set_other (set log (3 * n) (pos s)) (3 * n + 1) (3 * n) (negsuc 0) (pos 0) (omega arith) ∙ get_or-set_same log (3 * n) (pos s) (pos 0) (omega arith)
 
-  pub mark-stored : get_or (log-stored log n s) (3 * n + 1) (pos 0) ≡ negsuc 0
-  mark-stored = get_or-set_same (set log (3 * n) (pos s)) (3 * n + 1) (negsuc 0) (pos 0) (omega (arith, length-set log (3 * n) (pos s)))
+  pub mark_stored : get_or (log_stored log n s) (3 * n + 1) (pos 0) ≡ negsuc 0
+  mark_stored = get_or-set_same (set log (3 * n) (pos s)) (3 * n + 1) (negsuc 0) (pos 0) (omega (arith, length-set log (3 * n) (pos s)))
 
-  pub stored-kept : (i : ℕ) → i < 3 * n → get_or (log-stored log n s) i (pos 0) ≡ get_or log i (pos 0)
-  stored-kept i k = get_or-set_other (set log (3 * n) (pos s)) (3 * n + 1) i (negsuc 0) (pos 0) (omega arith) ∙ get_or-set_other log (3 * n) i (pos s) (pos 0) (omega arith)
+  pub stored_kept : (i : ℕ) → i < 3 * n → get_or (log_stored log n s) i (pos 0) ≡ get_or log i (pos 0)
+  stored_kept i k = get_or-set_other (set log (3 * n) (pos s)) (3 * n + 1) i (negsuc 0) (pos 0) (omega arith) ∙ get_or-set_other log (3 * n) i (pos s) (pos 0) (omega arith)
 
   -- undoing a stored edge
-  edges-back : (b : ℕ) (edges : List ℕ) → get_or edges s 0 ≡ 0 → set (set edges s b) s 0 ≡ edges
-  edges-back b edges z = set-set edges s b 0 ∙ (ap (λ (x : ℕ). set edges s x) (sym z) ∙ set-get_or edges s 0)
+  edges_back : (b : ℕ) (edges : List ℕ) → get_or edges s 0 ≡ 0 → set (set edges s b) s 0 ≡ edges
+  edges_back b edges z = set-set edges s b 0 ∙ (ap (λ (x : ℕ). set edges s x) (sym z) ∙ set-get_or edges s 0)
 
-  pub stored_back : (w b : ℕ) (edges : List ℕ) (ends : List ℤ) → get_or edges s 0 ≡ 0 → undone-one w (log-stored log n s) n (set edges s b, ends) ≡ (edges, ends)
-  unfolding undone-one unjoined end_of
-  stored_back w b edges ends z = rw (slot-stored, mark-stored) (λ i. (edges-back b edges z i, ends))
+  pub stored_back : (w b : ℕ) (edges : List ℕ) (ends : List ℤ) → get_or edges s 0 ≡ 0 → undone_one w (log_stored log n s) n (set edges s b, ends) ≡ (edges, ends)
+  unfolding undone_one unjoined end_of
+  stored_back w b edges ends z = rw (slot_stored, mark_stored) (λ i. (edges_back b edges z i, ends))
 
   module _ (A B : ℤ) where
-    pub slot-joined : get_or (log-joined log n s A B) (3 * n) (pos 0) ≡ pos s
-    slot-joined = get_or-set_other (set (set log (3 * n) (pos s)) (3 * n + 1) A) (3 * n + 2) (3 * n) B (pos 0) (omega arith)
+    pub slot_joined : get_or (log_joined log n s A B) (3 * n) (pos 0) ≡ pos s
+    slot_joined = get_or-set_other (set (set log (3 * n) (pos s)) (3 * n + 1) A) (3 * n + 2) (3 * n) B (pos 0) (omega arith)
         ∙ (get_or-set_other (set log (3 * n) (pos s)) (3 * n + 1) (3 * n) A (pos 0) (omega arith) ∙ get_or-set_same log (3 * n) (pos s) (pos 0) (omega arith))
 
-    pub first-joined : get_or (log-joined log n s A B) (3 * n + 1) (pos 0) ≡ A
-    first-joined = get_or-set_other (set (set log (3 * n) (pos s)) (3 * n + 1) A) (3 * n + 2) (3 * n + 1) B (pos 0) (omega arith)
+    pub first_joined : get_or (log_joined log n s A B) (3 * n + 1) (pos 0) ≡ A
+    first_joined = get_or-set_other (set (set log (3 * n) (pos s)) (3 * n + 1) A) (3 * n + 2) (3 * n + 1) B (pos 0) (omega arith)
         ∙ get_or-set_same (set log (3 * n) (pos s)) (3 * n + 1) A (pos 0) (omega (arith, length-set log (3 * n) (pos s)))
 
-    pub second-joined : get_or (log-joined log n s A B) (3 * n + 2) (pos 0) ≡ B
-    second-joined = get_or-set_same (set (set log (3 * n) (pos s)) (3 * n + 1) A) (3 * n + 2) B (pos 0)
+    pub second_joined : get_or (log_joined log n s A B) (3 * n + 2) (pos 0) ≡ B
+    second_joined = get_or-set_same (set (set log (3 * n) (pos s)) (3 * n + 1) A) (3 * n + 2) B (pos 0)
         (omega (arith, length-set (set log (3 * n) (pos s)) (3 * n + 1) A, length-set log (3 * n) (pos s)))
 
-    pub joined-kept : (i : ℕ) → i < 3 * n → get_or (log-joined log n s A B) i (pos 0) ≡ get_or log i (pos 0)
-    joined-kept i k = get_or-set_other (set (set log (3 * n) (pos s)) (3 * n + 1) A) (3 * n + 2) i B (pos 0) (omega arith)
+    pub joined_kept : (i : ℕ) → i < 3 * n → get_or (log_joined log n s A B) i (pos 0) ≡ get_or log i (pos 0)
+    joined_kept i k = get_or-set_other (set (set log (3 * n) (pos s)) (3 * n + 1) A) (3 * n + 2) i B (pos 0) (omega arith)
         ∙ (get_or-set_other (set log (3 * n) (pos s)) (3 * n + 1) i A (pos 0) (omega arith) ∙ get_or-set_other log (3 * n) i (pos s) (pos 0) (omega arith))
 
     -- undoing a joined line
-    pub joined_back : (w b : ℕ) (edges : List ℕ) (ends ends' : List ℤ) → get_or edges s 0 ≡ 0 → unjoined (s / 2 - 16) (second-pad w s) A B ends' ≡ ends
-        → undone-one w (log-joined log n s A B) n (set edges s b, ends') ≡ (edges, ends)
-    unfolding undone-one
-    joined_back w b edges ends ends' z e = rw (slot-joined, first-joined, second-joined) (λ i. (edges-back b edges z i, e i))
+    pub joined_back : (w b : ℕ) (edges : List ℕ) (ends ends' : List ℤ) → get_or edges s 0 ≡ 0 → unjoined (s / 2 - 16) (second_pad w s) A B ends' ≡ ends
+        → undone_one w (log_joined log n s A B) n (set edges s b, ends') ≡ (edges, ends)
+    unfolding undone_one
+    joined_back w b edges ends ends' z e = rw (slot_joined, first_joined, second_joined) (λ i. (edges_back b edges z i, e i))
 
 -- one entry more
-pub since-one : (w : ℕ) (s s' : Arrays) → logged s' ≡ logged s + 1 → ((i : ℕ) → i < 3 * logged s → get_or s'.log i (pos 0) ≡ get_or s.log i (pos 0))
-    → undone-one w s'.log (logged s) (s'.edges, s'.ends) ≡ (s.edges, s.ends) → Since w s s'
+pub since_one : (w : ℕ) (s s' : Arrays) → logged s' ≡ logged s + 1 → ((i : ℕ) → i < 3 * logged s → get_or s'.log i (pos 0) ≡ get_or s.log i (pos 0))
+    → undone_one w s'.log (logged s) (s'.edges, s'.ends) ≡ (s.edges, s.ends) → Since w s s'
 unfolding unwound
-since-one w s s' h k b = record { more = 1; longer = h; kept = k; back = ap (λ (n : ℕ). undone-one w s'.log n (s'.edges, s'.ends)) place ∙ b }
+since_one w s s' h k b = record { more = 1; longer = h; kept = k; back = ap (λ (n : ℕ). undone_one w s'.log n (s'.edges, s'.ends)) place ∙ b }
   where
     place : logged s + 0 ≡ logged s
     place = omega arith
 
 -- ENTRY BY ENTRY
-pub unwound-step : (w : ℕ) (log : List ℤ) (least k : ℕ) (E : List ℕ × List ℤ) → least < k → unwound w log least (k - least) E ≡ unwound w log least (k - 1 - least) (undone-one w log (k - 1) E)
+pub unwound_step : (w : ℕ) (log : List ℤ) (least k : ℕ) (E : List ℕ × List ℤ) → least < k → unwound w log least (k - least) E ≡ unwound w log least (k - 1 - least) (undone_one w log (k - 1) E)
 unfolding unwound
-unwound-step w log least k E h = ap (λ (n : ℕ). unwound w log least n E) more ∙ ap (λ (n : ℕ). unwound w log least (k - 1 - least) (undone-one w log n E)) place
+unwound_step w log least k E h = ap (λ (n : ℕ). unwound w log least n E) more ∙ ap (λ (n : ℕ). unwound w log least (k - 1 - least) (undone_one w log n E)) place
   where
     more : k - least ≡ suc (k - 1 - least)
     more = omega arith
@@ -126,9 +126,9 @@ unwound-step w log least k E h = ap (λ (n : ℕ). unwound w log least n E) more
     place : least + (k - 1 - least) ≡ k - 1
     place = omega arith
 
-pub length-undone : (w : ℕ) (log : List ℤ) (k : ℕ) (E : List ℕ × List ℤ) → length (undone-one w log k E).1 ≡ length E.1
-unfolding undone-one unjoined
-length-undone w log k E = go (is_through (end_of A))
+pub length_undone : (w : ℕ) (log : List ℤ) (k : ℕ) (E : List ℕ × List ℤ) → length (undone_one w log k E).1 ≡ length E.1
+unfolding undone_one unjoined
+length_undone w log k E = go (is_through (end_of A))
   where
     A : ℤ
     A = get_or log (3 * k + 1) (pos 0)
@@ -137,12 +137,12 @@ length-undone w log k E = go (is_through (end_of A))
     B = get_or log (3 * k + 2) (pos 0)
 
     v : ℕ
-    v = slot-logged log k / 2 - 16
+    v = slot_logged log k / 2 - 16
 
     q : ℕ
-    q = second-pad w (slot-logged log k)
+    q = second_pad w (slot_logged log k)
 
-    go : (b : Bool) → length (pick b E.1 (put-number (end_of B) (pos q) (put-number (end_of A) (pos v) (set (set E.1 v A) q B)))) ≡ length E.1
+    go : (b : Bool) → length (pick b E.1 (put_number (end_of B) (pos q) (put_number (end_of A) (pos v) (set (set E.1 v A) q B)))) ≡ length E.1
     go true = refl
-    go false = length-put (end_of B) (pos q) (put-number (end_of A) (pos v) (set (set E.1 v A) q B)) ∙ (length-put (end_of A) (pos v) (set (set E.1 v A) q B)
+    go false = length_put (end_of B) (pos q) (put_number (end_of A) (pos v) (set (set E.1 v A) q B)) ∙ (length_put (end_of A) (pos v) (set (set E.1 v A) q B)
         ∙ (length-set (set E.1 v A) q B ∙ length-set E.1 v A))

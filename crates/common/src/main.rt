@@ -1,9 +1,9 @@
 // The copper common to all wirings: reads a grid file from standard input, of which the first 4,096 bytes suffice, and prints the summary line
 // as `routes` does and, for a complete list, a line for each row of the table; or why the file is refused. What is printed is made, and
-// proved, in the crate `tabling`; here it is only read and written. By `common-whole` of that crate (specs/Whole.antt) the bytes written are
+// proved, in the crate `tabling`; here it is only read and written. By `common_whole` of that crate (specs/Whole.antt) the bytes written are
 // the text of the crate `model` for the bytes of standard input.
 ghost use Rattle.std.specs.Prelude.{◌≡◌, ◌≤◌, length};
-ghost use Rattle.model.specs.Routes.{routes-room};
+ghost use Rattle.model.specs.Routes.{routes_room};
 
 use libc::{STDIN_FILENO, STDOUT_FILENO};
 
@@ -27,7 +27,7 @@ fn print_rows(table: &[u8], width: usize, rows: usize) {
 // The whole text for a file of at most 4,096 bytes, with an answer buffer of 61,504 bytes and a table of at least 961 lent: the head, then
 // the rows.
 fn print_table(file: &[u8], buffer: &mut [u8], table: &mut [u8])
-    requires { (length file.now ≤ 4096) × (length buffer.old ≡ routes-room) × (961 ≤ length table.old) }
+    requires { (length file.now ≤ 4096) × (length buffer.old ≡ routes_room) × (961 ≤ length table.old) }
 {
     let head = tabling::head(file, buffer, table);
     let bytes = head.bytes;

@@ -11,8 +11,8 @@ use lib.Bits.{bit_or}
 use lib.ListN.{length, length-set, length-take, get_or, set, take, drop, replicate}
 use lib.Seq.{take_all}
 use Rattle.rules.specs.Grid.{places}
-use Rattle.model.specs.Records.{record-length, has-record, record-at}
-use Rattle.copper.specs.Overlay.{overlaid, records-overlaid}
+use Rattle.model.specs.Records.{record_length, has_record, record_at}
+use Rattle.copper.specs.Overlay.{overlaid, records_overlaid}
 
 -- ## Cleared
 
@@ -22,24 +22,24 @@ pub record Cleared (before : List ℕ) (places : ℕ) (table : List ℕ) (i : �
   pub holds : table ≡ replicate i 0 ++ drop i before
   pub same_length : length table ≡ length before
 
-next-cleared : (table : List ℕ) (i : ℕ) → i < length table → set (replicate i 0 ++ drop i table) i 0 ≡ replicate (suc i) 0 ++ drop (suc i) table
-next-cleared [] i h = absurd (omega arith)
-next-cleared (byte ∷ table) zero h = refl
-next-cleared (byte ∷ table) (suc i) h = ap (λ (l : List ℕ). 0 ∷ l) (next-cleared table i (omega arith))
+next_cleared : (table : List ℕ) (i : ℕ) → i < length table → set (replicate i 0 ++ drop i table) i 0 ≡ replicate (suc i) 0 ++ drop (suc i) table
+next_cleared [] i h = absurd (omega arith)
+next_cleared (byte ∷ table) zero h = refl
+next_cleared (byte ∷ table) (suc i) h = ap (λ (l : List ℕ). 0 ∷ l) (next_cleared table i (omega arith))
 
 module _ (before : List ℕ) (places : ℕ) where
-  pub none-cleared : Cleared before places before 0
-  none-cleared = record { within = omega arith; holds = refl; same_length = refl }
+  pub none_cleared : Cleared before places before 0
+  none_cleared = record { within = omega arith; holds = refl; same_length = refl }
 
-  pub one-cleared : {table : List ℕ} {i : ℕ} → places ≤ length before → i < places → Cleared before places table i → Cleared before places (set table i 0) (i + 1)
-  one-cleared {table} {i} fits below c = record {
+  pub one_cleared : {table : List ℕ} {i : ℕ} → places ≤ length before → i < places → Cleared before places table i → Cleared before places (set table i 0) (i + 1)
+  one_cleared {table} {i} fits below c = record {
     within = omega arith;
-    holds = ap (λ (l : List ℕ). set l i 0) c.holds ∙ next-cleared before i (omega arith) ∙ ap (λ (n : ℕ). replicate n 0 ++ drop n before) (sym (add-one i));
+    holds = ap (λ (l : List ℕ). set l i 0) c.holds ∙ next_cleared before i (omega arith) ∙ ap (λ (n : ℕ). replicate n 0 ++ drop n before) (sym (add-one i));
     same_length = length-set table i 0 ∙ c.same_length;
   }
 
-  pub all-cleared : {table : List ℕ} {i : ℕ} → places ≤ i → Cleared before places table i → table ≡ replicate places 0 ++ drop places before
-  all-cleared {table} {i} ended c = c.holds ∙ ap (λ (n : ℕ). replicate n 0 ++ drop n before) (le_antisymm c.within ended)
+  pub all_cleared : {table : List ℕ} {i : ℕ} → places ≤ i → Cleared before places table i → table ≡ replicate places 0 ++ drop places before
+  all_cleared {table} {i} ended c = c.holds ∙ ap (λ (n : ℕ). replicate n 0 ++ drop n before) (le_antisymm c.within ended)
 
 -- ## Overlaid
 
@@ -49,35 +49,35 @@ pub record Covered (before layout table : List ℕ) (i : ℕ) : Type 0 where
   pub holds : table ≡ overlaid before (take i layout)
   pub same_length : length table ≡ length before
 
-next-covered : (table layout : List ℕ) (i : ℕ) → i < length layout → length layout ≤ length table
+next_covered : (table layout : List ℕ) (i : ℕ) → i < length layout → length layout ≤ length table
     → set (overlaid table (take i layout)) i (bit_or (get_or (overlaid table (take i layout)) i 0) (get_or layout i 0)) ≡ overlaid table (take (suc i) layout)
 unfolding overlaid
-next-covered table [] i h fits = absurd (omega arith)
-next-covered [] (byte ∷ layout) i h fits = absurd (omega arith)
-next-covered (said ∷ table) (byte ∷ layout) zero h fits = refl
-next-covered (said ∷ table) (byte ∷ layout) (suc i) h fits = ap (λ (l : List ℕ). bit_or said byte ∷ l) (next-covered table layout i (omega arith) (omega arith))
+next_covered table [] i h fits = absurd (omega arith)
+next_covered [] (byte ∷ layout) i h fits = absurd (omega arith)
+next_covered (said ∷ table) (byte ∷ layout) zero h fits = refl
+next_covered (said ∷ table) (byte ∷ layout) (suc i) h fits = ap (λ (l : List ℕ). bit_or said byte ∷ l) (next_covered table layout i (omega arith) (omega arith))
 
 module _ (before layout : List ℕ) where
-  pub none-covered : Covered before layout before 0
+  pub none_covered : Covered before layout before 0
   unfolding overlaid
-  none-covered = record { within = omega arith; holds = refl; same_length = refl }
+  none_covered = record { within = omega arith; holds = refl; same_length = refl }
 
-  pub one-covered : {table : List ℕ} {i : ℕ} → length layout ≤ length before → i < length layout → Covered before layout table i
+  pub one_covered : {table : List ℕ} {i : ℕ} → length layout ≤ length before → i < length layout → Covered before layout table i
       → Covered before layout (set table i (bit_or (get_or table i 0) (get_or layout i 0))) (i + 1)
-  one-covered {table} {i} fits below c = record {
+  one_covered {table} {i} fits below c = record {
     within = omega arith;
-    holds = ap (λ (l : List ℕ). set l i (bit_or (get_or l i 0) (get_or layout i 0))) c.holds ∙ next-covered before layout i below fits ∙ ap (λ (n : ℕ). overlaid before (take n layout)) (sym (add-one i));
+    holds = ap (λ (l : List ℕ). set l i (bit_or (get_or l i 0) (get_or layout i 0))) c.holds ∙ next_covered before layout i below fits ∙ ap (λ (n : ℕ). overlaid before (take n layout)) (sym (add-one i));
     same_length = length-set table i (bit_or (get_or table i 0) (get_or layout i 0)) ∙ c.same_length;
   }
 
-  pub all-covered : {table : List ℕ} {i : ℕ} → length layout ≤ i → Covered before layout table i → table ≡ overlaid before layout
-  all-covered {table} {i} ended c = c.holds ∙ ap (overlaid before) (take_all i layout ended)
+  pub all_covered : {table : List ℕ} {i : ℕ} → length layout ≤ i → Covered before layout table i → table ≡ overlaid before layout
+  all_covered {table} {i} ended c = c.holds ∙ ap (overlaid before) (take_all i layout ended)
 
-pub length-overlaid : (table layout : List ℕ) → length (overlaid table layout) ≡ length table
+pub length_overlaid : (table layout : List ℕ) → length (overlaid table layout) ≡ length table
 unfolding overlaid
-length-overlaid table [] = refl
-length-overlaid [] (byte ∷ layout) = refl
-length-overlaid (said ∷ table) (byte ∷ layout) = ap suc (length-overlaid table layout)
+length_overlaid table [] = refl
+length_overlaid [] (byte ∷ layout) = refl
+length_overlaid (said ∷ table) (byte ∷ layout) = ap suc (length_overlaid table layout)
 
 -- ## Records one by one
 
@@ -85,38 +85,38 @@ module _ (height width layouts : ℕ) (buffer before : List ℕ) where
   -- with the records from k on laid over it the table is what all records make of it
   pub record Laid (table : List ℕ) (k : ℕ) : Type 0 where
     pub within : k ≤ layouts
-    pub goes_on : records-overlaid height width layouts buffer (layouts - k) k table ≡ records-overlaid height width layouts buffer layouts 0 before
+    pub goes_on : records_overlaid height width layouts buffer (layouts - k) k table ≡ records_overlaid height width layouts buffer layouts 0 before
     pub same_length : length table ≡ length before
 
-  pub none-laid : Laid before 0
-  none-laid = record { within = omega arith; goes_on = ap (λ (n : ℕ). records-overlaid height width layouts buffer n 0 before) all; same_length = refl }
+  pub none_laid : Laid before 0
+  none_laid = record { within = omega arith; goes_on = ap (λ (n : ℕ). records_overlaid height width layouts buffer n 0 before) all; same_length = refl }
     where
       all : layouts - 0 ≡ layouts
       all = omega arith
 
-  pub one-laid : {table : List ℕ} {k : ℕ} → k < layouts → Laid table k → (layout : List ℕ) → layout ≡ record-at height width layouts k buffer
+  pub one_laid : {table : List ℕ} {k : ℕ} → k < layouts → Laid table k → (layout : List ℕ) → layout ≡ record_at height width layouts k buffer
       → (after : List ℕ) → after ≡ overlaid table layout → Laid after (k + 1)
-  unfolding records-overlaid
-  one-laid {table} {k} below l layout is after laid = record {
+  unfolding records_overlaid
+  one_laid {table} {k} below l layout is after laid = record {
     within = omega arith;
-    goes_on = rw (laid, is) (ap (λ (n : ℕ). records-overlaid height width layouts buffer n k table) one_more ∙ l.goes_on);
-    same_length = ap length laid ∙ length-overlaid table layout ∙ l.same_length;
+    goes_on = rw (laid, is) (ap (λ (n : ℕ). records_overlaid height width layouts buffer n k table) one_more ∙ l.goes_on);
+    same_length = ap length laid ∙ length_overlaid table layout ∙ l.same_length;
   }
     where
       one_more : suc (layouts - (k + 1)) ≡ layouts - k
       one_more = omega arith
 
-  pub all_laid : {table : List ℕ} {k : ℕ} → layouts ≤ k → Laid table k → table ≡ records-overlaid height width layouts buffer layouts 0 before
-  unfolding records-overlaid
-  all_laid {table} {k} ended l = ap (λ (n : ℕ). records-overlaid height width layouts buffer n k table) none_left ∙ l.goes_on
+  pub all_laid : {table : List ℕ} {k : ℕ} → layouts ≤ k → Laid table k → table ≡ records_overlaid height width layouts buffer layouts 0 before
+  unfolding records_overlaid
+  all_laid {table} {k} ended l = ap (λ (n : ℕ). records_overlaid height width layouts buffer n k table) none_left ∙ l.goes_on
     where
       none_left : 0 ≡ layouts - k
       none_left = omega arith
 
 -- a record is no longer than the places
-pub record-fits : (height width layouts k : ℕ) (buffer : List ℕ) → length (record-at height width layouts k buffer) ≤ places height width
-unfolding record-at record-length
-record-fits height width layouts k buffer = go (has-record height width layouts k (length buffer))
+pub record_fits : (height width layouts k : ℕ) (buffer : List ℕ) → length (record_at height width layouts k buffer) ≤ places height width
+unfolding record_at record_length
+record_fits height width layouts k buffer = go (has_record height width layouts k (length buffer))
   where
     go : (b : Bool) → length (if b then take (places height width) (drop (k * places height width) buffer) else []) ≤ places height width
     go true = rw length-take (min-le_left _ _)

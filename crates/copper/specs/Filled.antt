@@ -3,12 +3,12 @@
 use Rattle.std.specs.Prelude.{ℕ, ◌≡◌, List, ℤ}
 use Rattle.std.proofs.Common.{sym, ap, subst, ◌∙◌}
 use Rattle.model.specs.Common.{Common, common}
-use Rattle.promises.specs.CommonCopper.{CommonSays, common-filled}
+use Rattle.promises.specs.CommonCopper.{CommonSays, common_filled}
 use Rattle.solver.specs.declared.Solved.{Solved}
-use Rattle.copper.specs.Answers.{common-says}
+use Rattle.copper.specs.Answers.{common_says}
 
-pub answered-0 : (height width : ℕ) (cells : List ℤ) (limit : ℕ) (buffer table : List ℕ) (r : Solved) (buffer' table' : List ℕ)
-    → common-says r buffer' table' ≡ common height width cells limit buffer table
-    → r.number ≡ 0 → CommonSays height width cells limit buffer table (common-says r buffer' table')
-answered-0 height width cells limit buffer table r buffer' table' contract zero = subst (CommonSays height width cells limit buffer table) (sym contract)
-    (common-filled height width cells limit buffer table (sym (ap (λ (said : Common). said.searched.number) contract) ∙ zero))
+pub answered_0 : (height width : ℕ) (cells : List ℤ) (limit : ℕ) (buffer table : List ℕ) (r : Solved) (buffer' table' : List ℕ)
+    → common_says r buffer' table' ≡ common height width cells limit buffer table
+    → r.number ≡ 0 → CommonSays height width cells limit buffer table (common_says r buffer' table')
+answered_0 height width cells limit buffer table r buffer' table' contract zero = subst (CommonSays height width cells limit buffer table) (sym contract)
+    (common_filled height width cells limit buffer table (sym (ap (λ (said : Common). said.searched.number) contract) ∙ zero))

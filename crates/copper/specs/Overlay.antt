@@ -2,7 +2,7 @@
 -- is proved in OverlayLaws.antt.
 use Rattle.std.specs.Prelude.{ℕ, zero, suc, ◌+◌, List, [], ◌∷◌}
 use Rattle.std.specs.Int.Bits.{bit_or}
-use Rattle.model.specs.Records.{record-at}
+use Rattle.model.specs.Records.{record_at}
 
 -- a record laid over the start of a table; what lies past the record stays
 unfoldable pub overlaid : List ℕ → List ℕ → List ℕ
@@ -11,7 +11,7 @@ overlaid [] (byte ∷ layout) = []
 overlaid (said ∷ table) (byte ∷ layout) = bit_or said byte ∷ overlaid table layout
 
 -- so many records of a buffer, from record k on
-unfoldable pub records-overlaid : (height width layouts : ℕ) → List ℕ → (more k : ℕ) → List ℕ → List ℕ
-records-overlaid height width layouts buffer zero k table = table
-records-overlaid height width layouts buffer (suc more) k table =
-    records-overlaid height width layouts buffer more (k + 1) (overlaid table (record-at height width layouts k buffer))
+unfoldable pub records_overlaid : (height width layouts : ℕ) → List ℕ → (more k : ℕ) → List ℕ → List ℕ
+records_overlaid height width layouts buffer zero k table = table
+records_overlaid height width layouts buffer (suc more) k table =
+    records_overlaid height width layouts buffer more (k + 1) (overlaid table (record_at height width layouts k buffer))

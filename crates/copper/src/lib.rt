@@ -5,8 +5,8 @@
 ghost use Rattle.std.specs.Prelude.{◌≡◌, ◌++◌, ◌≤◌, length, replicate, drop};
 ghost use Rattle.rules.specs.Grid.{places};
 ghost use Rattle.model.specs.Common.{common};
-ghost use Rattle.copper.specs.Overlay.{overlaid, records-overlaid};
-ghost use Rattle.copper.specs.Answers.{common-says};
+ghost use Rattle.copper.specs.Overlay.{overlaid, records_overlaid};
+ghost use Rattle.copper.specs.Answers.{common_says};
 
 use solver::Solved;
 
@@ -37,7 +37,7 @@ fn overlay(table: &mut [u8], layout: &[u8])
 // Lays the records of the buffer over the table, one after the other.
 fn overlay_records(table: &mut [u8], buffer: &[u8], height: usize, width: usize, layouts: usize)
     requires { places height width ≤ length table.old }
-    ensures { table.new ≡ records-overlaid height width layouts buffer.now layouts 0 table.old }
+    ensures { table.new ≡ records_overlaid height width layouts buffer.now layouts 0 table.old }
 {
     let mut k = 0;
     while k < layouts {
@@ -57,7 +57,7 @@ pub fn common(
     buffer: &mut [u8],
     table: &mut [u8],
 ) -> Solved
-    ensures { common-says result buffer.new table.new ≡ common height width cells.now limit buffer.old table.old }
+    ensures { common_says result buffer.new table.new ≡ common height width cells.now limit buffer.old table.old }
 {
     let refusal = grid::grid_refusal(height, width, cells);
     let number = refusal.number;

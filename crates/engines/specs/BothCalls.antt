@@ -4,7 +4,7 @@
 use Rattle.std.specs.Prelude.{ℕ, ◌≡◌, true, ◌↔◌, List, ℤ}
 use Rattle.std.proofs.Common.{sym, ap, ◌∙◌}
 use Rattle.model.specs.Runs as runs
-use Rattle.promises.specs.BothEngines.{SameList, engines-agree}
+use Rattle.promises.specs.BothEngines.{SameList, engines_agree}
 use Rattle.walking.specs.declared.Walked.{Walked}
 use Rattle.walking.specs.Answers as walking
 use Rattle.solver.specs.declared.Solved.{Solved}
@@ -14,34 +14,34 @@ use Rattle.engines.specs.Equal.{Equal, Compares}
 
 module _ (height width : ℕ) (cells : List ℤ) (limit limit' : ℕ) (buffer buffer' : List ℕ) where
   -- THE THEOREM for callers
-  pub both-calls : (r : Walked) (after : List ℕ) → walking.Walks height width cells limit buffer r after
+  pub both_calls : (r : Walked) (after : List ℕ) → walking.Walks height width cells limit buffer r after
       → (r' : Solved) (after' : List ℕ) → solver.Solves height width cells limit' buffer' r' after'
       → r.outcome ≡ 0 → r'.outcome ≡ 0
-      → SameList height width (walking.answer-says r after) (solver.answer-says r' after')
-  both-calls r after walks r' after' solves walk-complete search-complete =
-      rw (walks.equal, solves.equal) (engines-agree height width cells limit limit' buffer buffer'
-      (sym (ap (λ (s : runs.Solved). s.outcome) walks.equal) ∙ walk-complete)
-      (sym (ap (λ (s : runs.Solved). s.outcome) solves.equal) ∙ search-complete))
+      → SameList height width (walking.answer_says r after) (solver.answer_says r' after')
+  both_calls r after walks r' after' solves walk_complete search_complete =
+      rw (walks.equal, solves.equal) (engines_agree height width cells limit limit' buffer buffer'
+      (sym (ap (λ (s : runs.Solved). s.outcome) walks.equal) ∙ walk_complete)
+      (sym (ap (λ (s : runs.Solved). s.outcome) solves.equal) ∙ search_complete))
 
 -- the answers are equal exactly where both are complete
-pub compared-equal : (height width : ℕ) (cells : List ℤ) (r : Compared) → (told : Compares height width cells r)
+pub compared_equal : (height width : ℕ) (cells : List ℤ) (r : Compared) → (told : Compares height width cells r)
     → (r.equal ≡ true) ↔ ((told.walked.outcome ≡ 0) × (told.solved.outcome ≡ 0))
-compared-equal height width cells r told = (
-  (λ e. let equal = told.equal-exactly.0 e in (equal.counts.walk-complete, equal.counts.search-complete)),
-  (λ complete. told.equal-exactly.1 (agreed complete.0 complete.1)),
+compared_equal height width cells r told = (
+  (λ e. let equal = told.equal_exactly.0 e in (equal.counts.walk_complete, equal.counts.search_complete)),
+  (λ complete. told.equal_exactly.1 (agreed complete.0 complete.1)),
 )
   where
     agreed : told.walked.outcome ≡ 0 → told.solved.outcome ≡ 0 → Equal height width told.walked told.first told.solved told.second
-    agreed walk-complete search-complete =
-        let same = both-calls height width cells _ _ _ _ told.walked told.first told.walks told.solved told.second told.solves walk-complete search-complete in
+    agreed walk_complete search_complete =
+        let same = both_calls height width cells _ _ _ _ told.walked told.first told.walks told.solved told.second told.solves walk_complete search_complete in
         record {
           counts = record {
-            walk-complete = walk-complete;
-            search-complete = search-complete;
+            walk_complete = walk_complete;
+            search_complete = search_complete;
             number = same.number;
             index = same.index;
             layouts = same.layouts;
-            fewest = same.fewest-lines;
+            fewest = same.fewest_lines;
           };
-          records = record { in-first = same.in-buffers.0; in-second = same.in-buffers.1; same = same.same_bytes };
+          records = record { in_first = same.in_buffers.0; in_second = same.in_buffers.1; same = same.same_bytes };
         }

@@ -3,22 +3,22 @@ use Rattle.std.specs.Prelude.{ℕ, ◌≤◌, ◌<◌, ◌≡◌, List, ℤ}
 use Rattle.std.proofs.Common.{arith, ap, ◌∙◌}
 use Rattle.std.proofs.Math.Decide.{ℕ_discrete}
 use Rattle.model.specs.Runs as runs
-use Rattle.model.specs.Refusals.{grid-refusal}
-use Rattle.model.specs.RefusalLaws.{not-refused}
-use Rattle.everycode.specs.EveryCode.{walk-is-declined}
+use Rattle.model.specs.Refusals.{grid_refusal}
+use Rattle.model.specs.RefusalLaws.{not_refused}
+use Rattle.everycode.specs.EveryCode.{walk_is_declined}
 use Rattle.walking.specs.declared.Walked.{Walked}
 use Rattle.walking.specs.Answers.{Walks}
 
 -- a refused grid has none, and an accepted one has its sizes
-pub layout-sizes : (height width : ℕ) (cells : List ℤ) (limit : ℕ) (buffer : List ℕ) (r : Walked) (after : List ℕ)
+pub layout_sizes : (height width : ℕ) (cells : List ℤ) (limit : ℕ) (buffer : List ℕ) (r : Walked) (after : List ℕ)
     → Walks height width cells limit buffer r after → 0 < r.layouts → (1 ≤ height) × (height ≤ 16) × (1 ≤ width) × (width ≤ 16)
-layout-sizes height width cells limit buffer r after walks some = elim (ℕ_discrete (grid-refusal height width cells).0 0) [
+layout_sizes height width cells limit buffer r after walks some = elim (ℕ_discrete (grid_refusal height width cells).0 0) [
   | no refused ↦
-      let none : r.layouts ≡ 0 = ap (λ (s : runs.Solved). s.layouts) (walks.equal ∙ walk-is-declined height width cells refused limit buffer) in
+      let none : r.layouts ≡ 0 = ap (λ (s : runs.Solved). s.layouts) (walks.equal ∙ walk_is_declined height width cells refused limit buffer) in
       absurd (omega arith)
   | yes fine ↦
-      let accepted = not-refused height width cells fine in
-      let h = accepted.height-in-range in
-      let w = accepted.width-in-range in
+      let accepted = not_refused height width cells fine in
+      let h = accepted.height_in_range in
+      let w = accepted.width_in_range in
       (omega arith, omega arith, omega arith, omega arith)
 ]

@@ -10,8 +10,8 @@ use Rattle.engines.specs.declared.Compared.{Compared}
 
 -- both are complete, and they say the same numbers
 pub record SameCounts (walked : Walked) (solved : Solved) : Type 0 where
-  pub walk-complete : walked.outcome ≡ 0
-  pub search-complete : solved.outcome ≡ 0
+  pub walk_complete : walked.outcome ≡ 0
+  pub search_complete : solved.outcome ≡ 0
   pub number : walked.number ≡ solved.number
   pub index : walked.index ≡ solved.index
   pub layouts : walked.layouts ≡ solved.layouts
@@ -19,8 +19,8 @@ pub record SameCounts (walked : Walked) (solved : Solved) : Type 0 where
 
 -- both buffers have so many bytes, and these are the same
 pub record SameBytes (count : ℕ) (first second : List ℕ) : Type 0 where
-  pub in-first : count ≤ length first
-  pub in-second : count ≤ length second
+  pub in_first : count ≤ length first
+  pub in_second : count ≤ length second
   pub same : take count first ≡ take count second
 
 -- EQUAL ANSWERS, with the buffers after the two calls
@@ -29,18 +29,18 @@ pub record Equal (height width : ℕ) (walked : Walked) (first : List ℕ) (solv
   pub records : SameBytes (walked.layouts * places height width) first second
 
 -- no engine is stopped by its count
-abbrev pub no-limit : ℕ
-no-limit = 18446744073709551615
+abbrev pub no_limit : ℕ
+no_limit = 18446744073709551615
 
 -- WHAT `compare` TELLS of a grid: both engines were called on it, each with a buffer of its own; whether they are equal; and what they counted
 pub record Compares (height width : ℕ) (cells : List ℤ) (r : Compared) : Type 0 where
   pub walked : Walked
   pub first : List ℕ
-  pub walks : Walks height width cells no-limit (replicate 1600 7) walked first
+  pub walks : Walks height width cells no_limit (replicate 1600 7) walked first
   pub solved : Solved
   pub second : List ℕ
-  pub solves : Solves height width cells no-limit (replicate 1600 9) solved second
-  pub equal-exactly : (r.equal ≡ true) ↔ Equal height width walked first solved second
+  pub solves : Solves height width cells no_limit (replicate 1600 9) solved second
+  pub equal_exactly : (r.equal ≡ true) ↔ Equal height width walked first solved second
   pub layouts : r.layouts ≡ solved.layouts
   pub visited : r.visited ≡ solved.visited
   pub tried : r.tried ≡ walked.tried

@@ -17,40 +17,40 @@ confirmed p = ((λ e. p), (λ q. refl))
 pub refuted : {P : Type 0} → (P → ⊥) → (false ≡ true) ↔ P
 refuted n = ((λ e. absurd (never e)), (λ p. absurd (n p)))
 
-pub told-false : {P : Type 0} {test : Bool} → (test ≡ true) ↔ P → test ≡ false → P → ⊥
-told-false tells is_false p = never (sym is_false ∙ tells.1 p)
+pub told_false : {P : Type 0} {test : Bool} → (test ≡ true) ↔ P → test ≡ false → P → ⊥
+told_false tells is_false p = never (sym is_false ∙ tells.1 p)
 
-pub told-true : {P : Type 0} {test : Bool} → (test ≡ true) ↔ P → test ≡ true → P
-told-true tells is_true = tells.0 is_true
+pub told_true : {P : Type 0} {test : Bool} → (test ≡ true) ↔ P → test ≡ true → P
+told_true tells is_true = tells.0 is_true
 
 -- ## Answers
 
 -- what is left is the records
-pub records-tell : {height width : ℕ} {walked : Walked} {first : List ℕ} {solved : Solved} {second : List ℕ} {test : Bool} → SameCounts walked solved
+pub records_tell : {height width : ℕ} {walked : Walked} {first : List ℕ} {solved : Solved} {second : List ℕ} {test : Bool} → SameCounts walked solved
     → (test ≡ true) ↔ SameBytes (walked.layouts * places height width) first second → (test ≡ true) ↔ Equal height width walked first solved second
-records-tell counts tells = ((λ t. record { counts = counts; records = tells.0 t }), (λ equal. tells.1 equal.records))
+records_tell counts tells = ((λ t. record { counts = counts; records = tells.0 t }), (λ equal. tells.1 equal.records))
 
 -- ## Bytes
 
-pub first-too-short : {count : ℕ} {first second : List ℕ} → length first < count → SameBytes count first second → ⊥
-first-too-short short s = omega (arith, s.in-first)
+pub first_too_short : {count : ℕ} {first second : List ℕ} → length first < count → SameBytes count first second → ⊥
+first_too_short short s = omega (arith, s.in_first)
 
-pub second-too-short : {count : ℕ} {first second : List ℕ} → length second < count → SameBytes count first second → ⊥
-second-too-short short s = omega (arith, s.in-second)
+pub second_too_short : {count : ℕ} {first second : List ℕ} → length second < count → SameBytes count first second → ⊥
+second_too_short short s = omega (arith, s.in_second)
 
 -- two bytes differ
-pub byte-differs : {count : ℕ} {first second : List ℕ} (i : ℕ) → i < count → (get_or first i 0 ≡ get_or second i 0 → ⊥) → SameBytes count first second → ⊥
-byte-differs {count} {first} {second} i below differ s =
+pub byte_differs : {count : ℕ} {first second : List ℕ} (i : ℕ) → i < count → (get_or first i 0 ≡ get_or second i 0 → ⊥) → SameBytes count first second → ⊥
+byte_differs {count} {first} {second} i below differ s =
     differ (sym (get_or-take count first i 0 below) ∙ ap (λ (l : List ℕ). get_or l i 0) s.same ∙ get_or-take count second i 0 below)
 
 -- all are the same
 pub bytes_same : (count : ℕ) (first second : List ℕ) → count ≤ length first → count ≤ length second
     → ((i : ℕ) → i < count → get_or first i 0 ≡ get_or second i 0) → SameBytes count first second
-bytes_same count first second in-first in-second same = record {
-  in-first = in-first;
-  in-second = in-second;
-  same = ext_get_or 0 (take count first) (take count second) (length-take-le count first in-first ∙ sym (length-take-le count second in-second))
-      (λ i inside. let below : i < count = (let k = length-take-le count first in-first in omega arith) in
+bytes_same count first second in_first in_second same = record {
+  in_first = in_first;
+  in_second = in_second;
+  same = ext_get_or 0 (take count first) (take count second) (length-take-le count first in_first ∙ sym (length-take-le count second in_second))
+      (λ i inside. let below : i < count = (let k = length-take-le count first in_first in omega arith) in
       get_or-take count first i 0 below ∙ same i below ∙ sym (get_or-take count second i 0 below));
 }
 
@@ -62,8 +62,8 @@ no_bytes count first second none = bytes_same count first second (omega arith) (
 
 -- so many records are longer than a buffer, or fit into it
 module _ (layouts size long : ℕ) (some : 1 ≤ size) where
-  pub records-too-long : long / size < layouts → long < layouts * size
-  records-too-long more = (div-lt_iff_lt-mul {k = size} {x = long} {y = layouts} (omega arith)).0 more
+  pub records_too_long : long / size < layouts → long < layouts * size
+  records_too_long more = (div-lt_iff_lt-mul {k = size} {x = long} {y = layouts} (omega arith)).0 more
 
-  pub records-fit : layouts ≤ long / size → layouts * size ≤ long
-  records-fit fits = (le-div_iff_mul-le {k = size} {x = layouts} {y = long} (omega arith)).0 fits
+  pub records_fit : layouts ≤ long / size → layouts * size ≤ long
+  records_fit fits = (le-div_iff_mul-le {k = size} {x = layouts} {y = long} (omega arith)).0 fits

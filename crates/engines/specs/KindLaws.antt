@@ -4,10 +4,10 @@ use Rattle.std.proofs.Common.{arith, sym, ap, subst, ◌∙◌, inl, inr, ⊎_el
 use Rattle.std.proofs.Math.Decide.{ℕ_discrete}
 use Rattle.std.proofs.lemmas.List.{length-replicate, get_or-replicate, length-map}
 use Rattle.std.proofs.Math.ListN.{get_or-map}
-use Rattle.engines.specs.Kinds.{more-codes, codes-before, Kinds, Before, Next, cell-of-kind, cells_of}
+use Rattle.engines.specs.Kinds.{more_codes, codes_before, Kinds, Before, Next, cell_of_kind, cells_of}
 
-lt-or-ge : (a b : ℕ) → (a < b) ⊎ (b ≤ a)
-lt-or-ge a b = go (ltb a b) refl
+lt_or_ge : (a b : ℕ) → (a < b) ⊎ (b ≤ a)
+lt_or_ge a b = go (ltb a b) refl
   where
     go : (t : Bool) → ltb a b ≡ t → (a < b) ⊎ (b ≤ a)
     go true e = inl (ltb-true a b e)
@@ -15,40 +15,40 @@ lt-or-ge a b = go (ltb a b) refl
 
 -- ## How many codes there are
 
-more-bounded : (codes kind most : ℕ) → codes ≤ most → kind ≤ most + 1 → more-codes codes kind ≤ most
-unfolding more-codes
-more-bounded codes kind most few small = go (ltb codes (kind - 1)) refl
+more_bounded : (codes kind most : ℕ) → codes ≤ most → kind ≤ most + 1 → more_codes codes kind ≤ most
+unfolding more_codes
+more_bounded codes kind most few small = go (ltb codes (kind - 1)) refl
   where
-    go : (b : Bool) → ltb codes (kind - 1) ≡ b → more-codes codes kind ≤ most
-    go true e = rw (e, more-codes) (omega arith)
-    go false e = rw (e, more-codes) few
+    go : (b : Bool) → ltb codes (kind - 1) ≡ b → more_codes codes kind ≤ most
+    go true e = rw (e, more_codes) (omega arith)
+    go false e = rw (e, more_codes) few
 
-pub more_same : (codes kind : ℕ) → kind - 1 ≤ codes → codes ≡ more-codes codes kind
-unfolding more-codes
-more_same codes kind no_more = rw (le-ltb codes (kind - 1) no_more, more-codes) refl
+pub more_same : (codes kind : ℕ) → kind - 1 ≤ codes → codes ≡ more_codes codes kind
+unfolding more_codes
+more_same codes kind no_more = rw (le-ltb codes (kind - 1) no_more, more_codes) refl
 
-pub more-grown : (codes kind : ℕ) → codes < kind - 1 → kind - 1 ≡ more-codes codes kind
-unfolding more-codes
-more-grown codes kind more = rw (lt-ltb codes (kind - 1) more, more-codes) refl
+pub more_grown : (codes kind : ℕ) → codes < kind - 1 → kind - 1 ≡ more_codes codes kind
+unfolding more_codes
+more_grown codes kind more = rw (lt-ltb codes (kind - 1) more, more_codes) refl
 
 -- one pad more
-pub codes-further : (kinds : List ℕ) (pad codes : ℕ) → codes ≡ codes-before kinds pad → more-codes codes (get_or kinds pad 0) ≡ codes-before kinds (pad + 1)
-unfolding codes-before
-codes-further kinds pad codes e = rw (add-one pad, e) refl
+pub codes_further : (kinds : List ℕ) (pad codes : ℕ) → codes ≡ codes_before kinds pad → more_codes codes (get_or kinds pad 0) ≡ codes_before kinds (pad + 1)
+unfolding codes_before
+codes_further kinds pad codes e = rw (add-one pad, e) refl
 
-pub codes-none : (kinds : List ℕ) → 0 ≡ codes-before kinds 0
-unfolding codes-before
-codes-none kinds = refl
+pub codes_none : (kinds : List ℕ) → 0 ≡ codes_before kinds 0
+unfolding codes_before
+codes_none kinds = refl
 
-pub codes-few : (kinds : List ℕ) → Kinds kinds → (pad : ℕ) → pad ≤ length kinds → codes-before kinds pad ≤ pad
-unfolding codes-before
-codes-few kinds valid zero inside = omega arith
-codes-few kinds valid (suc pad) inside =
-    let few = codes-few kinds valid pad (omega arith) in
-    more-bounded (codes-before kinds pad) (get_or kinds pad 0) (suc pad) (omega arith) (let h = valid.numbered pad (omega arith) in omega arith)
+pub codes_few : (kinds : List ℕ) → Kinds kinds → (pad : ℕ) → pad ≤ length kinds → codes_before kinds pad ≤ pad
+unfolding codes_before
+codes_few kinds valid zero inside = omega arith
+codes_few kinds valid (suc pad) inside =
+    let few = codes_few kinds valid pad (omega arith) in
+    more_bounded (codes_before kinds pad) (get_or kinds pad 0) (suc pad) (omega arith) (let h = valid.numbered pad (omega arith) in omega arith)
 
-pub codes_same : (kinds other : List ℕ) (pad : ℕ) → ((k : ℕ) → k < pad → get_or kinds k 0 ≡ get_or other k 0) → codes-before kinds pad ≡ codes-before other pad
-unfolding codes-before
+pub codes_same : (kinds other : List ℕ) (pad : ℕ) → ((k : ℕ) → k < pad → get_or kinds k 0 ≡ get_or other k 0) → codes_before kinds pad ≡ codes_before other pad
+unfolding codes_before
 codes_same kinds other zero same = refl
 codes_same kinds other (suc pad) same = rw (codes_same kinds other pad (λ k below. same k (omega arith)), same pad (omega arith)) refl
 
@@ -56,40 +56,40 @@ codes_same kinds other (suc pad) same = rw (codes_same kinds other pad (λ k bel
 
 -- the pads from this one on had their largest kinds, and are blank now; those before it are as they were
 pub record Carried (kinds now : List ℕ) (pad : ℕ) : Type 0 where
-  pub same-pads : length now ≡ length kinds
+  pub same_pads : length now ≡ length kinds
   pub before : (k : ℕ) → k < pad → get_or now k 0 ≡ get_or kinds k 0
-  pub largest : (k : ℕ) → pad ≤ k → k < length kinds → codes-before kinds k + 2 ≤ get_or kinds k 0
+  pub largest : (k : ℕ) → pad ≤ k → k < length kinds → codes_before kinds k + 2 ≤ get_or kinds k 0
   pub blank : (k : ℕ) → pad ≤ k → k < length kinds → get_or now k 0 ≡ 0
 
-pub none-carried : (kinds : List ℕ) → Carried kinds kinds (length kinds)
-none-carried kinds = record {
-  same-pads = refl;
+pub none_carried : (kinds : List ℕ) → Carried kinds kinds (length kinds)
+none_carried kinds = record {
+  same_pads = refl;
   before = λ k below. refl;
   largest = λ k from inside. absurd (omega arith);
   blank = λ k from inside. absurd (omega arith);
 }
 
-pub one-back : {kinds now : List ℕ} (pad : ℕ) → 0 < pad → Carried kinds now pad → Carried kinds now (pad - 1 + 1)
-one-back {kinds} {now} pad some carried = let e : pad ≡ pad - 1 + 1 = omega arith in subst (λ (n : ℕ). Carried kinds now n) e carried
+pub one_back : {kinds now : List ℕ} (pad : ℕ) → 0 < pad → Carried kinds now pad → Carried kinds now (pad - 1 + 1)
+one_back {kinds} {now} pad some carried = let e : pad ≡ pad - 1 + 1 = omega arith in subst (λ (n : ℕ). Carried kinds now n) e carried
 
 -- a grid that comes later differs first at a pad that has not its largest kind
-changed-before : (kinds now : List ℕ) (pad : ℕ) → Carried kinds now pad → (other : List ℕ) → Kinds other → length other ≡ length kinds
+changed_before : (kinds now : List ℕ) (pad : ℕ) → Carried kinds now pad → (other : List ℕ) → Kinds other → length other ≡ length kinds
     → (later : Before kinds other) → later.pad < pad
-changed-before kinds now pad carried other valid long later = ⊎_elim (λ below. below) (λ from. absurd (
+changed_before kinds now pad carried other valid long later = ⊎_elim (λ below. below) (λ from. absurd (
     let same = codes_same kinds other later.pad later.same in
     omega (arith, later.less, later.inside, carried.largest later.pad from later.inside, valid.numbered later.pad (omega (arith, later.inside)), same)))
-    (lt-or-ge later.pad pad)
+    (lt_or_ge later.pad pad)
 
 -- where every pad has its largest kind, none comes later, and all are blank again
-none-later : (kinds now : List ℕ) → Carried kinds now 0 → Next kinds false now
-none-later kinds now carried = record {
-  same-pads = carried.same-pads;
-  its-kinds = record { numbered = λ k in-now. omega (arith, carried.blank k (omega arith) (let long = carried.same-pads in omega arith)) };
+none_later : (kinds now : List ℕ) → Carried kinds now 0 → Next kinds false now
+none_later kinds now carried = record {
+  same_pads = carried.same_pads;
+  its_kinds = record { numbered = λ k in_now. omega (arith, carried.blank k (omega arith) (let long = carried.same_pads in omega arith)) };
   later = λ e. absurd (never e);
   none_between = λ e. absurd (never e);
-  last = λ e other valid long later. let k = changed-before kinds now 0 carried other valid long later in omega arith;
-  blank-again = λ e. ext_get_or 0 now (replicate (length kinds) 0) (carried.same-pads ∙ sym (length-replicate (length kinds) 0))
-      (λ k in-now. let inside : k < length kinds = (let long = carried.same-pads in omega arith) in
+  last = λ e other valid long later. let k = changed_before kinds now 0 carried other valid long later in omega arith;
+  blank_again = λ e. ext_get_or 0 now (replicate (length kinds) 0) (carried.same_pads ∙ sym (length-replicate (length kinds) 0))
+      (λ k in_now. let inside : k < length kinds = (let long = carried.same_pads in omega arith) in
       carried.blank k (omega arith) inside ∙ sym (get_or-replicate (length kinds) k 0 0 inside));
 }
   where
@@ -97,95 +97,95 @@ none-later kinds now carried = record {
     never e = let z : ◌≡◌ {A = ℕ} 0 1 = cc in omega arith
 
 pub none_left : {kinds now : List ℕ} (pad : ℕ) → pad ≤ 0 → Carried kinds now pad → Next kinds false now
-none_left {kinds} {now} pad none carried = let e : pad ≡ 0 = omega arith in none-later kinds now (subst (λ (n : ℕ). Carried kinds now n) e carried)
+none_left {kinds} {now} pad none carried = let e : pad ≡ 0 = omega arith in none_later kinds now (subst (λ (n : ℕ). Carried kinds now n) e carried)
 
 module _ (kinds now : List ℕ) (pad : ℕ) (inside : pad < length kinds) (carried : Carried kinds now (pad + 1)) where
-  same_codes : codes-before now pad ≡ codes-before kinds pad
+  same_codes : codes_before now pad ≡ codes_before kinds pad
   same_codes = codes_same now kinds pad (λ k below. carried.before k (omega arith))
 
-  pub few-codes : Kinds kinds → codes-before now pad ≤ pad
-  few-codes valid = let few = codes-few kinds valid pad (omega arith) in omega (arith, same_codes)
+  pub few_codes : Kinds kinds → codes_before now pad ≤ pad
+  few_codes valid = let few = codes_few kinds valid pad (omega arith) in omega (arith, same_codes)
 
-  after-set : (kind k : ℕ) → (k ≡ pad → ⊥) → get_or (set now pad kind) k 0 ≡ get_or now k 0
-  after-set kind k other = get_or-set_other now pad k kind 0 other
+  after_set : (kind k : ℕ) → (k ≡ pad → ⊥) → get_or (set now pad kind) k 0 ≡ get_or now k 0
+  after_set kind k other = get_or-set_other now pad k kind 0 other
 
   at_set : (kind : ℕ) → get_or (set now pad kind) pad 0 ≡ kind
-  at_set kind = get_or-set_same now pad kind 0 (let k = carried.same-pads in omega arith)
+  at_set kind = get_or-set_same now pad kind 0 (let k = carried.same_pads in omega arith)
 
   -- a pad with its largest kind is blank again, and the one before it is next
-  pub carried_on : codes-before now pad + 2 ≤ get_or now pad 0 → Carried kinds (set now pad 0) pad
+  pub carried_on : codes_before now pad + 2 ≤ get_or now pad 0 → Carried kinds (set now pad 0) pad
   carried_on full = record {
-    same-pads = length-set now pad 0 ∙ carried.same-pads;
-    before = λ k below. after-set 0 k (λ e. omega arith) ∙ carried.before k (omega arith);
-    largest = λ k from in-grid. elim (ℕ_discrete k pad) [
+    same_pads = length-set now pad 0 ∙ carried.same_pads;
+    before = λ k below. after_set 0 k (λ e. omega arith) ∙ carried.before k (omega arith);
+    largest = λ k from in_grid. elim (ℕ_discrete k pad) [
       | yes e ↦ rw e (omega (arith, same_codes, carried.before pad (omega arith)))
-      | no other ↦ carried.largest k (omega arith) in-grid
+      | no other ↦ carried.largest k (omega arith) in_grid
     ];
-    blank = λ k from in-grid. elim (ℕ_discrete k pad) [
+    blank = λ k from in_grid. elim (ℕ_discrete k pad) [
       | yes e ↦ rw e (at_set 0)
-      | no other ↦ after-set 0 k other ∙ carried.blank k (omega arith) in-grid
+      | no other ↦ after_set 0 k other ∙ carried.blank k (omega arith) in_grid
     ];
   }
 
   -- a pad whose kind can still grow takes the next one: that is the next grid
-  module _ (valid : Kinds kinds) (room : get_or now pad 0 < codes-before now pad + 2) where
+  module _ (valid : Kinds kinds) (room : get_or now pad 0 < codes_before now pad + 2) where
     abbrev next : List ℕ
     next = set now pad (get_or now pad 0 + 1)
 
     abbrev kind : ℕ
     kind = get_or kinds pad 0
 
-    its-kind : get_or now pad 0 ≡ kind
-    its-kind = carried.before pad (omega arith)
+    its_kind : get_or now pad 0 ≡ kind
+    its_kind = carried.before pad (omega arith)
 
-    next-before : (k : ℕ) → k < pad → get_or next k 0 ≡ get_or kinds k 0
-    next-before k below = after-set _ k (λ e. omega arith) ∙ carried.before k (omega arith)
+    next_before : (k : ℕ) → k < pad → get_or next k 0 ≡ get_or kinds k 0
+    next_before k below = after_set _ k (λ e. omega arith) ∙ carried.before k (omega arith)
 
     next_here : get_or next pad 0 ≡ kind + 1
-    next_here = at_set _ ∙ ap (λ (n : ℕ). n + 1) its-kind
+    next_here = at_set _ ∙ ap (λ (n : ℕ). n + 1) its_kind
 
-    next-blank : (k : ℕ) → pad < k → k < length kinds → get_or next k 0 ≡ 0
-    next-blank k above in-grid = after-set _ k (λ e. omega arith) ∙ carried.blank k (omega arith) in-grid
+    next_blank : (k : ℕ) → pad < k → k < length kinds → get_or next k 0 ≡ 0
+    next_blank k above in_grid = after_set _ k (λ e. omega arith) ∙ carried.blank k (omega arith) in_grid
 
-    next-kinds : Kinds next
-    next-kinds = record {
-      numbered = λ k in-next.
-          let long : length next ≡ length kinds = length-set now pad _ ∙ carried.same-pads in
+    next_kinds : Kinds next
+    next_kinds = record {
+      numbered = λ k in_next.
+          let long : length next ≡ length kinds = length-set now pad _ ∙ carried.same_pads in
           ⊎_elim (λ below.
-          let here = next-before k below in
-          let same = codes_same next kinds k (λ j under. next-before j (omega arith)) in
+          let here = next_before k below in
+          let same = codes_same next kinds k (λ j under. next_before j (omega arith)) in
           omega (arith, valid.numbered k (omega arith), here, same))
           (λ from. elim (ℕ_discrete k pad) [
-            | yes e ↦ rw e (let same = codes_same next now pad (λ j under. after-set _ j (λ e. omega arith)) in omega (arith, at_set (get_or now pad 0 + 1), same, room))
-            | no other ↦ omega (arith, next-blank k (omega arith) (omega arith))
+            | yes e ↦ rw e (let same = codes_same next now pad (λ j under. after_set _ j (λ e. omega arith)) in omega (arith, at_set (get_or now pad 0 + 1), same, room))
+            | no other ↦ omega (arith, next_blank k (omega arith) (omega arith))
           ])
-          (lt-or-ge k pad);
+          (lt_or_ge k pad);
     }
 
     -- between the two lies none
-    none-fits : (other : List ℕ) → Kinds other → length other ≡ length kinds → Before kinds other → Before other next → ⊥
-    none-fits other others long later sooner =
-        let from-kinds : later.pad ≤ pad = (let k = changed-before kinds now (pad + 1) carried other others long later in omega arith) in
-        let to-next : sooner.pad ≤ pad = ⊎_elim (λ above. absurd (omega (arith, sooner.less, next-blank sooner.pad above (omega (arith, sooner.inside))))) (λ fine. fine) (lt-or-ge pad sooner.pad) in
+    none_fits : (other : List ℕ) → Kinds other → length other ≡ length kinds → Before kinds other → Before other next → ⊥
+    none_fits other others long later sooner =
+        let from_kinds : later.pad ≤ pad = (let k = changed_before kinds now (pad + 1) carried other others long later in omega arith) in
+        let to_next : sooner.pad ≤ pad = ⊎_elim (λ above. absurd (omega (arith, sooner.less, next_blank sooner.pad above (omega (arith, sooner.inside))))) (λ fine. fine) (lt_or_ge pad sooner.pad) in
         ⊎_elim
-        (λ first. omega (arith, later.less, sooner.same later.pad first, next-before later.pad (omega arith)))
+        (λ first. omega (arith, later.less, sooner.same later.pad first, next_before later.pad (omega arith)))
         (λ from. elim (ℕ_discrete later.pad sooner.pad) [
-          | no apart ↦ omega (arith, sooner.less, later.same sooner.pad (omega arith), next-before sooner.pad (omega arith))
+          | no apart ↦ omega (arith, sooner.less, later.same sooner.pad (omega arith), next_before sooner.pad (omega arith))
           | yes one ↦ elim (ℕ_discrete sooner.pad pad) [
-            | no earlier ↦ omega (arith, rw one at later.less, sooner.less, next-before sooner.pad (omega arith))
+            | no earlier ↦ omega (arith, rw one at later.less, sooner.less, next_before sooner.pad (omega arith))
             | yes here ↦ omega (arith, rw (one ∙ here) at later.less, rw here at sooner.less, next_here)
           ]
         ])
-        (lt-or-ge later.pad sooner.pad)
+        (lt_or_ge later.pad sooner.pad)
 
-    pub next-found : Next kinds true next
-    next-found = record {
-      same-pads = length-set now pad _ ∙ carried.same-pads;
-      its-kinds = next-kinds;
-      later = λ e. record { pad = pad; inside = inside; same = λ k below. sym (next-before k below); less = omega (arith, next_here) };
-      none_between = λ e. none-fits;
+    pub next_found : Next kinds true next
+    next_found = record {
+      same_pads = length-set now pad _ ∙ carried.same_pads;
+      its_kinds = next_kinds;
+      later = λ e. record { pad = pad; inside = inside; same = λ k below. sym (next_before k below); less = omega (arith, next_here) };
+      none_between = λ e. none_fits;
       last = λ e. absurd (never e);
-      blank-again = λ e. absurd (never e);
+      blank_again = λ e. absurd (never e);
     }
       where
         never : true ≡ false → ⊥
@@ -194,29 +194,29 @@ module _ (kinds now : List ℕ) (pad : ℕ) (inside : pad < length kinds) (carri
 -- ## The first grid
 
 -- a field of blank pads is one of the grids
-pub blank-kinds : (pads : ℕ) → Kinds (replicate pads 0)
-blank-kinds pads = record { numbered = λ pad inside. rw (get_or-replicate {A = ℕ} pads pad 0 0 (let k = length-replicate {A = ℕ} pads 0 in omega arith)) (omega arith) }
+pub blank_kinds : (pads : ℕ) → Kinds (replicate pads 0)
+blank_kinds pads = record { numbered = λ pad inside. rw (get_or-replicate {A = ℕ} pads pad 0 0 (let k = length-replicate {A = ℕ} pads 0 in omega arith)) (omega arith) }
 
 -- ## Cells
 
-pub cell-code : (kind : ℕ) → (kind ≡ 0 → ⊥) → (kind ≡ 1 → ⊥) → pos (kind - 2) ≡ cell-of-kind kind
-unfolding cell-of-kind
-cell-code zero not-blank not-hole = absurd (not-blank refl)
-cell-code (suc zero) not-blank not-hole = absurd (not-hole refl)
-cell-code (suc (suc code)) not-blank not-hole = ap pos (omega arith)
+pub cell_code : (kind : ℕ) → (kind ≡ 0 → ⊥) → (kind ≡ 1 → ⊥) → pos (kind - 2) ≡ cell_of_kind kind
+unfolding cell_of_kind
+cell_code zero not_blank not_hole = absurd (not_blank refl)
+cell_code (suc zero) not_blank not_hole = absurd (not_hole refl)
+cell_code (suc (suc code)) not_blank not_hole = ap pos (omega arith)
 
 -- one cell more
-pub cell-put : (kinds : List ℕ) (cells : List ℤ) (i : ℕ) (cell : ℤ) → i < length cells → cell ≡ cell-of-kind (get_or kinds i 0)
-    → ((k : ℕ) → k < i → get_or cells k (negsuc 0) ≡ cell-of-kind (get_or kinds k 0))
-    → (k : ℕ) → k < i + 1 → get_or (set cells i cell) k (negsuc 0) ≡ cell-of-kind (get_or kinds k 0)
-cell-put kinds cells i cell inside here before k below = elim (ℕ_discrete k i) [
+pub cell_put : (kinds : List ℕ) (cells : List ℤ) (i : ℕ) (cell : ℤ) → i < length cells → cell ≡ cell_of_kind (get_or kinds i 0)
+    → ((k : ℕ) → k < i → get_or cells k (negsuc 0) ≡ cell_of_kind (get_or kinds k 0))
+    → (k : ℕ) → k < i + 1 → get_or (set cells i cell) k (negsuc 0) ≡ cell_of_kind (get_or kinds k 0)
+cell_put kinds cells i cell inside here before k below = elim (ℕ_discrete k i) [
   | yes e ↦ rw e (get_or-set_same cells i cell (negsuc 0) inside ∙ here)
   | no other ↦ get_or-set_other cells i k cell (negsuc 0) other ∙ before k (omega arith)
 ]
 
 -- all of them
-pub cells-put : (kinds : List ℕ) (cells : List ℤ) → length cells ≡ length kinds
-    → ((k : ℕ) → k < length kinds → get_or cells k (negsuc 0) ≡ cell-of-kind (get_or kinds k 0)) → cells ≡ cells_of kinds
-unfolding cells_of cell-of-kind
-cells-put kinds cells long each = ext_get_or (negsuc 0) cells (map cell-of-kind kinds) (long ∙ sym (length-map kinds cell-of-kind))
-    (λ k inside. each k (omega arith) ∙ sym (get_or-map cell-of-kind kinds k 0))
+pub cells_put : (kinds : List ℕ) (cells : List ℤ) → length cells ≡ length kinds
+    → ((k : ℕ) → k < length kinds → get_or cells k (negsuc 0) ≡ cell_of_kind (get_or kinds k 0)) → cells ≡ cells_of kinds
+unfolding cells_of cell_of_kind
+cells_put kinds cells long each = ext_get_or (negsuc 0) cells (map cell_of_kind kinds) (long ∙ sym (length-map kinds cell_of_kind))
+    (λ k inside. each k (omega arith) ∙ sym (get_or-map cell_of_kind kinds k 0))

@@ -4,17 +4,17 @@
 use Rattle.std.specs.Prelude.{ℕ, zero, suc, ◌+◌, ◌-◌, ◌≤◌, ◌<◌, ◌≡◌, Bool, true, false, List, map, ltb, ℤ, pos, negsuc, length, get_or, replicate}
 
 -- how many codes there are with a pad of this kind after so many
-unfoldable pub more-codes : ℕ → ℕ → ℕ
-more-codes codes kind = elim (ltb codes (kind - 1)) [ true ↦ kind - 1 | false ↦ codes ]
+unfoldable pub more_codes : ℕ → ℕ → ℕ
+more_codes codes kind = elim (ltb codes (kind - 1)) [ true ↦ kind - 1 | false ↦ codes ]
 
 -- how many codes stand at the pads before this one
-unfoldable pub codes-before : List ℕ → ℕ → ℕ
-codes-before kinds zero = 0
-codes-before kinds (suc pad) = more-codes (codes-before kinds pad) (get_or kinds pad 0)
+unfoldable pub codes_before : List ℕ → ℕ → ℕ
+codes_before kinds zero = 0
+codes_before kinds (suc pad) = more_codes (codes_before kinds pad) (get_or kinds pad 0)
 
 -- KINDS OF A GRID: a code at a pad is at most the number of codes before it
 pub record Kinds (kinds : List ℕ) : Type 0 where
-  pub numbered : (pad : ℕ) → pad < length kinds → get_or kinds pad 0 ≤ codes-before kinds pad + 2
+  pub numbered : (pad : ℕ) → pad < length kinds → get_or kinds pad 0 ≤ codes_before kinds pad + 2
 
 -- THE ORDER: at the first pad where two grids differ, the one before has the smaller kind
 pub record Before (kinds other : List ℕ) : Type 0 where
@@ -25,19 +25,19 @@ pub record Before (kinds other : List ℕ) : Type 0 where
 
 -- THE NEXT GRID of so many pads: it comes later, with none between; after the last one comes the first again, which is blank
 pub record Next (kinds : List ℕ) (more : Bool) (next : List ℕ) : Type 0 where
-  pub same-pads : length next ≡ length kinds
-  pub its-kinds : Kinds next
+  pub same_pads : length next ≡ length kinds
+  pub its_kinds : Kinds next
   pub later : more ≡ true → Before kinds next
   pub none_between : more ≡ true → (other : List ℕ) → Kinds other → length other ≡ length kinds → Before kinds other → Before other next → ⊥
   pub last : more ≡ false → (other : List ℕ) → Kinds other → length other ≡ length kinds → Before kinds other → ⊥
-  pub blank-again : more ≡ false → next ≡ replicate (length kinds) 0
+  pub blank_again : more ≡ false → next ≡ replicate (length kinds) 0
 
 -- the cell of a kind, as the engines read it
-unfoldable pub cell-of-kind : ℕ → ℤ
-cell-of-kind zero = negsuc 0
-cell-of-kind (suc zero) = negsuc 1
-cell-of-kind (suc (suc code)) = pos code
+unfoldable pub cell_of_kind : ℕ → ℤ
+cell_of_kind zero = negsuc 0
+cell_of_kind (suc zero) = negsuc 1
+cell_of_kind (suc (suc code)) = pos code
 
 -- the cells of the kinds
 unfoldable pub cells_of : List ℕ → List ℤ
-cells_of kinds = map cell-of-kind kinds
+cells_of kinds = map cell_of_kind kinds

@@ -12,15 +12,15 @@ unfoldable pub sum : ℕ → ℕ → ℕ
 sum a b = elim (leb (a + b) largest) [ true ↦ a + b | false ↦ largest ]
 
 -- 1 where the test holds
-unfoldable pub one-if : Bool → ℕ
-one-if true = 1
-one-if false = 0
+unfoldable pub one_if : Bool → ℕ
+one_if true = 1
+one_if false = 0
 
 -- WITH ONE GRID MORE: it is counted, and counted as equal where it is
-unfoldable pub with-grid : Sums → Compared → Sums
-with-grid sums compared = record {
+unfoldable pub with_grid : Sums → Compared → Sums
+with_grid sums compared = record {
   grids = sum sums.grids 1;
-  equal = sum sums.equal (one-if compared.equal);
+  equal = sum sums.equal (one_if compared.equal);
   layouts = sum sums.layouts compared.layouts;
   visited = sum sums.visited compared.visited;
   tried = sum sums.tried compared.tried;
@@ -30,6 +30,6 @@ pub sum_fits : (a b : ℕ) → a + b ≤ 18446744073709551615 → a + b ≡ sum 
 unfolding sum
 sum_fits a b fits = rw (le-leb (a + b) largest fits, sum) refl
 
-pub sum-full : (a b : ℕ) → 18446744073709551615 < a + b → 18446744073709551615 ≡ sum a b
+pub sum_full : (a b : ℕ) → 18446744073709551615 < a + b → 18446744073709551615 ≡ sum a b
 unfolding sum
-sum-full a b full = rw (lt-leb (a + b) largest full, sum) refl
+sum_full a b full = rw (lt-leb (a + b) largest full, sum) refl

@@ -1,12 +1,12 @@
 // The two engines side by side: the search (crate solver) and the slow walk through every code (crate walking), run on one grid and compared.
 // `compare` says whether both ended complete with the same number, index, layouts, fewest lines and records, and hands on what they counted.
-// By `compared-equal` (specs/BothCalls.antt) it can say false only where an engine did not end complete. Also here: small grids one after the other,
+// By `compared_equal` (specs/BothCalls.antt) it can say false only where an engine did not end complete. Also here: small grids one after the other,
 // each up to a renaming of its codes exactly once, as one kind for each pad (specs/Kinds.antt).
 ghost use Rattle.std.specs.Prelude.{◌≡◌, true, ◌↔◌, ◌+◌, ◌*◌, ◌-◌, ◌≤◌, ◌<◌, length};
 ghost use Rattle.rules.specs.Grid.{places};
 ghost use Rattle.engines.specs.Equal.{SameCounts, SameBytes, Equal, Compares};
-ghost use Rattle.engines.specs.Kinds.{more-codes, codes-before, Kinds, Next, cell-of-kind, cells_of};
-ghost use Rattle.engines.specs.Sums.{sum, one-if, with-grid};
+ghost use Rattle.engines.specs.Kinds.{more_codes, codes_before, Kinds, Next, cell_of_kind, cells_of};
+ghost use Rattle.engines.specs.Sums.{sum, one_if, with_grid};
 
 use solver::Solved;
 use walking::Walked;
@@ -129,7 +129,7 @@ pub fn compare(height: usize, width: usize, cells: &[i64]) -> Compared
 
 // The greater number of codes: those so far, or those of a kind, which numbers them by their first pad.
 fn more_codes(codes: u8, kind: u8) -> u8
-    ensures { result ≡ more-codes codes kind }
+    ensures { result ≡ more_codes codes kind }
 {
     if kind < 2 {
         return codes;
@@ -143,7 +143,7 @@ fn more_codes(codes: u8, kind: u8) -> u8
 // How many codes stand at the pads before this one.
 fn codes_before(kinds: &[u8], pad: usize) -> u8
     requires { pad ≤ length kinds.now }
-    ensures { result ≡ codes-before kinds.now pad }
+    ensures { result ≡ codes_before kinds.now pad }
 {
     let mut codes: u8 = 0;
     let mut i = 0;
@@ -173,7 +173,7 @@ pub fn next_grid(kinds: &mut [u8]) -> bool
 
 // The cell of a kind: 0 is blank, 1 is a hole, 2 + c is code c.
 fn cell_of_kind(kind: u8) -> i64
-    ensures { result ≡ cell-of-kind kind }
+    ensures { result ≡ cell_of_kind kind }
 {
     if kind == 0 {
         return -1;
@@ -245,14 +245,14 @@ fn plus(a: u64, b: u64) -> u64
 }
 
 fn one_if(test: bool) -> u64
-    ensures { result ≡ one-if test }
+    ensures { result ≡ one_if test }
 {
     if test { 1 } else { 0 }
 }
 
 // The sums with one grid more.
 pub fn counted(sums: Sums, compared: Compared) -> Sums
-    ensures { result ≡ with-grid sums compared }
+    ensures { result ≡ with_grid sums compared }
 {
     Sums {
         grids: plus(sums.grids, 1),

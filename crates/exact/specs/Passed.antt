@@ -7,96 +7,96 @@ use mathlib.Core.List.{Memᴰ}
 use Rattle.std.proofs.Math.Decide.{ℕ_discrete}
 use Rattle.rules.specs.Grid.{Edge, first, Grid, pads, OnBoard, right, down}
 use Rattle.rules.specs.Tests.{conflict, not_so}
-use Rattle.rules.specs.Places.{previous-column}
-use Rattle.model.specs.PadTests.{has_right, has_left, has-down, has-up}
-use Rattle.model.specs.Board.{isUndecided, State, undecideds, around}
+use Rattle.rules.specs.Places.{previous_column}
+use Rattle.model.specs.PadTests.{has_right, has_left, has_down, has_up}
+use Rattle.model.specs.Board.{is_undecided, State, undecideds, around}
 use Rattle.propagation.specs.Objects.{AtRest}
-use Rattle.propagation.specs.Squares.{Neighbour, neighbour, one-before, row_before, to-left, to-right, to-above, to_below}
-use Rattle.propagation.specs.Counting.{undecideds-among, one-to, some-among, right-around, down-around, around-apart}
+use Rattle.propagation.specs.Squares.{Neighbour, neighbour, one_before, row_before, to_left, to_right, to_above, to_below}
+use Rattle.propagation.specs.Counting.{undecideds_among, one_to, some_among, right_around, down_around, around_apart}
 
 module _ (g : Grid) (wide : 2 ≤ g.width) (S : State) where
   abbrev W : ℕ
   W = g.width
 
-  abbrev undecided-at : Edge → Bool
-  undecided-at e = isUndecided (S.edge e)
+  abbrev undecided_at : Edge → Bool
+  undecided_at e = is_undecided (S.edge e)
 
   -- PASSED: the edges of all pads before v are decided
   pub record Passed (v : ℕ) : Type 0 where
-    pub right : (u : ℕ) → u < v → has_right g u ≡ true → undecided-at (right u) ≡ false
-    pub down : (u : ℕ) → u < v → has-down g u ≡ true → undecided-at (down u) ≡ false
+    pub right : (u : ℕ) → u < v → has_right g u ≡ true → undecided_at (right u) ≡ false
+    pub down : (u : ℕ) → u < v → has_down g u ≡ true → undecided_at (down u) ≡ false
 
-  pub passed-edge : (v : ℕ) → Passed v → (e : Edge) → first e < v → OnBoard g e → undecided-at e ≡ false
+  pub passed_edge : (v : ℕ) → Passed v → (e : Edge) → first e < v → OnBoard g e → undecided_at e ≡ false
   unfolding OnBoard
-  passed-edge v b (right u) before (below, inside) = b.right u before (lt-ltb (u % W + 1) W inside)
-  passed-edge v b (down u) before below = b.down u before (lt-ltb (u + W) (pads g) below)
+  passed_edge v b (right u) before (below, inside) = b.right u before (lt-ltb (u % W + 1) W inside)
+  passed_edge v b (down u) before below = b.down u before (lt-ltb (u + W) (pads g) below)
 
   -- at a pad at rest no edge is the only undecided one
-  never-alone : (v : ℕ) → AtRest g S v → (a : ℕ) → ((p : Edge × ℕ) → Memᴰ p (around g v) → undecided-at p.0 ≡ true → p.1 ≡ a)
-      → (p : Edge × ℕ) → Memᴰ p (around g v) → undecided-at p.0 ≡ false
+  never_alone : (v : ℕ) → AtRest g S v → (a : ℕ) → ((p : Edge × ℕ) → Memᴰ p (around g v) → undecided_at p.0 ≡ true → p.1 ≡ a)
+      → (p : Edge × ℕ) → Memᴰ p (around g v) → undecided_at p.0 ≡ false
   unfolding AtRest
-  never-alone v rest a only p m = not_so (undecided-at p.0) (λ h.
-      let k : 1 ≤ undecideds S (around g v) = rw (undecideds-among S (around g v)) (some-among undecided-at (around g v) p m h) in
+  never_alone v rest a only p m = not_so (undecided_at p.0) (λ h.
+      let k : 1 ≤ undecideds S (around g v) = rw (undecideds_among S (around g v)) (some_among undecided_at (around g v) p m h) in
       ⊎_elim (λ (z, w). omega (arith, few)) (λ (z, w). omega (arith, few)) rest)
     where
       few : undecideds S (around g v) ≤ 1
-      few = rw (undecideds-among S (around g v)) (one-to undecided-at (around g v) a (around-apart g wide v) only)
+      few = rw (undecideds_among S (around g v)) (one_to undecided_at (around g v) a (around_apart g wide v) only)
 
   -- the edges to the left and upward are those of pads before
-  pub left-decided : (v : ℕ) → Passed v → has_left g v ≡ true → undecided-at (right (v - 1)) ≡ false
-  left-decided v b h =
+  pub left_decided : (v : ℕ) → Passed v → has_left g v ≡ true → undecided_at (right (v - 1)) ≡ false
+  left_decided v b h =
       let j : 0 < v % W = ltb-true 0 (v % W) h in
-      let e = one-before g wide v h in
-      b.right (v - 1) (omega arith) (lt-ltb ((v - 1) % W + 1) W (previous-column W (v - 1) (omega arith) (rw e at j)))
+      let e = one_before g wide v h in
+      b.right (v - 1) (omega arith) (lt-ltb ((v - 1) % W + 1) W (previous_column W (v - 1) (omega arith) (rw e at j)))
 
-  pub up-decided : (v : ℕ) → v < pads g → Passed v → has-up g v ≡ true → undecided-at (down (v - W)) ≡ false
-  up-decided v o b h = let j = row_before g wide v h in b.down (v - W) (omega arith) (lt-ltb (v - W + W) (pads g) (omega arith))
+  pub up_decided : (v : ℕ) → v < pads g → Passed v → has_up g v ≡ true → undecided_at (down (v - W)) ≡ false
+  up_decided v o b h = let j = row_before g wide v h in b.down (v - W) (omega arith) (lt-ltb (v - W + W) (pads g) (omega arith))
 
   -- PAST ONE PAD whose right edge is decided, or that stands in the last row
-  pub pass : (v : ℕ) → v < pads g → AtRest g S v → Passed v → (has_right g v ≡ true → has-down g v ≡ true → undecided-at (right v) ≡ false) → Passed (suc v)
+  pub pass : (v : ℕ) → v < pads g → AtRest g S v → Passed v → (has_right g v ≡ true → has_down g v ≡ true → undecided_at (right v) ≡ false) → Passed (suc v)
   pass v o rest b h = record {
-    right = λ u l r. elim (ℕ_discrete u v) [ yes e ↦ rw e (right-here (rw e at r)) | no n ↦ b.right u (omega arith) r ];
-    down = λ u l d. elim (ℕ_discrete u v) [ yes e ↦ rw e (down-here (rw e at d)) | no n ↦ b.down u (omega arith) d ];
+    right = λ u l r. elim (ℕ_discrete u v) [ yes e ↦ rw e (right_here (rw e at r)) | no n ↦ b.right u (omega arith) r ];
+    down = λ u l d. elim (ℕ_discrete u v) [ yes e ↦ rw e (down_here (rw e at d)) | no n ↦ b.down u (omega arith) d ];
   }
     where
-      only-down : has-down g v ≡ true → (p : Edge × ℕ) → Memᴰ p (around g v) → undecided-at p.0 ≡ true → p.1 ≡ v + W
-      only-down d p m t = go (neighbour g wide v p m)
+      only_down : has_down g v ≡ true → (p : Edge × ℕ) → Memᴰ p (around g v) → undecided_at p.0 ≡ true → p.1 ≡ v + W
+      only_down d p m t = go (neighbour g wide v p m)
         where
           go : Neighbour g wide v p → p.1 ≡ v + W
-          go (to-left k e) = conflict (rw e at t) (left-decided v b k)
-          go (to-right k e) = conflict (rw e at t) (h k d)
-          go (to-above k e) = conflict (rw e at t) (up-decided v o b k)
+          go (to_left k e) = conflict (rw e at t) (left_decided v b k)
+          go (to_right k e) = conflict (rw e at t) (h k d)
+          go (to_above k e) = conflict (rw e at t) (up_decided v o b k)
           go (to_below k e) = ap (λ (x : Edge × ℕ). x.1) e
 
-      only-right : has-down g v ≡ false → (p : Edge × ℕ) → Memᴰ p (around g v) → undecided-at p.0 ≡ true → p.1 ≡ v + 1
-      only-right d p m t = go (neighbour g wide v p m)
+      only_right : has_down g v ≡ false → (p : Edge × ℕ) → Memᴰ p (around g v) → undecided_at p.0 ≡ true → p.1 ≡ v + 1
+      only_right d p m t = go (neighbour g wide v p m)
         where
           go : Neighbour g wide v p → p.1 ≡ v + 1
-          go (to-left k e) = conflict (rw e at t) (left-decided v b k)
-          go (to-right k e) = ap (λ (x : Edge × ℕ). x.1) e
-          go (to-above k e) = conflict (rw e at t) (up-decided v o b k)
+          go (to_left k e) = conflict (rw e at t) (left_decided v b k)
+          go (to_right k e) = ap (λ (x : Edge × ℕ). x.1) e
+          go (to_above k e) = conflict (rw e at t) (up_decided v o b k)
           go (to_below k e) = conflict k d
 
-      down-here : has-down g v ≡ true → undecided-at (down v) ≡ false
-      down-here d = never-alone v rest (v + W) (only-down d) (down v, v + W) (down-around g wide v d)
+      down_here : has_down g v ≡ true → undecided_at (down v) ≡ false
+      down_here d = never_alone v rest (v + W) (only_down d) (down v, v + W) (down_around g wide v d)
 
-      right-here : has_right g v ≡ true → undecided-at (right v) ≡ false
-      right-here r = go (has-down g v) refl
+      right_here : has_right g v ≡ true → undecided_at (right v) ≡ false
+      right_here r = go (has_down g v) refl
         where
-          go : (d : Bool) → has-down g v ≡ d → undecided-at (right v) ≡ false
+          go : (d : Bool) → has_down g v ≡ d → undecided_at (right v) ≡ false
           go true d = h r d
-          go false d = never-alone v rest (v + 1) (only-right d) (right v, v + 1) (right-around g wide v r)
+          go false d = never_alone v rest (v + 1) (only_right d) (right v, v + 1) (right_around g wide v r)
 
   -- FROM THE LAST ROW ON nothing is left to decide
-  no-down : (v u : ℕ) → has-down g v ≡ false → v ≤ u → has-down g u ≡ false
-  no-down v u h l = not_so (has-down g u) (λ k. let j = ltb-true (u + W) (pads g) k in conflict (lt-ltb (v + W) (pads g) (omega arith)) h)
+  no_down : (v u : ℕ) → has_down g v ≡ false → v ≤ u → has_down g u ≡ false
+  no_down v u h l = not_so (has_down g u) (λ k. let j = ltb-true (u + W) (pads g) k in conflict (lt-ltb (v + W) (pads g) (omega arith)) h)
 
-  pub pass-last-row : ((u : ℕ) → AtRest g S u) → (v : ℕ) → v < pads g → has-down g v ≡ false → Passed v → Passed (pads g)
-  pass-last-row rest v o h b = rw (fit (pads g) v o) at (go (pads g - v) (omega arith))
+  pub pass_last_row : ((u : ℕ) → AtRest g S u) → (v : ℕ) → v < pads g → has_down g v ≡ false → Passed v → Passed (pads g)
+  pass_last_row rest v o h b = rw (fit (pads g) v o) at (go (pads g - v) (omega arith))
     where
       fit : (n v : ℕ) → v < n → v + (n - v) ≡ n
       fit n v l = omega arith
 
       go : (k : ℕ) → v + k ≤ pads g → Passed (v + k)
       go zero l = rw (add-zero v) b
-      go (suc k) l = rw (add-suc v k) (pass (v + k) (omega arith) (rest (v + k)) (go k (omega arith)) (λ r d. conflict d (no-down v (v + k) h (omega arith))))
+      go (suc k) l = rw (add-suc v k) (pass (v + k) (omega arith) (rest (v + k)) (go k (omega arith)) (λ r d. conflict d (no_down v (v + k) h (omega arith))))

@@ -11,30 +11,30 @@ use mathlib.Core.List.Memᴰ
 use Rattle.rules.specs.Grid.{Edge, Grid, pads, OnBoard, right, down}
 use Rattle.rules.specs.Drawing.{Drawing, drawn}
 use Rattle.rules.specs.Record.{byte_of, record_of, Ascending}
-use Rattle.rules.specs.RecordLaws.{field-same}
+use Rattle.rules.specs.RecordLaws.{field_same}
 use Rattle.rules.specs.Tests.{conflict}
-use Rattle.rules.specs.Places.{first-inside}
-use Rattle.model.specs.PadTests.{has-down}
-use Rattle.model.specs.Board.{EdgeState, is_line, isUndecided, State, fresh, undecided, line, none}
-use Rattle.model.specs.Calls.{state-byte}
+use Rattle.rules.specs.Places.{first_inside}
+use Rattle.model.specs.PadTests.{has_down}
+use Rattle.model.specs.Board.{EdgeState, is_line, is_undecided, State, fresh, undecided, line, none}
+use Rattle.model.specs.Calls.{state_byte}
 use Rattle.model.specs.Runs.{Event, visit, layout}
-use Rattle.model.specs.Search.{board-record, next-pad, backtrack, search}
-use Rattle.model.specs.SearchStart.{flagged-search, clear-search}
+use Rattle.model.specs.Search.{board_record, next_pad, backtrack, search}
+use Rattle.model.specs.SearchStart.{flagged_search, clear_search}
 use Rattle.propagation.specs.Edges.{drawing}
 use Rattle.propagation.specs.Agreement.{Agrees}
 use Rattle.rules.specs.ProperGrid.{Proper}
-use Rattle.propagation.specs.Preparing.{fresh-rests, agrees-with-fresh, fresh-shuts-holes}
-use Rattle.runs.specs.Events.{layouts-of}
-use Rattle.runs.specs.Branches.{Lists, lists-none, lists-counted, four-branches}
-use Rattle.exact.specs.Passed.{Passed, passed-edge, pass-last-row}
-use Rattle.exact.specs.WholeBoard.{whole-listed}
-use Rattle.exact.specs.NextPad.{StandsAt, NextFrom, rest_at, same_code, next-from}
-use Rattle.exact.specs.Branch.{ListsBranch, branch-lists}
+use Rattle.propagation.specs.Preparing.{fresh_rests, agrees_with_fresh, fresh_shuts_holes}
+use Rattle.runs.specs.Events.{layouts_of}
+use Rattle.runs.specs.Branches.{Lists, lists_none, lists_counted, four_branches}
+use Rattle.exact.specs.Passed.{Passed, passed_edge, pass_last_row}
+use Rattle.exact.specs.WholeBoard.{whole_listed}
+use Rattle.exact.specs.NextPad.{StandsAt, NextFrom, rest_at, same_code, next_from}
+use Rattle.exact.specs.Branch.{ListsBranch, branch_lists}
 
 -- the board's own drawing agrees with it
-agrees-itself : (S : State) → Agrees (drawing S) S
+agrees_itself : (S : State) → Agrees (drawing S) S
 unfolding drawing
-agrees-itself S = record { where-line = lined; where-none = bare }
+agrees_itself S = record { where_line = lined; where_none = bare }
   where
     lined : (e : Edge) → S.edge e ≡ line → drawn (drawing S) e ≡ true
     lined (right v) h = ap is_line h
@@ -49,77 +49,77 @@ module _ (g : Grid) (proper : Proper g) where
   wide = proper.wide
 
   -- IN THE LAST ROW every edge is decided, so the board's record is that of each drawing that agrees
-  whole-record : (S : State) (D : Drawing) → Agrees D S → Passed g wide S (pads g) → board-record g S ≡ record_of g D
-  unfolding board-record record_of
-  whole-record S D a passed = field-same g wide (λ e. state-byte (S.edge e)) (λ e. byte_of (drawn D e)) at
+  whole_record : (S : State) (D : Drawing) → Agrees D S → Passed g wide S (pads g) → board_record g S ≡ record_of g D
+  unfolding board_record record_of
+  whole_record S D a passed = field_same g wide (λ e. state_byte (S.edge e)) (λ e. byte_of (drawn D e)) at
     where
-      at : (e : Edge) → OnBoard g e → state-byte (S.edge e) ≡ byte_of (drawn D e)
+      at : (e : Edge) → OnBoard g e → state_byte (S.edge e) ≡ byte_of (drawn D e)
       at e on = go (S.edge e) refl
         where
-          go : (m : EdgeState) → S.edge e ≡ m → state-byte (S.edge e) ≡ byte_of (drawn D e)
-          go line h = rw (h, a.where-line e h)
-          go none h = rw (h, a.where-none e h)
-          go undecided h = conflict {b = isUndecided (S.edge e)} (ap isUndecided h) (passed-edge g wide S (pads g) passed e (first-inside g e on) on)
+          go : (m : EdgeState) → S.edge e ≡ m → state_byte (S.edge e) ≡ byte_of (drawn D e)
+          go line h = rw (h, a.where_line e h)
+          go none h = rw (h, a.where_none e h)
+          go undecided h = conflict {b = is_undecided (S.edge e)} (ap is_undecided h) (passed_edge g wide S (pads g) passed e (first_inside g e on) on)
 
-  last-row-lists : (S : State) (v : ℕ) → StandsAt g proper S v → has-down g v ≡ false → Lists g (λ D. Agrees D S) (visit ∷ layout (board-record g S) ∷ [])
-  unfolding layouts-of
-  last-row-lists S v at last = record {
+  last_row_lists : (S : State) (v : ℕ) → StandsAt g proper S v → has_down g v ≡ false → Lists g (λ D. Agrees D S) (visit ∷ layout (board_record g S) ∷ [])
+  unfolding layouts_of
+  last_row_lists S v at last = record {
     truly = λ c m. (
       drawing S,
-      whole-listed g wide S proper.blank-past at.holds at.holes-shut whole,
-      agrees-itself S,
-      ⊎_elim (λ e. e ∙ whole-record S (drawing S) (agrees-itself S) whole) (λ n. absurd (Memᴰ.not-nil n)) (Memᴰ.cases_cons m),
+      whole_listed g wide S proper.blank_past at.holds at.holes_shut whole,
+      agrees_itself S,
+      ⊎_elim (λ e. e ∙ whole_record S (drawing S) (agrees_itself S) whole) (λ n. absurd (Memᴰ.not-nil n)) (Memᴰ.cases_cons m),
     );
-    wholly = λ D listed a. Memᴰ.head (sym (whole-record S D a whole));
+    wholly = λ D listed a. Memᴰ.head (sym (whole_record S D a whole));
     ascending = unfold Ascending in ((λ y m. absurd (Memᴰ.not-nil m)), tt);
   }
     where
       whole : Passed g wide S (pads g)
-      whole = pass-last-row g wide S (rest_at g proper S at.holds) v at.inside last at.passed
+      whole = pass_last_row g wide S (rest_at g proper S at.holds) v at.inside last at.passed
 
   -- ABOVE IT the four branches: the drawings that agree with the board have its codes before the pad
-  board-branches : (S : State) (v : ℕ) → StandsAt g proper S v → {a b c d : List Event} → ListsBranch g proper S v false false a → ListsBranch g proper S v true false b
+  board_branches : (S : State) (v : ℕ) → StandsAt g proper S v → {a b c d : List Event} → ListsBranch g proper S v false false a → ListsBranch g proper S v true false b
       → ListsBranch g proper S v false true c → ListsBranch g proper S v true true d → Lists g (λ D. Agrees D S) (visit ∷ (a ++ (b ++ (c ++ d))))
-  board-branches S v at pa pb pc pd = lists-counted g _ _ (four-branches g wide (λ D. Agrees D S) v at.inside
-      (λ D E placed also-placed agrees also-agrees u l. same_code g proper D placed S agrees v at.passed u l ∙ sym (same_code g proper E also-placed S also-agrees v at.passed u l))
+  board_branches S v at pa pb pc pd = lists_counted g _ _ (four_branches g wide (λ D. Agrees D S) v at.inside
+      (λ D E placed also_placed agrees also_agrees u l. same_code g proper D placed S agrees v at.passed u l ∙ sym (same_code g proper E also_placed S also_agrees v at.passed u l))
       pa pb pc pd)
 
   -- THE RECURSION: each entry is at a later pad
-  backtrack-lists : (n v : ℕ) (S : State) → StandsAt g proper S v → pads g ≤ v + n → Lists g (λ D. Agrees D S) (backtrack g n v S)
+  backtrack_lists : (n v : ℕ) (S : State) → StandsAt g proper S v → pads g ≤ v + n → Lists g (λ D. Agrees D S) (backtrack g n v S)
   unfolding backtrack
-  backtrack-lists zero v S at bound = let k = at.inside in absurd (omega arith)
-  backtrack-lists (suc n) v S at bound = go (has-down g v) refl (λ w T l j. backtrack-lists n w T j (omega arith))
+  backtrack_lists zero v S at bound = let k = at.inside in absurd (omega arith)
+  backtrack_lists (suc n) v S at bound = go (has_down g v) refl (λ w T l j. backtrack_lists n w T j (omega arith))
     where
-      go : (b : Bool) → has-down g v ≡ b → ((w : ℕ) (T : State) → v < w → StandsAt g proper T w → Lists g (λ D. Agrees D T) (backtrack g n w T)) → Lists g (λ D. Agrees D S) (backtrack g (suc n) v S)
-      go false d deeper = rw (d, backtrack) (last-row-lists S v at d)
-      go true d deeper = rw (d, backtrack) (board-branches S v at
-          (branch-lists g proper S v at d false false (λ u T. backtrack g n u T) deeper) (branch-lists g proper S v at d true false (λ u T. backtrack g n u T) deeper)
-          (branch-lists g proper S v at d false true (λ u T. backtrack g n u T) deeper) (branch-lists g proper S v at d true true (λ u T. backtrack g n u T) deeper))
+      go : (b : Bool) → has_down g v ≡ b → ((w : ℕ) (T : State) → v < w → StandsAt g proper T w → Lists g (λ D. Agrees D T) (backtrack g n w T)) → Lists g (λ D. Agrees D S) (backtrack g (suc n) v S)
+      go false d deeper = rw (d, backtrack) (last_row_lists S v at d)
+      go true d deeper = rw (d, backtrack) (board_branches S v at
+          (branch_lists g proper S v at d false false (λ u T. backtrack g n u T) deeper) (branch_lists g proper S v at d true false (λ u T. backtrack g n u T) deeper)
+          (branch_lists g proper S v at d false true (λ u T. backtrack g n u T) deeper) (branch_lists g proper S v at d true true (λ u T. backtrack g n u T) deeper))
 
   -- THE SEARCH BEGINS at the first pad of the fresh board with its right edge undecided, or in the last row: before it all is decided
-  first-from : (fresh g).flag ≡ false → NextFrom g proper (fresh g) 0 (next-pad g (pads g) 0 (fresh g))
-  first-from clear = next-from g proper (pads g) (fresh g) 0 (fresh-rests g proper clear)
+  first_from : (fresh g).flag ≡ false → NextFrom g proper (fresh g) 0 (next_pad g (pads g) 0 (fresh g))
+  first_from clear = next_from g proper (pads g) (fresh g) 0 (fresh_rests g proper clear)
       (record { right = λ u l. absurd (omega arith); down = λ u l. absurd (omega arith) })
       (let k = mul-le-mul_right g.width proper.tall in let w = proper.wide in omega arith) (omega arith)
 
-  stands-first : (fresh g).flag ≡ false → StandsAt g proper (fresh g) (next-pad g (pads g) 0 (fresh g))
-  stands-first clear = let p = first-from clear in record {
+  stands_first : (fresh g).flag ≡ false → StandsAt g proper (fresh g) (next_pad g (pads g) 0 (fresh g))
+  stands_first clear = let p = first_from clear in record {
     clear = clear;
-    holds = fresh-rests g proper clear;
-    holes-shut = fresh-shuts-holes g proper clear;
+    holds = fresh_rests g proper clear;
+    holes_shut = fresh_shuts_holes g proper clear;
     passed = p.passed;
     inside = p.inside;
     right_there = p.right_there;
   }
 
   -- where preparing has set the flag there is nothing to list
-  none-to-list : (fresh g).flag ≡ true → Lists g (λ D. Agrees D (fresh g)) []
-  none-to-list set = lists-none g _ (λ D listed a. conflict set (agrees-with-fresh g proper D listed).0)
+  none_to_list : (fresh g).flag ≡ true → Lists g (λ D. Agrees D (fresh g)) []
+  none_to_list set = lists_none g _ (λ D listed a. conflict set (agrees_with_fresh g proper D listed).0)
 
-  pub search-lists : Lists g (λ D. Agrees D (fresh g)) (search g)
+  pub search_lists : Lists g (λ D. Agrees D (fresh g)) (search g)
   unfolding search
-  search-lists = go (fresh g).flag refl
+  search_lists = go (fresh g).flag refl
     where
       go : (b : Bool) → (fresh g).flag ≡ b → Lists g (λ D. Agrees D (fresh g)) (search g)
-      go true h = subst (Lists g (λ D. Agrees D (fresh g))) (sym (flagged-search g (fresh g) h)) (none-to-list h)
-      go false h = subst (Lists g (λ D. Agrees D (fresh g))) (sym (clear-search g (fresh g) h)) (backtrack-lists (pads g) (next-pad g (pads g) 0 (fresh g)) (fresh g) (stands-first h) (omega arith))
+      go true h = subst (Lists g (λ D. Agrees D (fresh g))) (sym (flagged_search g (fresh g) h)) (none_to_list h)
+      go false h = subst (Lists g (λ D. Agrees D (fresh g))) (sym (clear_search g (fresh g) h)) (backtrack_lists (pads g) (next_pad g (pads g) 0 (fresh g)) (fresh g) (stands_first h) (omega arith))

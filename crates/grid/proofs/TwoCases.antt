@@ -4,14 +4,14 @@ use mathlib.Core.Path.{◌≡◌, refl, ap, ◌∙◌}
 use native.Mathlib.Omega.{arith}
 use native.Mathlib.Nat.{mul-le-mul, suc-mul}
 use native.Mathlib.Numerals.{add-one}
-use Rattle.rules.specs.Grid.{pad-index, place_at}
-use Rattle.rules.specs.Places.{place-right, place_down, place-of-pad, place-in-the-middle}
-use Rattle.grid.specs.PadsAt.{pads-of}
+use Rattle.rules.specs.Grid.{pad_index, place_at}
+use Rattle.rules.specs.Places.{place_right, place_down, place_of_pad, place_in_the_middle}
+use Rattle.grid.specs.PadsAt.{pads_of}
 use Rattle.grid.specs.declared.Pads.TheVariants.{Beside, Above, NoEdge}
 
 -- the rows above a pad have few pads
-pub few-above : (width y : ℕ) → width ≤ 16 → y ≤ 16 → y * width ≤ 256
-few-above width y narrow low = mul-le-mul low narrow
+pub few_above : (width y : ℕ) → width ≤ 16 → y ≤ 16 → y * width ≤ 256
+few_above width y narrow low = mul-le-mul low narrow
 
 module _ (width row column : ℕ) where
   abbrev y : ℕ
@@ -24,32 +24,32 @@ module _ (width row column : ℕ) where
   same_place : {r c : ℕ} → row ≡ r → column ≡ c → place_at width row column ≡ place_at width r c
   same_place p q = λ i. place_at width (p i) (q i)
 
-  module _ (even-row : row ≡ 2 * y) where
-    pub beside : column ≡ 2 * x + 1 → {a b : ℕ} → a ≡ pad-index width y x → b ≡ pad-index width y (x + 1) → Beside a b ≡ pads-of width (place_at width row column)
-    unfolding pads-of
-    beside odd-column {a} {b} p q =
-        let next : b ≡ pad-index width y x + 1 = omega arith in
-        rw (same_place even-row odd-column ∙ place-right width y x) (λ i. Beside (p i) (next i))
+  module _ (even_row : row ≡ 2 * y) where
+    pub beside : column ≡ 2 * x + 1 → {a b : ℕ} → a ≡ pad_index width y x → b ≡ pad_index width y (x + 1) → Beside a b ≡ pads_of width (place_at width row column)
+    unfolding pads_of
+    beside odd_column {a} {b} p q =
+        let next : b ≡ pad_index width y x + 1 = omega arith in
+        rw (same_place even_row odd_column ∙ place_right width y x) (λ i. Beside (p i) (next i))
 
-    pub pad-there : (column ≡ 2 * x + 1 → ⊥) → NoEdge ≡ pads-of width (place_at width row column)
-    unfolding pads-of
-    pad-there not-odd =
-        let even-column : column ≡ 2 * x = omega arith in
-        rw (same_place even-row even-column ∙ place-of-pad width y x) refl
+    pub pad_there : (column ≡ 2 * x + 1 → ⊥) → NoEdge ≡ pads_of width (place_at width row column)
+    unfolding pads_of
+    pad_there not_odd =
+        let even_column : column ≡ 2 * x = omega arith in
+        rw (same_place even_row even_column ∙ place_of_pad width y x) refl
 
-  module _ (not-even : row ≡ 2 * y → ⊥) where
-    odd-row : row ≡ 2 * y + 1
-    odd-row = omega arith
+  module _ (not_even : row ≡ 2 * y → ⊥) where
+    odd_row : row ≡ 2 * y + 1
+    odd_row = omega arith
 
-    pub above : column ≡ 2 * x → {a b : ℕ} → a ≡ pad-index width y x → b ≡ pad-index width (y + 1) x → Above a b ≡ pads-of width (place_at width row column)
-    unfolding pads-of
-    above even-column {a} {b} p q =
+    pub above : column ≡ 2 * x → {a b : ℕ} → a ≡ pad_index width y x → b ≡ pad_index width (y + 1) x → Above a b ≡ pads_of width (place_at width row column)
+    unfolding pads_of
+    above even_column {a} {b} p q =
         let next_row : (y + 1) * width ≡ y * width + width = ap (λ (n : ℕ). n * width) (add-one y) ∙ suc-mul y width in
-        let next : b ≡ pad-index width y x + width = omega arith in
-        rw (same_place odd-row even-column ∙ place_down width y x) (λ i. Above (p i) (next i))
+        let next : b ≡ pad_index width y x + width = omega arith in
+        rw (same_place odd_row even_column ∙ place_down width y x) (λ i. Above (p i) (next i))
 
-    pub middle-there : (column ≡ 2 * x → ⊥) → NoEdge ≡ pads-of width (place_at width row column)
-    unfolding pads-of
-    middle-there not-even-column =
-        let odd-column : column ≡ 2 * x + 1 = omega arith in
-        rw (same_place odd-row odd-column ∙ place-in-the-middle width y x) refl
+    pub middle_there : (column ≡ 2 * x → ⊥) → NoEdge ≡ pads_of width (place_at width row column)
+    unfolding pads_of
+    middle_there not_even_column =
+        let odd_column : column ≡ 2 * x + 1 = omega arith in
+        rw (same_place odd_row odd_column ∙ place_in_the_middle width y x) refl

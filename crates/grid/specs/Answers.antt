@@ -2,5 +2,5 @@
 use Rattle.std.specs.Prelude.{ℕ}
 use Rattle.grid.specs.declared.Refusal.{Refusal}
 
-abbrev pub refusal-says : Refusal → ℕ × ℕ
-refusal-says r = (r.number, r.index)
+abbrev pub refusal_says : Refusal → ℕ × ℕ
+refusal_says r = (r.number, r.index)

@@ -7,10 +7,10 @@ use Rattle.grid.specs.declared.Pads.{Pads}
 use Rattle.grid.specs.declared.Pads.TheVariants.{Beside, Above, NoEdge}
 
 -- the first and the second pad of the edge at a place
-unfoldable pub pads-of : ℕ → Place → Pads
-pads-of width (edge (right v)) = Beside (first (right v)) (second width (right v))
-pads-of width (edge (down v)) = Above (first (down v)) (second width (down v))
-pads-of width no_edge = NoEdge
+unfoldable pub pads_of : ℕ → Place → Pads
+pads_of width (edge (right v)) = Beside (first (right v)) (second width (right v))
+pads_of width (edge (down v)) = Above (first (down v)) (second width (down v))
+pads_of width no_edge = NoEdge
 
 -- what stands at the place: the edge of these pads
 unfoldable pub place_of : Pads → Place
@@ -19,19 +19,19 @@ place_of (Above a b) = edge (down a)
 place_of NoEdge = no_edge
 
 -- is there an edge?
-unfoldable pub has-edge : Place → Bool
-has-edge (edge e) = true
-has-edge no_edge = false
+unfoldable pub has_edge : Place → Bool
+has_edge (edge e) = true
+has_edge no_edge = false
 
 -- if an edge stands at the place, this is so of it
 abbrev pub IfEdge : Place → (Edge → Type 0) → Type 0
 IfEdge p So = (e : Edge) → p ≡ edge e → So e
 
-pub place-back : (width : ℕ) (p : Place) → place_of (pads-of width p) ≡ p
-unfolding pads-of place_of
-place-back width (edge (right v)) = refl
-place-back width (edge (down v)) = refl
-place-back width no_edge = refl
+pub place_back : (width : ℕ) (p : Place) → place_of (pads_of width p) ≡ p
+unfolding pads_of place_of
+place_back width (edge (right v)) = refl
+place_back width (edge (down v)) = refl
+place_back width no_edge = refl
 
 -- by how the pads stand
 module _ (pads : Pads) where
@@ -39,14 +39,14 @@ module _ (pads : Pads) where
   unfolding place_of
   edge_beside are = ap place_of are
 
-  pub edge-above : {a b : ℕ} → pads ≡ Above a b → place_of pads ≡ edge (down a)
+  pub edge_above : {a b : ℕ} → pads ≡ Above a b → place_of pads ≡ edge (down a)
   unfolding place_of
-  edge-above are = ap place_of are
+  edge_above are = ap place_of are
 
-  pub edge-nowhere : pads ≡ NoEdge → place_of pads ≡ no_edge
+  pub edge_nowhere : pads ≡ NoEdge → place_of pads ≡ no_edge
   unfolding place_of
-  edge-nowhere none = ap place_of none
+  edge_nowhere none = ap place_of none
 
 -- the pads of a place tell of it
-pub told-place : (width : ℕ) (p : Place) {pads : Pads} → pads ≡ pads-of width p → place_of pads ≡ p
-told-place width p are = ap place_of are ∙ place-back width p
+pub told_place : (width : ℕ) (p : Place) {pads : Pads} → pads ≡ pads_of width p → place_of pads ≡ p
+told_place width p are = ap place_of are ∙ place_back width p

@@ -2,11 +2,11 @@
 // is a lent list of cells. Which pads a place joins is said in the crate `rules`, specs/Grid.antt there; what the calls answer in the
 // crate `model`, specs/Refusals.antt there.
 ghost use Rattle.std.specs.Prelude.{◌≡◌, ◌*◌, ◌≤◌, ◌<◌};
-ghost use Rattle.rules.specs.Grid.{pad-index, place_at};
-ghost use Rattle.model.specs.Bounds.{is-size};
-ghost use Rattle.model.specs.Refusals.{first-bad-cell, grid-refusal};
-ghost use Rattle.grid.specs.Answers.{refusal-says};
-ghost use Rattle.grid.specs.PadsAt.{pads-of, place_of, has-edge};
+ghost use Rattle.rules.specs.Grid.{pad_index, place_at};
+ghost use Rattle.model.specs.Bounds.{is_size};
+ghost use Rattle.model.specs.Refusals.{first_bad_cell, grid_refusal};
+ghost use Rattle.grid.specs.Answers.{refusal_says};
+ghost use Rattle.grid.specs.PadsAt.{pads_of, place_of, has_edge};
 
 // An edge of a board, as the byte that a record holds for it.
 #[derive(Drop)]
@@ -31,7 +31,7 @@ pub enum Pads {
 // The index of pad (y, x).
 fn pad(width: usize, y: usize, x: usize) -> usize
     requires { (width ≤ 16) × (y ≤ 16) × (x ≤ 16) }
-    ensures { result ≡ pad-index width y x }
+    ensures { result ≡ pad_index width y x }
 {
     y * width + x
 }
@@ -41,7 +41,7 @@ fn pad(width: usize, y: usize, x: usize) -> usize
 // specs/PadsLaws.antt says both ways that these are the pads.
 pub fn pads_at(width: usize, row: usize, column: usize) -> Pads
     requires { (width ≤ 16) × (row < 31) × (column < 31) }
-    ensures { result ≡ pads-of width (place_at width row column) }
+    ensures { result ≡ pads_of width (place_at width row column) }
 {
     let y = row / 2;
     let x = column / 2;
@@ -59,7 +59,7 @@ pub fn pads_at(width: usize, row: usize, column: usize) -> Pads
 
 // Whether there is an edge.
 pub fn is_edge(pads: Pads) -> bool
-    ensures { result ≡ has-edge (place_of pads) }
+    ensures { result ≡ has_edge (place_of pads) }
 {
     match pads {
         Pads::Beside(_, _) => true,
@@ -89,14 +89,14 @@ pub struct Refusal {
 
 // Whether a grid may have this many rows, or columns.
 pub fn is_size(n: usize) -> bool
-    ensures { result ≡ is-size n }
+    ensures { result ≡ is_size n }
 {
     LEAST_SIZE <= n && n <= LARGEST_SIZE
 }
 
 // The index of the first cell that is neither blank nor a hole nor a code, or the number of cells.
 fn first_bad_cell(cells: &[i64]) -> usize
-    ensures { result ≡ first-bad-cell cells.now }
+    ensures { result ≡ first_bad_cell cells.now }
 {
     let mut i = 0;
     while i < cells.len() {
@@ -114,7 +114,7 @@ fn first_bad_cell(cells: &[i64]) -> usize
 
 // The refusals 7, 8 and 9, in this order, for a board or a search.
 pub fn grid_refusal(height: usize, width: usize, cells: &[i64]) -> Refusal
-    ensures { refusal-says result ≡ grid-refusal height width cells.now }
+    ensures { refusal_says result ≡ grid_refusal height width cells.now }
 {
     if !is_size(height) {
         return Refusal {

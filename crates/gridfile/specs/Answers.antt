@@ -6,8 +6,8 @@ use Rattle.gridfile.specs.declared.Reading.{Reading}
 use Rattle.gridfile.specs.declared.Writing.{Writing}
 
 -- number, line, field, H, W and the cells
-abbrev pub reading-says : Reading → model.Reading
-reading-says r =
+abbrev pub reading_says : Reading → model.Reading
+reading_says r =
     record {
       number = r.number;
       line = r.line;
@@ -18,5 +18,5 @@ reading-says r =
     }
 
 -- number, index, length, and every byte of the buffer
-abbrev pub writing-says : Writing → List ℕ → writer.Writing
-writing-says r buffer = record { number = r.number; index = r.index; length = r.length; buffer = buffer }
+abbrev pub writing_says : Writing → List ℕ → writer.Writing
+writing_says r buffer = record { number = r.number; index = r.index; length = r.length; buffer = buffer }

@@ -3,50 +3,50 @@
 -- file ends in it. A field of the header has digits only, a field of a row may be a hole. Assumes nothing.
 use Rattle.model.specs.Choice.{if◌then◌else◌}
 use Rattle.std.specs.Prelude.{ℕ, ◌+◌, ◌*◌, ◌-◌, Bool, true, false, not, ◌&&◌, List, [], ◌∷◌, get_or, drop, eqb, ltb}
-use Rattle.rules.specs.Grid.{largest-code}
-use Rattle.model.specs.Bounds.{most-digits}
-use Rattle.model.specs.GridFile.{is_digit, is-comma, is-line-end, is-hole-sign, disallowed-number, is-zero-alone}
-use Rattle.reading.specs.FieldSteps.{Part, some-digits, hole-alone}
+use Rattle.rules.specs.Grid.{largest_code}
+use Rattle.model.specs.Bounds.{most_digits}
+use Rattle.model.specs.GridFile.{is_digit, is_comma, is_line_end, is_hole_sign, disallowed_number, is_zero_alone}
+use Rattle.reading.specs.FieldSteps.{Part, some_digits, hole_alone}
 use Rattle.gridfile.specs.declared.Field.{Field}
 use Rattle.gridfile.specs.declared.Field.TheVariants.{Value, Refused}
 
 -- at a byte that does not go on with the field, after some digits with a value: 1 or 13 if it is disallowed, 3 if the value is
 -- too large, else the field has ended
-unfoldable pub ended-field : ℕ → ℕ → ℕ → ℕ → Field
-ended-field byte digits value at =
-    if not (is-comma byte) && not (is-line-end byte) then Refused (disallowed-number digits)
-    else if ltb largest-code value then Refused 3
+unfoldable pub ended_field : ℕ → ℕ → ℕ → ℕ → Field
+ended_field byte digits value at =
+    if not (is_comma byte) && not (is_line_end byte) then Refused (disallowed_number digits)
+    else if ltb largest_code value then Refused 3
     else Value value at
 
 -- the field from a place on, after some digits with a value
-unfoldable pub field-from : List ℕ → ℕ → ℕ → ℕ → Field
-field-from [] at digits value = Refused 6
-field-from (byte ∷ bytes) at digits value =
-    if not (is_digit byte) then ended-field byte digits value at
-    else if is-zero-alone digits value then Refused 15
-    else if eqb digits most-digits then Refused 2
-    else field-from bytes (at + 1) (digits + 1) (value * 10 + (byte - 48))
+unfoldable pub field_from : List ℕ → ℕ → ℕ → ℕ → Field
+field_from [] at digits value = Refused 6
+field_from (byte ∷ bytes) at digits value =
+    if not (is_digit byte) then ended_field byte digits value at
+    else if is_zero_alone digits value then Refused 15
+    else if eqb digits most_digits then Refused 2
+    else field_from bytes (at + 1) (digits + 1) (value * 10 + (byte - 48))
 
 -- the field of digits that begins at a place of the file
 unfoldable pub field_at : List ℕ → ℕ → Field
-field_at bytes from = field-from (drop from bytes) from 0 0
+field_at bytes from = field_from (drop from bytes) from 0 0
 
 -- the field from a place on, after the sign of a hole
-unfoldable pub hole-from : List ℕ → ℕ → Field
-hole-from [] at = Refused 6
-hole-from (byte ∷ bytes) at = ended-field byte 0 0 at
+unfoldable pub hole_from : List ℕ → ℕ → Field
+hole_from [] at = Refused 6
+hole_from (byte ∷ bytes) at = ended_field byte 0 0 at
 
 -- the field of a row that begins at a place of the file
-unfoldable pub row-field-at : List ℕ → ℕ → Field
-row-field-at bytes from =
-    if is-hole-sign (get_or bytes from 0) then hole-from (drop (from + 1) bytes) (from + 1) else field_at bytes from
+unfoldable pub row_field_at : List ℕ → ℕ → Field
+row_field_at bytes from =
+    if is_hole_sign (get_or bytes from 0) then hole_from (drop (from + 1) bytes) (from + 1) else field_at bytes from
 
 -- what an ended field is, by whether it begins with the sign of a hole: the sign alone, or digits with their value
 abbrev pub part_of : Bool → ℕ → ℕ → Part
-part_of true digits value = hole-alone
-part_of false digits value = some-digits digits value
+part_of true digits value = hole_alone
+part_of false digits value = some_digits digits value
 
 -- the documents' number: 0 for a value
-abbrev pub field-number : Field → ℕ
-field-number (Value value at) = 0
-field-number (Refused number) = number
+abbrev pub field_number : Field → ℕ
+field_number (Value value at) = 0
+field_number (Refused number) = number

@@ -3,14 +3,14 @@
 // Writing one: the text of a grid goes to a lent buffer, in shortest digits; the answer and every byte of the buffer are said by
 // `write` of the crate `model`, specs/Writing.antt there.
 ghost use Rattle.std.specs.Prelude.{◌≡◌, true, ◌+◌, ◌-◌, ◌*◌, ◌≤◌, ◌<◌, length, get_or, drop, set};
-ghost use Rattle.rules.specs.Grid.{largest-code};
-ghost use Rattle.model.specs.Bounds.{is-size};
-ghost use Rattle.model.specs.GridFile.{is_digit, is-hole-sign, disallowed-number, is-zero-alone, no_cells, declined-reading, read-from, read};
-ghost use Rattle.model.specs.Writing.{cell-text, rows-text, grid-text, write};
+ghost use Rattle.rules.specs.Grid.{largest_code};
+ghost use Rattle.model.specs.Bounds.{is_size};
+ghost use Rattle.model.specs.GridFile.{is_digit, is_hole_sign, disallowed_number, is_zero_alone, no_cells, declined_reading, read_from, read};
+ghost use Rattle.model.specs.Writing.{cell_text, rows_text, grid_text, write};
 ghost use Rattle.text.specs.Put.{Put};
-ghost use Rattle.reading.specs.FieldSteps.{field-start, cell-of};
-ghost use Rattle.gridfile.specs.Fields.{field_at, row-field-at, ended-field, field-number, part_of};
-ghost use Rattle.gridfile.specs.Answers.{reading-says, writing-says};
+ghost use Rattle.reading.specs.FieldSteps.{field_start, cell_of};
+ghost use Rattle.gridfile.specs.Fields.{field_at, row_field_at, ended_field, field_number, part_of};
+ghost use Rattle.gridfile.specs.Answers.{reading_says, writing_says};
 
 // The bytes that part fields and end lines, the sign of a hole, and the most digits of a field.
 const COMMA: u8 = 44;
@@ -62,7 +62,7 @@ pub fn is_digit(byte: u8) -> bool
 
 // The number of a disallowed byte in a field that has so many digits before it: 1 at the field's start, 13 after a digit.
 fn disallowed_number(digits: usize) -> u8
-    ensures { result ≡ disallowed-number digits }
+    ensures { result ≡ disallowed_number digits }
 {
     if digits == 0 {
         return 1;
@@ -72,21 +72,21 @@ fn disallowed_number(digits: usize) -> u8
 
 // Whether a field of so many digits with this value is `0` alone, after which no digit may come.
 fn is_zero_alone(digits: usize, value: usize) -> bool
-    ensures { result ≡ is-zero-alone digits value }
+    ensures { result ≡ is_zero_alone digits value }
 {
     digits == 1 && value == 0
 }
 
 // Whether a hole's sign stands at a place.
 fn is_hole(bytes: &[u8], at: usize) -> bool
-    ensures { result ≡ is-hole-sign (get_or bytes.now at 0) }
+    ensures { result ≡ is_hole_sign (get_or bytes.now at 0) }
 {
     at < bytes.len() && bytes[at] == HOLE_SIGN
 }
 
 // A field that ends, or should end, at a byte, after some digits with a value.
 fn ended_field(byte: u8, digits: usize, value: usize, at: usize) -> Field
-    ensures { result ≡ ended-field byte digits value at }
+    ensures { result ≡ ended_field byte digits value at }
 {
     if byte != COMMA {
         if byte != LINE_END {
@@ -124,7 +124,7 @@ fn field_at(bytes: &[u8], from: usize) -> Field
 
 // The field of a row that begins at a place: a hole's sign alone, which has the value 0, or digits.
 fn row_field_at(bytes: &[u8], from: usize) -> Field
-    ensures { result ≡ row-field-at bytes.now from }
+    ensures { result ≡ row_field_at bytes.now from }
 {
     if !is_hole(bytes, from) {
         return field_at(bytes, from);
@@ -138,7 +138,7 @@ fn row_field_at(bytes: &[u8], from: usize) -> Field
 
 // The number of a field's refusal, 0 for a value.
 fn field_number(field: Field) -> u8
-    ensures { result ≡ field-number field }
+    ensures { result ≡ field_number field }
 {
     match field {
         Field::Value(_, _) => 0,
@@ -155,8 +155,8 @@ pub fn no_cells() -> [i64; 256]
 
 // A cell gets what its field says: a hole, blank if the field had no digits, else the value.
 fn store_cell(cells: &mut [i64; 256], index: usize, hole: bool, digits: usize, value: usize)
-    requires { (index < 256) × (value ≤ largest-code) }
-    ensures { cells.new ≡ set cells.old index (cell-of (part_of hole digits value)) }
+    requires { (index < 256) × (value ≤ largest_code) }
+    ensures { cells.new ≡ set cells.old index (cell_of (part_of hole digits value)) }
 {
     if hole {
         cells[index] = grid::HOLE;
@@ -169,7 +169,7 @@ fn store_cell(cells: &mut [i64; 256], index: usize, hole: bool, digits: usize, v
 
 // The answer of a declined file.
 pub fn declined(number: u8, line: usize, field: usize) -> Reading
-    ensures { reading-says result ≡ declined-reading number line field }
+    ensures { reading_says result ≡ declined_reading number line field }
 {
     Reading {
         number,
@@ -183,8 +183,8 @@ pub fn declined(number: u8, line: usize, field: usize) -> Reading
 
 // The rows of a file whose header has been read: from a place on, H rows of W fields each, and nothing after them.
 fn read_rows(bytes: &[u8], from: usize, height: usize, width: usize) -> Reading
-    requires { (is-size height ≡ true) × (is-size width ≡ true) × (from ≤ length bytes.now) }
-    ensures { reading-says result ≡ read-from (field-start 2 1 height width no_cells) (drop from bytes.now) }
+    requires { (is_size height ≡ true) × (is_size width ≡ true) × (from ≤ length bytes.now) }
+    ensures { reading_says result ≡ read_from (field_start 2 1 height width no_cells) (drop from bytes.now) }
 {
     let mut cells = no_cells();
     let mut index = 0;
@@ -227,7 +227,7 @@ fn read_rows(bytes: &[u8], from: usize, height: usize, width: usize) -> Reading
 
 // The whole file.
 pub fn read(bytes: &[u8]) -> Reading
-    ensures { reading-says result ≡ read bytes.now }
+    ensures { reading_says result ≡ read bytes.now }
 {
     let first = field_at(bytes, 0);
     let Field::Value(height, comma) = first else {
@@ -254,8 +254,8 @@ pub fn read(bytes: &[u8]) -> Reading
 
 // The field of a pad from a place on: nothing for a blank one, the sign of a hole, or the code; the place after it.
 fn put_cell(out: &mut [u8], at: usize, cell: i64) -> usize
-    requires { at + length (cell-text cell) ≤ length out.old }
-    ensures { Put out.old out.new at (cell-text cell) result }
+    requires { at + length (cell_text cell) ≤ length out.old }
+    ensures { Put out.old out.new at (cell_text cell) result }
 {
     if cell == grid::BLANK {
         return at;
@@ -268,8 +268,8 @@ fn put_cell(out: &mut [u8], at: usize, cell: i64) -> usize
 
 // The fields of the pads in index order from a place on, after each a comma or, at a row's end, a line end; the place after them.
 fn put_rows(out: &mut [u8], at: usize, width: usize, cells: &[i64]) -> usize
-    requires { (is-size width ≡ true) × (at + length (rows-text width 1 cells.now) ≤ length out.old) }
-    ensures { Put out.old out.new at (rows-text width 1 cells.now) result }
+    requires { (is_size width ≡ true) × (at + length (rows_text width 1 cells.now) ≤ length out.old) }
+    ensures { Put out.old out.new at (rows_text width 1 cells.now) result }
 {
     let mut next = at;
     let mut field = 1;
@@ -290,8 +290,8 @@ fn put_rows(out: &mut [u8], at: usize, width: usize, cells: &[i64]) -> usize
 
 // The text of a grid from the start on; its length.
 fn put_grid(out: &mut [u8], height: usize, width: usize, cells: &[i64]) -> usize
-    requires { (is-size width ≡ true) × (length (grid-text height width cells.now) ≤ length out.old) }
-    ensures { Put out.old out.new 0 (grid-text height width cells.now) result }
+    requires { (is_size width ≡ true) × (length (grid_text height width cells.now) ≤ length out.old) }
+    ensures { Put out.old out.new 0 (grid_text height width cells.now) result }
 {
     let second = text::put_field(out, 0, height as u64, COMMA);
     let rows = text::put_field(out, second, width as u64, LINE_END);
@@ -301,7 +301,7 @@ fn put_grid(out: &mut [u8], height: usize, width: usize, cells: &[i64]) -> usize
 // A grid into a lent buffer: the grid's refusals first, then 14 where the buffer is shorter than the text. The text is made in an array
 // that the longest one fits, so that nothing is written where there is no room.
 pub fn write(height: usize, width: usize, cells: &[i64], buffer: &mut [u8]) -> Writing
-    ensures { writing-says result buffer.new ≡ write height width cells.now buffer.old }
+    ensures { writing_says result buffer.new ≡ write height width cells.now buffer.old }
 {
     let refusal = grid::grid_refusal(height, width, cells);
     let number = refusal.number;

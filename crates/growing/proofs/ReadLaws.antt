@@ -11,8 +11,8 @@ use lib.ListN.{length, take, drop, get_or}
 use lib.Seq.{take-suc, take_all, split_at}
 use borrow.Author.Tests.{le-leb, lt-leb}
 use Rattle.model.specs.GridFile.{is_digit}
-use Rattle.model.specs.RoutesTo.{largest-limit, most-limit-digits, all_digits, value_after, is-limit, boards, no-limit, limit-of}
-use Rattle.model.specs.LimitLaws.{digits_append, value-append}
+use Rattle.model.specs.RoutesTo.{largest_limit, most_limit_digits, all_digits, value_after, is_limit, boards, no_limit, limit_of}
+use Rattle.model.specs.LimitLaws.{digits_append, value_append}
 
 -- more digits make no less
 value_grows : (text : List ℕ) (value : ℕ) → value ≤ value_after value text
@@ -25,19 +25,19 @@ module _ (text : List ℕ) where
   pub record Passed (at value : ℕ) : Type 0 where
     pub inside : at ≤ length text
     pub digits : all_digits (take at text) ≡ true
-    pub its-value : value_after 0 (take at text) ≡ value
-    pub small : value ≤ largest-limit
+    pub its_value : value_after 0 (take at text) ≡ value
+    pub small : value ≤ largest_limit
 
   pub none_passed : Passed 0 0
   unfolding all_digits value_after
-  none_passed = record { inside = omega arith; digits = refl; its-value = refl; small = omega arith }
+  none_passed = record { inside = omega arith; digits = refl; its_value = refl; small = omega arith }
 
   module _ (at value : ℕ) (passed : Passed at value) where
     -- the text is all of it
-    pub all-passed : (length text ≡ 0 → ⊥) → length text ≤ most-limit-digits → length text ≤ at → limit-of text ≡ boards value
-    unfolding limit-of is-limit
-    all-passed some few end = let whole = take_all at text end in
-        rw (le-leb 1 (length text) (omega (arith, some)), le-leb (length text) most-limit-digits few, ap all_digits (sym whole) ∙ passed.digits, ap (value_after 0) (sym whole) ∙ passed.its-value, le-leb value largest-limit passed.small) refl
+    pub all_passed : (length text ≡ 0 → ⊥) → length text ≤ most_limit_digits → length text ≤ at → limit_of text ≡ boards value
+    unfolding limit_of is_limit
+    all_passed some few end = let whole = take_all at text end in
+        rw (le-leb 1 (length text) (omega (arith, some)), le-leb (length text) most_limit_digits few, ap all_digits (sym whole) ∙ passed.digits, ap (value_after 0) (sym whole) ∙ passed.its_value, le-leb value largest_limit passed.small) refl
 
     module _ (below : at < length text) where
       abbrev byte : ℕ
@@ -46,35 +46,35 @@ module _ (text : List ℕ) where
       parted : text ≡ take at text ++ (byte ∷ drop (suc at) text)
       parted = split_at text at 0 below
 
-      pub one-passed : is_digit byte ≡ true → value * 10 + (byte - 48) ≤ largest-limit → Passed (at + 1) (value * 10 + (byte - 48))
+      pub one_passed : is_digit byte ≡ true → value * 10 + (byte - 48) ≤ largest_limit → Passed (at + 1) (value * 10 + (byte - 48))
       unfolding all_digits value_after
-      one-passed digit fits = rw (add-one at) (record {
+      one_passed digit fits = rw (add-one at) (record {
         inside = below;
         digits = rw (take-suc text at 0 below) (digits_append (take at text) (byte ∷ []) passed.digits ∙ rw (digit, all_digits) refl);
-        its-value = rw (take-suc text at 0 below) (value-append 0 (take at text) (byte ∷ []) ∙ rw passed.its-value refl);
+        its_value = rw (take-suc text at 0 below) (value_append 0 (take at text) (byte ∷ []) ∙ rw passed.its_value refl);
         small = fits;
       })
 
       -- a byte that is no digit
-      pub no_digit : is_digit byte ≡ false → limit-of text ≡ no-limit
-      unfolding limit-of is-limit all_digits
-      no_digit other = rw (not-all, and-false (leb (length text) most-limit-digits), and-false (leb 1 (length text))) refl
+      pub no_digit : is_digit byte ≡ false → limit_of text ≡ no_limit
+      unfolding limit_of is_limit all_digits
+      no_digit other = rw (not_all, and-false (leb (length text) most_limit_digits), and-false (leb 1 (length text))) refl
         where
-          not-all : all_digits text ≡ false
-          not-all = ap all_digits parted ∙ digits_append (take at text) (byte ∷ drop (suc at) text) passed.digits ∙ rw (other, all_digits) refl
+          not_all : all_digits text ≡ false
+          not_all = ap all_digits parted ∙ digits_append (take at text) (byte ∷ drop (suc at) text) passed.digits ∙ rw (other, all_digits) refl
 
       -- a value that is too large
-      pub too_large : largest-limit < value * 10 + (byte - 48) → limit-of text ≡ no-limit
-      unfolding limit-of is-limit value_after
-      too_large large = rw (lt-leb (value_after 0 text) largest-limit over, and-false (all_digits text), and-false (leb (length text) most-limit-digits), and-false (leb 1 (length text))) refl
+      pub too_large : largest_limit < value * 10 + (byte - 48) → limit_of text ≡ no_limit
+      unfolding limit_of is_limit value_after
+      too_large large = rw (lt-leb (value_after 0 text) largest_limit over, and-false (all_digits text), and-false (leb (length text) most_limit_digits), and-false (leb 1 (length text))) refl
         where
-          its-value : value_after 0 text ≡ value_after (value * 10 + (byte - 48)) (drop (suc at) text)
-          its-value = ap (value_after 0) parted ∙ value-append 0 (take at text) (byte ∷ drop (suc at) text) ∙ rw passed.its-value refl
+          its_value : value_after 0 text ≡ value_after (value * 10 + (byte - 48)) (drop (suc at) text)
+          its_value = ap (value_after 0) parted ∙ value_append 0 (take at text) (byte ∷ drop (suc at) text) ∙ rw passed.its_value refl
 
-          over : largest-limit < value_after 0 text
-          over = let more = value_grows (drop (suc at) text) (value * 10 + (byte - 48)) in omega (arith, its-value, more)
+          over : largest_limit < value_after 0 text
+          over = let more = value_grows (drop (suc at) text) (value * 10 + (byte - 48)) in omega (arith, its_value, more)
 
 -- no text at all
-pub no_text : (text : List ℕ) → length text ≡ 0 → limit-of text ≡ no-limit
-unfolding limit-of is-limit
+pub no_text : (text : List ℕ) → length text ≡ 0 → limit_of text ≡ no_limit
+unfolding limit_of is_limit
 no_text text none = rw none refl

@@ -3,9 +3,9 @@
 // contract is that of `listing::head` with the last limit: the runs before that one cannot be seen (specs/Limits.antt; crate `listing`,
 // specs/HeadAgain.antt). And how the limit is read from an argument. specs/Whole.antt says what a program prints with these.
 ghost use Rattle.std.specs.Prelude.{◌≡◌};
-ghost use Rattle.model.specs.RoutesTo.{limit-of, limit-line};
+ghost use Rattle.model.specs.RoutesTo.{limit_of, limit_line};
 ghost use Rattle.listing.specs.Listing.{Headed};
-ghost use Rattle.growing.specs.Limits.{says, first-limit, next-limit};
+ghost use Rattle.growing.specs.Limits.{says, first_limit, next_limit};
 
 use libc::STDERR_FILENO;
 use listing::Heading;
@@ -34,7 +34,7 @@ pub enum Limit {
 
 // The limit that a text says, in 1 to 20 digits.
 pub fn limit_of(text: &[u8]) -> Limit
-    ensures { says result ≡ limit-of text.now }
+    ensures { says result ≡ limit_of text.now }
 {
     if text.len() == 0 {
         return Limit::NoLimit;
@@ -61,14 +61,14 @@ pub fn limit_of(text: &[u8]) -> Limit
 
 // The line for an argument that is no limit.
 pub fn limit_line() -> [u8; 97]
-    ensures { result ≡ limit-line }
+    ensures { result ≡ limit_line }
 {
     *b"refused: the limit must be a number from 0 to 18446744073709551615 (routes_to LIMIT < GRID-FILE)\n"
 }
 
 // The limit of the first run.
 fn first_limit(limit: u64) -> u64
-    ensures { result ≡ first-limit limit }
+    ensures { result ≡ first_limit limit }
 {
     if FIRST_LIMIT <= limit {
         return FIRST_LIMIT;
@@ -78,7 +78,7 @@ fn first_limit(limit: u64) -> u64
 
 // The limit of the run after one that was spent.
 fn next_limit(reached: u64, limit: u64) -> u64
-    ensures { result ≡ next-limit reached limit }
+    ensures { result ≡ next_limit reached limit }
 {
     if reached <= limit / TIMES {
         return reached * TIMES;

@@ -7,15 +7,15 @@ use mathlib.Core.List.{List}
 use native.Mathlib.Nat.{add_assoc, zero-add, suc-mul, mul-le-mul_right}
 use native.Mathlib.Omega.{arith}
 use lib.ListN.{set}
-use Rattle.rules.specs.Grid.{place_at, field-side, places}
-use Rattle.rules.specs.Record.{byte-at-place, tabulate, field}
-use Rattle.rules.specs.RecordLaws.{tabulate-parts, field_row, field-rows, length-rows, next-rows, all-rows, length-field}
-use Rattle.rules.specs.Places.{few-places}
-use Rattle.model.specs.Bounds.{is-size}
-use Rattle.model.specs.RefusalLaws.{size-of-test}
-use Rattle.model.specs.JudgeText.{record-of-codes, codes-fit, coded-bytes}
+use Rattle.rules.specs.Grid.{place_at, field_side, places}
+use Rattle.rules.specs.Record.{byte_at_place, tabulate, field}
+use Rattle.rules.specs.RecordLaws.{tabulate_parts, field_row, field_rows, length_rows, next_rows, all_rows, length_field}
+use Rattle.rules.specs.Places.{few_places}
+use Rattle.model.specs.Bounds.{is_size}
+use Rattle.model.specs.RefusalLaws.{size_of_test}
+use Rattle.model.specs.JudgeText.{record_of_codes, codes_fit, coded_bytes}
 use Rattle.text.specs.Put.{Put}
-use Rattle.text.specs.PutLaws.{put_both, put_one, put-none, put_same, put_next}
+use Rattle.text.specs.PutLaws.{put_both, put_one, put_none, put_same, put_next}
 use Rattle.printed.specs.Written.{zeros, Written}
 use Rattle.printed.specs.Filled.{put_written}
 
@@ -24,53 +24,53 @@ use Rattle.printed.specs.Filled.{put_written}
 module _ (byte : ℕ → ℕ) (first out : List ℕ) (at i : ℕ) (so_far : Put first out at (tabulate byte 0 i) (at + i)) where
   pub byte_put : {b : ℕ} → b ≡ byte i → Put first (set out (at + i) b) at (tabulate byte 0 (i + 1)) (at + (i + 1))
   unfolding tabulate
-  byte_put {b} is = rw (sym (add_assoc at i 1), tabulate-parts byte 0 i 1, zero-add i, ← is) (put_both so_far (put_one out (at + i) b))
+  byte_put {b} is = rw (sym (add_assoc at i 1), tabulate_parts byte 0 i 1, zero-add i, ← is) (put_both so_far (put_one out (at + i) b))
 
 module _ (width : ℕ) (digits : List ℕ) (row : ℕ) where
-  abbrev byte-in-row : ℕ → ℕ
-  byte-in-row column = byte-at-place (coded-bytes digits) (place_at width row column)
+  abbrev byte_in_row : ℕ → ℕ
+  byte_in_row column = byte_at_place (coded_bytes digits) (place_at width row column)
 
-  pub row_put : {first out : List ℕ} {at column : ℕ} → column ≤ field-side width → field-side width ≤ column → Put first out at (tabulate byte-in-row 0 column) (at + column)
-      → Put first out at (field_row width (coded-bytes digits) row) (at + column)
+  pub row_put : {first out : List ℕ} {at column : ℕ} → column ≤ field_side width → field_side width ≤ column → Put first out at (tabulate byte_in_row 0 column) (at + column)
+      → Put first out at (field_row width (coded_bytes digits) row) (at + column)
   unfolding field_row
-  row_put {column = column} low high p = put_same (ap (tabulate byte-in-row 0) there) p
+  row_put {column = column} low high p = put_same (ap (tabulate byte_in_row 0) there) p
     where
-      there : column ≡ field-side width
+      there : column ≡ field_side width
       there = omega arith
 
 -- ## The field, row by row
 
 module _ (width : ℕ) (digits : List ℕ) where
   abbrev side : ℕ
-  side = field-side width
+  side = field_side width
 
   -- after some rows
-  module _ {first out : List ℕ} (row : ℕ) {at : ℕ} (so_far : Put first out 0 (field-rows width (coded-bytes digits) row) at) where
+  module _ {first out : List ℕ} (row : ℕ) {at : ℕ} (so_far : Put first out 0 (field_rows width (coded_bytes digits) row) at) where
     pub place_after : at ≡ row * side
-    place_after = put_next so_far ∙ length-rows width (coded-bytes digits) row
+    place_after = put_next so_far ∙ length_rows width (coded_bytes digits) row
 
     -- the next row has room
-    pub row-has-room : (height : ℕ) → row < field-side height → at + side ≤ places height width
-    row-has-room height below =
+    pub row_has_room : (height : ℕ) → row < field_side height → at + side ≤ places height width
+    row_has_room height below =
         let rows : suc row * side ≤ places height width = mul-le-mul_right side below in
         omega (arith, place_after, suc-mul row side)
 
-    pub one-row-put : {after : List ℕ} {next : ℕ} → Put out after at (field_row width (coded-bytes digits) row) next → Put first after 0 (field-rows width (coded-bytes digits) (row + 1)) next
-    one-row-put p = put_same (sym (next-rows width (coded-bytes digits) row)) (put_both so_far p)
+    pub one_row_put : {after : List ℕ} {next : ℕ} → Put out after at (field_row width (coded_bytes digits) row) next → Put first after 0 (field_rows width (coded_bytes digits) (row + 1)) next
+    one_row_put p = put_same (sym (next_rows width (coded_bytes digits) row)) (put_both so_far p)
 
-    pub all-put : (height : ℕ) → row ≡ field-side height → Put first out 0 (field height width (coded-bytes digits)) at
-    all-put height end = put_same (ap (field-rows width (coded-bytes digits)) end ∙ all-rows width (coded-bytes digits) height) so_far
+    pub all_put : (height : ℕ) → row ≡ field_side height → Put first out 0 (field height width (coded_bytes digits)) at
+    all_put height end = put_same (ap (field_rows width (coded_bytes digits)) end ∙ all_rows width (coded_bytes digits) height) so_far
 
 -- ## The record of codes
 
 module _ (height width : ℕ) (digits : List ℕ) where
-  pub no_record : {answer : Bool} → answer ≡ codes-fit height width digits → answer ≡ false → Written 961 (record-of-codes height width digits) (zeros 961) 0
-  unfolding record-of-codes codes-fit
-  no_record says off = rw (sym says ∙ off) (put_written 961 (put-none (zeros 961) 0 0 refl) (omega arith))
+  pub no_record : {answer : Bool} → answer ≡ codes_fit height width digits → answer ≡ false → Written 961 (record_of_codes height width digits) (zeros 961) 0
+  unfolding record_of_codes codes_fit
+  no_record says off = rw (sym says ∙ off) (put_written 961 (put_none (zeros 961) 0 0 refl) (omega arith))
 
-  pub the-record : {answer : Bool} → answer ≡ codes-fit height width digits → answer ≡ true → is-size height ≡ true → is-size width ≡ true → {bytes : List ℕ} {long : ℕ}
-      → Put (zeros 961) bytes 0 (field height width (coded-bytes digits)) long → Written 961 (record-of-codes height width digits) bytes long
-  unfolding record-of-codes codes-fit
-  the-record says on tall wide p =
+  pub the_record : {answer : Bool} → answer ≡ codes_fit height width digits → answer ≡ true → is_size height ≡ true → is_size width ≡ true → {bytes : List ℕ} {long : ℕ}
+      → Put (zeros 961) bytes 0 (field height width (coded_bytes digits)) long → Written 961 (record_of_codes height width digits) bytes long
+  unfolding record_of_codes codes_fit
+  the_record says on tall wide p =
       rw (sym says ∙ on)
-      (put_written 961 p (rw (length-field height width (coded-bytes digits)) (few-places height width (size-of-test height tall).1 (size-of-test width wide).1)))
+      (put_written 961 p (rw (length_field height width (coded_bytes digits)) (few_places height width (size_of_test height tall).1 (size_of_test width wide).1)))

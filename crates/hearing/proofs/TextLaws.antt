@@ -6,48 +6,48 @@ use mathlib.Core.Bool.{true}
 use mathlib.Core.List.{List, [], ◌∷◌, ◌++◌, append_assoc}
 use lib.ListN.{take}
 use Rattle.rules.specs.Grid.{Accepted}
-use Rattle.model.specs.Bounds.{is-size}
-use Rattle.model.specs.RefusalLaws.{test-of-size}
-use Rattle.model.specs.Text.{bytes, comma, line-end}
+use Rattle.model.specs.Bounds.{is_size}
+use Rattle.model.specs.RefusalLaws.{test_of_size}
+use Rattle.model.specs.Text.{bytes, comma, line_end}
 use Rattle.model.specs.Decimal.{decimal}
 use Rattle.model.specs.GridFile.{Reading, read}
-use Rattle.model.specs.Printed.{refusal-line, reading-text}
+use Rattle.model.specs.Printed.{refusal_line, reading_text}
 use Rattle.model.specs.Judge.{Judged, judge}
-use Rattle.model.specs.JudgeText.{record-of-codes, judged-line, judged-text}
-use Rattle.printed.specs.Written.{Written, text-of-bytes}
-use Rattle.reading.specs.ReadingLaws.{read-sound}
+use Rattle.model.specs.JudgeText.{record_of_codes, judged_line, judged_text}
+use Rattle.printed.specs.Written.{Written, text_of_bytes}
+use Rattle.reading.specs.ReadingLaws.{read_sound}
 
 -- ## The line of a verdict
 
-pub judged-parts : (said : Judged) → (decimal said.verdict ++ (44 ∷ [])) ++ (decimal said.lines ++ (10 ∷ [])) ≡ judged-line said
-unfolding judged-line comma line-end bytes
-judged-parts said = simp append_assoc
+pub judged_parts : (said : Judged) → (decimal said.verdict ++ (44 ∷ [])) ++ (decimal said.lines ++ (10 ∷ [])) ≡ judged_line said
+unfolding judged_line comma line_end bytes
+judged_parts said = simp append_assoc
 
 -- ## What was read
 
 module _ (file : List ℕ) (reading : Reading) (same : reading ≡ read file) where
-  pub refused-text : (digits : List ℕ) → (reading.number ≡ 0 → ⊥) → {bytes : List ℕ} {long : ℕ}
-      → Written 67 (refusal-line reading.number reading.line reading.field) bytes long → Written 67 (judged-text digits (read file)) bytes long
-  unfolding judged-text reading-text
-  refused-text digits refuses {bytes} {long} written = go reading.number refl
+  pub refused_text : (digits : List ℕ) → (reading.number ≡ 0 → ⊥) → {bytes : List ℕ} {long : ℕ}
+      → Written 67 (refusal_line reading.number reading.line reading.field) bytes long → Written 67 (judged_text digits (read file)) bytes long
+  unfolding judged_text reading_text
+  refused_text digits refuses {bytes} {long} written = go reading.number refl
     where
-      go : (n : ℕ) → reading.number ≡ n → Written 67 (judged-text digits (read file)) bytes long
+      go : (n : ℕ) → reading.number ≡ n → Written 67 (judged_text digits (read file)) bytes long
       go zero e = absurd (refuses e)
       go (suc n) e = rw (← same, e) (rw e at written)
 
   module _ (accepts : reading.number ≡ 0) where
     grid : Accepted reading.height reading.width (take (reading.height * reading.width) reading.cells)
-    grid = rw same ((read-sound file).in-range (rw same at accepts))
+    grid = rw same ((read_sound file).in_range (rw same at accepts))
 
-    pub tall : is-size reading.height ≡ true
-    tall = test-of-size _ grid.height-in-range
+    pub tall : is_size reading.height ≡ true
+    tall = test_of_size _ grid.height_in_range
 
-    pub wide : is-size reading.width ≡ true
-    wide = test-of-size _ grid.width-in-range
+    pub wide : is_size reading.width ≡ true
+    wide = test_of_size _ grid.width_in_range
 
     -- the record that is judged is that of the codes
-    pub accepted-text : (digits : List ℕ) {laid : List ℕ} {size : ℕ} → Written 961 (record-of-codes reading.height reading.width digits) laid size
+    pub accepted_text : (digits : List ℕ) {laid : List ℕ} {size : ℕ} → Written 961 (record_of_codes reading.height reading.width digits) laid size
         → {said : Judged} → said ≡ judge reading.height reading.width (take (reading.height * reading.width) reading.cells) (take size laid)
-        → {bytes : List ℕ} {long : ℕ} → Written 67 (judged-line said) bytes long → Written 67 (judged-text digits (read file)) bytes long
-    unfolding judged-text reading-text
-    accepted-text digits coded says written = rw (← same, accepts) (rw (says, text-of-bytes coded) at written)
+        → {bytes : List ℕ} {long : ℕ} → Written 67 (judged_line said) bytes long → Written 67 (judged_text digits (read file)) bytes long
+    unfolding judged_text reading_text
+    accepted_text digits coded says written = rw (← same, accepts) (rw (says, text_of_bytes coded) at written)

@@ -2,15 +2,15 @@
 // laid out as a record of edge bytes, which the crate `judging` judges. What the record is and what is printed stands in the crate `model`,
 // specs/JudgeText.antt there; specs/Whole.antt here says it of the bytes of standard input.
 ghost use Rattle.std.specs.Prelude.{◌≡◌, true, ◌||◌, not, ◌+◌, ◌*◌, ◌%◌, ◌≤◌, ◌<◌, ltb, length};
-ghost use Rattle.rules.specs.Grid.{right, down, field-side, places, place_at};
-ghost use Rattle.rules.specs.Record.{byte_of, byte-at-place, field};
+ghost use Rattle.rules.specs.Grid.{right, down, field_side, places, place_at};
+ghost use Rattle.rules.specs.Record.{byte_of, byte_at_place, field};
 ghost use Rattle.rules.specs.RecordLaws.{field_row};
-ghost use Rattle.model.specs.Bounds.{is-size};
+ghost use Rattle.model.specs.Bounds.{is_size};
 ghost use Rattle.model.specs.GridFile.{read};
-ghost use Rattle.model.specs.JudgeText.{digit_at, code_at, coded, digit-fits, record-of-codes, judged-line, judged-text, codes-fit, coded-bytes, usage-line};
+ghost use Rattle.model.specs.JudgeText.{digit_at, code_at, coded, digit_fits, record_of_codes, judged_line, judged_text, codes_fit, coded_bytes, usage_line};
 ghost use Rattle.text.specs.Put.{Put};
 ghost use Rattle.printed.specs.Written.{Written};
-ghost use Rattle.judging.specs.Judging.{judged-says};
+ghost use Rattle.judging.specs.Judging.{judged_says};
 
 use grid::{Edge, Pads};
 use judging::Judged;
@@ -61,7 +61,7 @@ fn leads_down(digits: &[u8], v: usize) -> bool
 
 // Whether the line to the right, if the code has it, is not off the board.
 fn right_fits(width: usize, digits: &[u8], v: usize) -> bool
-    requires { (is-size width ≡ true) × (v < 256) }
+    requires { (is_size width ≡ true) × (v < 256) }
     ensures { result ≡ (not (coded digits.now (right v)) || ltb (v % width + 1) width) }
 {
     if leads_right(digits, v) {
@@ -72,7 +72,7 @@ fn right_fits(width: usize, digits: &[u8], v: usize) -> bool
 
 // The same of the line downward.
 fn down_fits(height: usize, width: usize, digits: &[u8], v: usize) -> bool
-    requires { (is-size height ≡ true) × (is-size width ≡ true) × (v < 256) }
+    requires { (is_size height ≡ true) × (is_size width ≡ true) × (v < 256) }
     ensures { result ≡ (not (coded digits.now (down v)) || ltb (v + width) (height * width)) }
 {
     if leads_down(digits, v) {
@@ -83,8 +83,8 @@ fn down_fits(height: usize, width: usize, digits: &[u8], v: usize) -> bool
 
 // Whether the digit of a pad fits: 0 to 3, with no line off the board.
 fn digit_fits(height: usize, width: usize, digits: &[u8], v: usize) -> bool
-    requires { (is-size height ≡ true) × (is-size width ≡ true) × (v < 256) }
-    ensures { result ≡ digit-fits height width digits.now v }
+    requires { (is_size height ≡ true) × (is_size width ≡ true) × (v < 256) }
+    ensures { result ≡ digit_fits height width digits.now v }
 {
     let digit = digit_at(digits, v);
     if digit < ZERO {
@@ -101,8 +101,8 @@ fn digit_fits(height: usize, width: usize, digits: &[u8], v: usize) -> bool
 
 // Whether there is one digit for each pad, and each fits.
 fn codes_fit(height: usize, width: usize, digits: &[u8]) -> bool
-    requires { (is-size height ≡ true) × (is-size width ≡ true) }
-    ensures { result ≡ codes-fit height width digits.now }
+    requires { (is_size height ≡ true) × (is_size width ≡ true) }
+    ensures { result ≡ codes_fit height width digits.now }
 {
     if digits.len() != height * width {
         return false;
@@ -130,7 +130,7 @@ fn byte_of(line: bool) -> u8
 // The byte at a place of the record; a place that is no edge holds undecided.
 fn byte_at(digits: &[u8], width: usize, row: usize, column: usize) -> u8
     requires { (width ≤ 16) × (row < 31) × (column < 31) }
-    ensures { result ≡ byte-at-place (coded-bytes digits.now) (place_at width row column) }
+    ensures { result ≡ byte_at_place (coded_bytes digits.now) (place_at width row column) }
 {
     match grid::pads_at(width, row, column) {
         Pads::Beside(first, _) => byte_of(leads_right(digits, first)),
@@ -141,8 +141,8 @@ fn byte_at(digits: &[u8], width: usize, row: usize, column: usize) -> u8
 
 // Puts one row of the record from a place on; the place after it.
 fn put_row(out: &mut [u8], at: usize, digits: &[u8], width: usize, row: usize) -> usize
-    requires { (2 ≤ width) × (width ≤ 16) × (row < 31) × (at + field-side width ≤ length out.old) }
-    ensures { Put out.old out.new at (field_row width (coded-bytes digits.now) row) result }
+    requires { (2 ≤ width) × (width ≤ 16) × (row < 31) × (at + field_side width ≤ length out.old) }
+    ensures { Put out.old out.new at (field_row width (coded_bytes digits.now) row) result }
 {
     let side = 2 * width - 1;
     let mut column = 0;
@@ -155,8 +155,8 @@ fn put_row(out: &mut [u8], at: usize, digits: &[u8], width: usize, row: usize) -
 
 // Puts the record, row by row; its length.
 fn put_record(out: &mut [u8], digits: &[u8], height: usize, width: usize) -> usize
-    requires { (is-size height ≡ true) × (is-size width ≡ true) × (places height width ≤ length out.old) }
-    ensures { Put out.old out.new 0 (field height width (coded-bytes digits.now)) result }
+    requires { (is_size height ≡ true) × (is_size width ≡ true) × (places height width ≤ length out.old) }
+    ensures { Put out.old out.new 0 (field height width (coded_bytes digits.now)) result }
 {
     let rows = 2 * height - 1;
     let mut at = 0;
@@ -177,8 +177,8 @@ struct CodedRecord {
 
 // The record of codes.
 fn record_of_codes(height: usize, width: usize, digits: &[u8]) -> CodedRecord
-    requires { (is-size height ≡ true) × (is-size width ≡ true) }
-    ensures { Written 961 (record-of-codes height width digits.now) result.bytes result.length }
+    requires { (is_size height ≡ true) × (is_size width ≡ true) }
+    ensures { Written 961 (record_of_codes height width digits.now) result.bytes result.length }
 {
     let mut bytes = [0; 961];
     if !codes_fit(height, width, digits) {
@@ -190,7 +190,7 @@ fn record_of_codes(height: usize, width: usize, digits: &[u8]) -> CodedRecord
 
 // The verdict and the lines.
 fn judged_line(said: Judged) -> HeadLine
-    ensures { Written 67 (judged-line (judged-says said)) result.bytes result.length }
+    ensures { Written 67 (judged_line (judged_says said)) result.bytes result.length }
 {
     let mut bytes = [0; 67];
     let verdict = said.verdict as u64;
@@ -202,7 +202,7 @@ fn judged_line(said: Judged) -> HeadLine
 
 // Reads the file, lays the codes out as a record of its grid, and gives the text: the line of a refused file, or the verdict and the lines.
 pub fn judged(file: &[u8], digits: &[u8]) -> HeadLine
-    ensures { Written 67 (judged-text digits.now (read file.now)) result.bytes result.length }
+    ensures { Written 67 (judged_text digits.now (read file.now)) result.bytes result.length }
 {
     let reading = gridfile::read(file);
     if reading.number != 0 {
@@ -220,7 +220,7 @@ pub fn judged(file: &[u8], digits: &[u8]) -> HeadLine
 
 // The line that says how the program is called.
 pub fn usage() -> [u8; 81]
-    ensures { result ≡ usage-line }
+    ensures { result ≡ usage_line }
 {
     *b"judge CODES < GRID-FILE: CODES are the digits of the pads, as routes prints them\n"
 }

@@ -7,73 +7,73 @@ use native.Mathlib.Omega.{arith}
 use lib.Dec.{ltb}
 use borrow.Author.Tests.{eq-eqb, ne_eqb, lt-ltb, le-ltb, ltb-false}
 use Rattle.rules.specs.Grid.{Place, edge, no_edge}
-use Rattle.model.specs.Calls.{Board, Answer, decide-edge, decide-at, edge_at, read-edge, add-checkpoint, undo}
+use Rattle.model.specs.Calls.{Board, Answer, decide_edge, decide_at, edge_at, read_edge, add_checkpoint, undo}
 use Rattle.board.specs.Held.{Held, Says}
 use Rattle.board.specs.declared.Answer as code
 use Rattle.board.specs.declared.Board as codeboard
-use Rattle.hunekowha.specs.Replay.{Given, fresh-answer, state-asked, called}
+use Rattle.hunekowha.specs.Replay.{Given, fresh_answer, state_asked, called}
 
 -- A STATE above a byte
-large-declined : (b : Board) (p : Place) (state : ℕ) → 256 ≤ state → decide-at b p 0 ≡ decide-at b p state
-large-declined b no_edge state large = refl
-large-declined b (edge e) state large = rw (ne_eqb state 1 (λ is. omega arith), ne_eqb state 2 (λ is. omega arith), decide-at) refl
+large_declined : (b : Board) (p : Place) (state : ℕ) → 256 ≤ state → decide_at b p 0 ≡ decide_at b p state
+large_declined b no_edge state large = refl
+large_declined b (edge e) state large = rw (ne_eqb state 1 (λ is. omega arith), ne_eqb state 2 (λ is. omega arith), decide_at) refl
 
-pub asked-byte : (state : ℕ) → state < 256 → state ≡ state-asked state
-unfolding state-asked
-asked-byte state small = rw (lt-ltb state 256 small) refl
+pub asked_byte : (state : ℕ) → state < 256 → state ≡ state_asked state
+unfolding state_asked
+asked_byte state small = rw (lt-ltb state 256 small) refl
 
-pub asked-large : (state : ℕ) → 256 ≤ state → 0 ≡ state-asked state
-unfolding state-asked
-asked-large state large = rw (le-ltb state 256 large) refl
+pub asked_large : (state : ℕ) → 256 ≤ state → 0 ≡ state_asked state
+unfolding state_asked
+asked_large state large = rw (le-ltb state 256 large) refl
 
-pub asked-same : (b : Board) (row column state : ℕ) → decide-edge b row column (state-asked state) ≡ decide-edge b row column state
-unfolding state-asked decide-edge
-asked-same b row column state = go (ltb state 256) refl
+pub asked_same : (b : Board) (row column state : ℕ) → decide_edge b row column (state_asked state) ≡ decide_edge b row column state
+unfolding state_asked decide_edge
+asked_same b row column state = go (ltb state 256) refl
   where
-    go : (t : Bool) → ltb state 256 ≡ t → decide-edge b row column (state-asked state) ≡ decide-edge b row column state
+    go : (t : Bool) → ltb state 256 ≡ t → decide_edge b row column (state_asked state) ≡ decide_edge b row column state
     go true small = rw small refl
-    go false large = rw large (large-declined b (edge_at b.grid row column) state (ltb-false state 256 large))
+    go false large = rw large (large_declined b (edge_at b.grid row column) state (ltb-false state 256 large))
 
 -- WHICH CALL
 module _ (g : Given) (b : Board) (kind row column state : ℕ) where
-  pub is-decision : kind ≡ 1 → decide-edge b row column (state-asked state) ≡ called g b kind row column state
+  pub is_decision : kind ≡ 1 → decide_edge b row column (state_asked state) ≡ called g b kind row column state
   unfolding called
-  is-decision is = asked-same b row column state ∙ rw (eq-eqb kind 1 is) refl
+  is_decision is = asked_same b row column state ∙ rw (eq-eqb kind 1 is) refl
 
-  module _ (not-1 : kind ≡ 1 → ⊥) where
-    pub is-reading : kind ≡ 2 → read-edge b row column ≡ called g b kind row column state
+  module _ (not_1 : kind ≡ 1 → ⊥) where
+    pub is_reading : kind ≡ 2 → read_edge b row column ≡ called g b kind row column state
     unfolding called
-    is-reading is = rw (ne_eqb kind 1 not-1, eq-eqb kind 2 is) refl
+    is_reading is = rw (ne_eqb kind 1 not_1, eq-eqb kind 2 is) refl
 
-    module _ (not-2 : kind ≡ 2 → ⊥) where
-      pub is-checkpoint : kind ≡ 3 → add-checkpoint b ≡ called g b kind row column state
+    module _ (not_2 : kind ≡ 2 → ⊥) where
+      pub is_checkpoint : kind ≡ 3 → add_checkpoint b ≡ called g b kind row column state
       unfolding called
-      is-checkpoint is = rw (ne_eqb kind 1 not-1, ne_eqb kind 2 not-2, eq-eqb kind 3 is) refl
+      is_checkpoint is = rw (ne_eqb kind 1 not_1, ne_eqb kind 2 not_2, eq-eqb kind 3 is) refl
 
-      module _ (not-3 : kind ≡ 3 → ⊥) where
-        pub is-undo : kind ≡ 4 → record { number = 0; answer = 0; board = undo b } ≡ called g b kind row column state
+      module _ (not_3 : kind ≡ 3 → ⊥) where
+        pub is_undo : kind ≡ 4 → record { number = 0; answer = 0; board = undo b } ≡ called g b kind row column state
         unfolding called
-        is-undo is = rw (ne_eqb kind 1 not-1, ne_eqb kind 2 not-2, ne_eqb kind 3 not-3, eq-eqb kind 4 is) refl
+        is_undo is = rw (ne_eqb kind 1 not_1, ne_eqb kind 2 not_2, ne_eqb kind 3 not_3, eq-eqb kind 4 is) refl
 
-        pub is-fresh : (kind ≡ 4 → ⊥) → fresh-answer g ≡ called g b kind row column state
+        pub is_fresh : (kind ≡ 4 → ⊥) → fresh_answer g ≡ called g b kind row column state
         unfolding called
-        is-fresh not-4 = rw (ne_eqb kind 1 not-1, ne_eqb kind 2 not-2, ne_eqb kind 3 not-3, ne_eqb kind 4 not-4) refl
+        is_fresh not_4 = rw (ne_eqb kind 1 not_1, ne_eqb kind 2 not_2, ne_eqb kind 3 not_3, ne_eqb kind 4 not_4) refl
 
 -- WHAT THE CODE'S CALL SAYS
 module _ (g : Given) (b : Board) (kind row column state : ℕ) {r : code.Answer} where
-  pub says-decision : kind ≡ 1 → {byte : ℕ} → byte ≡ state-asked state → Says r (decide-edge b row column byte) → Says r (called g b kind row column state)
-  says-decision is byte says = subst (λ (A : Answer). Says r A) (ap (decide-edge b row column) byte ∙ is-decision g b kind row column state is) says
+  pub says_decision : kind ≡ 1 → {byte : ℕ} → byte ≡ state_asked state → Says r (decide_edge b row column byte) → Says r (called g b kind row column state)
+  says_decision is byte says = subst (λ (A : Answer). Says r A) (ap (decide_edge b row column) byte ∙ is_decision g b kind row column state is) says
 
-  pub says-reading : (kind ≡ 1 → ⊥) → kind ≡ 2 → Says r (read-edge b row column) → Says r (called g b kind row column state)
-  says-reading not-1 is says = subst (λ (A : Answer). Says r A) (is-reading g b kind row column state not-1 is) says
+  pub says_reading : (kind ≡ 1 → ⊥) → kind ≡ 2 → Says r (read_edge b row column) → Says r (called g b kind row column state)
+  says_reading not_1 is says = subst (λ (A : Answer). Says r A) (is_reading g b kind row column state not_1 is) says
 
-  pub says-checkpoint : (kind ≡ 1 → ⊥) → (kind ≡ 2 → ⊥) → kind ≡ 3 → Says r (add-checkpoint b) → Says r (called g b kind row column state)
-  says-checkpoint not-1 not-2 is says = subst (λ (A : Answer). Says r A) (is-checkpoint g b kind row column state not-1 not-2 is) says
+  pub says_checkpoint : (kind ≡ 1 → ⊥) → (kind ≡ 2 → ⊥) → kind ≡ 3 → Says r (add_checkpoint b) → Says r (called g b kind row column state)
+  says_checkpoint not_1 not_2 is says = subst (λ (A : Answer). Says r A) (is_checkpoint g b kind row column state not_1 not_2 is) says
 
-  pub says-fresh : (kind ≡ 1 → ⊥) → (kind ≡ 2 → ⊥) → (kind ≡ 3 → ⊥) → (kind ≡ 4 → ⊥) → Says r (fresh-answer g) → Says r (called g b kind row column state)
-  says-fresh not-1 not-2 not-3 not-4 says = subst (λ (A : Answer). Says r A) (is-fresh g b kind row column state not-1 not-2 not-3 not-4) says
+  pub says_fresh : (kind ≡ 1 → ⊥) → (kind ≡ 2 → ⊥) → (kind ≡ 3 → ⊥) → (kind ≡ 4 → ⊥) → Says r (fresh_answer g) → Says r (called g b kind row column state)
+  says_fresh not_1 not_2 not_3 not_4 says = subst (λ (A : Answer). Says r A) (is_fresh g b kind row column state not_1 not_2 not_3 not_4) says
 
-pub says-undo : (g : Given) (b : Board) (kind row column state : ℕ) {after : codeboard.Board} → (kind ≡ 1 → ⊥) → (kind ≡ 2 → ⊥) → (kind ≡ 3 → ⊥) → kind ≡ 4 → Held after (undo b)
+pub says_undo : (g : Given) (b : Board) (kind row column state : ℕ) {after : codeboard.Board} → (kind ≡ 1 → ⊥) → (kind ≡ 2 → ⊥) → (kind ≡ 3 → ⊥) → kind ≡ 4 → Held after (undo b)
     → Says (record { number = 0; answer = 0; board = after }) (called g b kind row column state)
-says-undo g b kind row column state {after} not-1 not-2 not-3 is held =
-    subst (λ (A : Answer). Says (record { number = 0; answer = 0; board = after }) A) (is-undo g b kind row column state not-1 not-2 not-3 is) (record { number = refl; answer = refl; board = held })
+says_undo g b kind row column state {after} not_1 not_2 not_3 is held =
+    subst (λ (A : Answer). Says (record { number = 0; answer = 0; board = after }) A) (is_undo g b kind row column state not_1 not_2 not_3 is) (record { number = refl; answer = refl; board = held })

@@ -4,12 +4,12 @@ use Rattle.model.specs.Choice.{if◌then◌else◌}
 use Rattle.std.specs.Prelude.{ℕ, ◌*◌, ◌&&◌, List, [], ◌∷◌, ◌++◌, leb, length, drop, ℤ}
 use Rattle.model.specs.GridFile.{Reading}
 use Rattle.model.specs.Writing.{Writing, write}
-use Rattle.model.specs.Records.{record-length, has-record}
+use Rattle.model.specs.Records.{record_length, has_record}
 use Rattle.model.specs.Judge.{Judged, judge}
 use Rattle.model.specs.Runs.{Solved}
 use Rattle.model.specs.Common.{common}
 use Rattle.solver.specs.declared.Solved.{Solved as Answered}
-use Rattle.solver.specs.Answers.{answer-says}
+use Rattle.solver.specs.Answers.{answer_says}
 
 -- a list whose first elements were overwritten
 abbrev pub written : {A : Type 0} → List A → List A → List A
@@ -21,13 +21,13 @@ pub record ReadGives : Type 0 where
   pub answer : List ℕ
   pub cells : List ℤ
 
-abbrev pub read-numbers : Reading → List ℕ
-read-numbers r = r.number ∷ r.line ∷ r.field ∷ r.height ∷ r.width ∷ []
+abbrev pub read_numbers : Reading → List ℕ
+read_numbers r = r.number ∷ r.line ∷ r.field ∷ r.height ∷ r.width ∷ []
 
-unfoldable pub reading-gives : Reading → List ℕ → List ℤ → ReadGives
-reading-gives reading answer cells =
+unfoldable pub reading_gives : Reading → List ℕ → List ℤ → ReadGives
+reading_gives reading answer cells =
     if leb 5 (length answer) && leb 256 (length cells)
-    then record { returned = 5; answer = written (read-numbers reading) answer; cells = written reading.cells cells }
+    then record { returned = 5; answer = written (read_numbers reading) answer; cells = written reading.cells cells }
     else record { returned = 0; answer = answer; cells = cells }
 
 -- WRITE: what is returned, and the text and the numbers after the call
@@ -36,16 +36,16 @@ pub record WriteGives : Type 0 where
   pub text : List ℕ
   pub answer : List ℕ
 
-abbrev pub write-numbers : Writing → List ℕ
-write-numbers r = r.number ∷ r.index ∷ r.length ∷ []
+abbrev pub write_numbers : Writing → List ℕ
+write_numbers r = r.number ∷ r.index ∷ r.length ∷ []
 
-unfoldable pub write-gives : ℕ → ℕ → List ℤ → List ℕ → List ℕ → WriteGives
-write-gives height width cells text answer =
+unfoldable pub write_gives : ℕ → ℕ → List ℤ → List ℕ → List ℕ → WriteGives
+write_gives height width cells text answer =
     if leb 3 (length answer)
     then record {
       returned = 3;
       text = (write height width cells text).buffer;
-      answer = written (write-numbers (write height width cells text)) answer;
+      answer = written (write_numbers (write height width cells text)) answer;
     }
     else record { returned = 0; text = text; answer = answer }
 
@@ -55,26 +55,26 @@ pub record NumbersGiven : Type 0 where
   pub answer : List ℕ
 
 -- where record k begins and how many bytes it has; 0 and 0 where there is none
-unfoldable pub record-place : ℕ → ℕ → ℕ → ℕ → ℕ → List ℕ
-record-place height width count k room =
-    if has-record height width count k room
-    then k * record-length height width ∷ record-length height width ∷ []
+unfoldable pub record_place : ℕ → ℕ → ℕ → ℕ → ℕ → List ℕ
+record_place height width count k room =
+    if has_record height width count k room
+    then k * record_length height width ∷ record_length height width ∷ []
     else 0 ∷ 0 ∷ []
 
-unfoldable pub record-gives : ℕ → ℕ → ℕ → ℕ → List ℕ → List ℕ → NumbersGiven
-record-gives height width count k buffer answer =
+unfoldable pub record_gives : ℕ → ℕ → ℕ → ℕ → List ℕ → List ℕ → NumbersGiven
+record_gives height width count k buffer answer =
     if leb 2 (length answer)
-    then record { returned = 2; answer = written (record-place height width count k (length buffer)) answer }
+    then record { returned = 2; answer = written (record_place height width count k (length buffer)) answer }
     else record { returned = 0; answer = answer }
 
 -- JUDGE: the refusal of the grid, or the verdict on the record and its lines
-abbrev pub judge-numbers : Judged → List ℕ
-judge-numbers r = r.number ∷ r.index ∷ r.verdict ∷ r.lines ∷ []
+abbrev pub judge_numbers : Judged → List ℕ
+judge_numbers r = r.number ∷ r.index ∷ r.verdict ∷ r.lines ∷ []
 
-unfoldable pub judge-gives : ℕ → ℕ → List ℤ → List ℕ → List ℕ → NumbersGiven
-judge-gives height width cells bytes answer =
+unfoldable pub judge_gives : ℕ → ℕ → List ℤ → List ℕ → List ℕ → NumbersGiven
+judge_gives height width cells bytes answer =
     if leb 4 (length answer)
-    then record { returned = 4; answer = written (judge-numbers (judge height width cells bytes)) answer }
+    then record { returned = 4; answer = written (judge_numbers (judge height width cells bytes)) answer }
     else record { returned = 0; answer = answer }
 
 -- SOLVE AND WALK, by what they answer in the model: what is returned, the buffer and the numbers after the call
@@ -83,17 +83,17 @@ pub record ListingGives : Type 0 where
   pub buffer : List ℕ
   pub answer : List ℕ
 
-abbrev pub solve-numbers : Solved → List ℕ
-solve-numbers r = r.number ∷ r.index ∷ r.outcome ∷ r.layouts ∷ r.visited ∷ r.fewest-lines ∷ []
+abbrev pub solve_numbers : Solved → List ℕ
+solve_numbers r = r.number ∷ r.index ∷ r.outcome ∷ r.layouts ∷ r.visited ∷ r.fewest_lines ∷ []
 
 -- the same numbers of what the search answers
-abbrev pub search-numbers : Answered → List ℕ
-search-numbers r = solve-numbers (answer-says r [])
+abbrev pub search_numbers : Answered → List ℕ
+search_numbers r = solve_numbers (answer_says r [])
 
-unfoldable pub listing-gives : Solved → List ℕ → List ℕ → ListingGives
-listing-gives listed buffer answer =
+unfoldable pub listing_gives : Solved → List ℕ → List ℕ → ListingGives
+listing_gives listed buffer answer =
     if leb 6 (length answer)
-    then record { returned = 6; buffer = listed.buffer; answer = written (solve-numbers listed) answer }
+    then record { returned = 6; buffer = listed.buffer; answer = written (solve_numbers listed) answer }
     else record { returned = 0; buffer = buffer; answer = answer }
 
 -- COMMON: what is returned, the buffer, the table and the numbers after the call
@@ -103,13 +103,13 @@ pub record CommonGives : Type 0 where
   pub table : List ℕ
   pub answer : List ℕ
 
-unfoldable pub common-gives : ℕ → ℕ → List ℤ → ℕ → List ℕ → List ℕ → List ℕ → CommonGives
-common-gives height width cells limit buffer table answer =
+unfoldable pub common_gives : ℕ → ℕ → List ℤ → ℕ → List ℕ → List ℕ → List ℕ → CommonGives
+common_gives height width cells limit buffer table answer =
     if leb 6 (length answer)
     then record {
       returned = 6;
       buffer = (common height width cells limit buffer table).searched.buffer;
       table = (common height width cells limit buffer table).table;
-      answer = written (solve-numbers (common height width cells limit buffer table).searched) answer;
+      answer = written (solve_numbers (common height width cells limit buffer table).searched) answer;
     }
     else record { returned = 0; buffer = buffer; table = table; answer = answer }

@@ -4,7 +4,7 @@ use Rattle.model.specs.Choice.{if◌then◌else◌}
 use Rattle.std.specs.Prelude.{ℕ, ◌+◌, ◌*◌, ◌/◌, ◌≤◌, ◌≡◌, List, [], ◌∷◌, ◌++◌, map, eqb, ltb, leb, length, ℤ, pos}
 use Rattle.rules.specs.Grid.{places, pads}
 use Rattle.rules.specs.Drawing.{num}
-use Rattle.model.specs.Calls.{Board, Answer, new, decide-edge, read-edge, add-checkpoint, undo, shown}
+use Rattle.model.specs.Calls.{Board, Answer, new, decide_edge, read_edge, add_checkpoint, undo, shown}
 use Rattle.board.specs.Held.{Held, Says}
 use Rattle.board.specs.declared.Answer as code
 use Rattle.board.specs.declared.Board as codeboard
@@ -16,21 +16,21 @@ pub record Given : Type 0 where
   pub width : ℕ
   pub cells : List ℤ
 
-abbrev pub fresh-answer : Given → Answer
-fresh-answer g = new g.height g.width g.cells
+abbrev pub fresh_answer : Given → Answer
+fresh_answer g = new g.height g.width g.cells
 
 -- a state that is no byte is none that a decision takes: the code asks for undecided in its place, which is declined alike
-unfoldable pub state-asked : ℕ → ℕ
-state-asked state = if ltb state 256 then state else 0
+unfoldable pub state_asked : ℕ → ℕ
+state_asked state = if ltb state 256 then state else 0
 
 -- ONE CALL: kind 1 decide, 2 read, 3 checkpoint, 4 undo; any other, the fresh board again
 unfoldable pub called : Given → Board → ℕ → ℕ → ℕ → ℕ → Answer
 called g b kind row column state =
-    if eqb kind 1 then decide-edge b row column state
-    else if eqb kind 2 then read-edge b row column
-    else if eqb kind 3 then add-checkpoint b
+    if eqb kind 1 then decide_edge b row column state
+    else if eqb kind 2 then read_edge b row column
+    else if eqb kind 3 then add_checkpoint b
     else if eqb kind 4 then record { number = 0; answer = 0; board = undo b }
-    else fresh-answer g
+    else fresh_answer g
 
 -- ITS BLOCK: number, answer, flag, edges, ends
 unfoldable pub block : Answer → List ℤ
@@ -54,10 +54,10 @@ pub record SignedGiven : Type 0 where
   pub answer : List ℤ
 
 abbrev pub all_blocks : Given → List ℕ → List ℤ
-all_blocks g calls = blocks g (fresh-answer g).board calls
+all_blocks g calls = blocks g (fresh_answer g).board calls
 
-unfoldable pub replay-gives : Given → List ℕ → List ℤ → SignedGiven
-replay-gives g calls answer =
+unfoldable pub replay_gives : Given → List ℕ → List ℤ → SignedGiven
+replay_gives g calls answer =
     if leb (length (all_blocks g calls)) (length answer)
     then record { returned = length (all_blocks g calls); answer = written (all_blocks g calls) answer }
     else record { returned = 0; answer = answer }
@@ -71,7 +71,7 @@ pub record Writable (made : code.Answer) (place room : ℕ) : Type 0 where
 
 -- what writing all blocks asks: a fresh board of the grid, the size of a block, the number of calls, and room
 pub record Replayable (g : Given) (calls : List ℕ) (fresh : codeboard.Board) (size count room : ℕ) : Type 0 where
-  pub held : Held fresh (fresh-answer g).board
-  pub sized : size ≡ block_size (fresh-answer g).board
+  pub held : Held fresh (fresh_answer g).board
+  pub sized : size ≡ block_size (fresh_answer g).board
   pub counted : count ≡ length calls / 4
   pub fits : count * size ≤ room

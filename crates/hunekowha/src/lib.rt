@@ -5,15 +5,15 @@
 ghost use Rattle.std.specs.Prelude.{◌≡◌, ◌≤◌, length};
 ghost use Rattle.model.specs.Calls as model;
 ghost use Rattle.model.specs.GridFile.{read};
-ghost use Rattle.model.specs.Packed.{read-packed};
+ghost use Rattle.model.specs.Packed.{read_packed};
 ghost use Rattle.model.specs.Search.{solve};
 ghost use Rattle.model.specs.Walk.{walk};
-ghost use Rattle.gridfile.specs.Answers.{reading-says};
+ghost use Rattle.gridfile.specs.Answers.{reading_says};
 ghost use Rattle.board.specs.Held.{Held, IsBoard, Says};
-ghost use Rattle.hunekowha.specs.Replay.{state-asked, called, block, block_size, all_blocks, Writable, Replayable};
+ghost use Rattle.hunekowha.specs.Replay.{state_asked, called, block, block_size, all_blocks, Writable, Replayable};
 ghost use Rattle.std.proofs.Math.Seq.{paste};
-ghost use Rattle.hunekowha.specs.Lent.{reading-gives, write-gives, record-gives, judge-gives, search-numbers, listing-gives, common-gives};
-ghost use Rattle.hunekowha.specs.Replay.{replay-gives};
+ghost use Rattle.hunekowha.specs.Lent.{reading_gives, write_gives, record_gives, judge_gives, search_numbers, listing_gives, common_gives};
+ghost use Rattle.hunekowha.specs.Replay.{replay_gives};
 
 use board::{Answer, Board};
 use grid::Edge;
@@ -22,7 +22,7 @@ use solver::Solved;
 
 // Writes what a reading gives: five numbers and 256 cells.
 fn put_reading(reading: Reading, answer: &mut [u64], cells: &mut [i64]) -> usize
-    ensures { reading-gives (reading-says reading) answer.old cells.old ≡ record { returned = result; answer = answer.new; cells = cells.new } }
+    ensures { reading_gives (reading_says reading) answer.old cells.old ≡ record { returned = result; answer = answer.new; cells = cells.new } }
 {
     if answer.len() < 5 {
         return 0;
@@ -46,7 +46,7 @@ fn put_reading(reading: Reading, answer: &mut [u64], cells: &mut [i64]) -> usize
 // Reads a grid file into five numbers and 256 cells.
 #[unsafe(no_mangle)]
 pub extern "C" fn hunekowha_read(file: &[u8], answer: &mut [u64], cells: &mut [i64]) -> usize
-    ensures { reading-gives (read file.now) answer.old cells.old ≡ record { returned = result; answer = answer.new; cells = cells.new } }
+    ensures { reading_gives (read file.now) answer.old cells.old ≡ record { returned = result; answer = answer.new; cells = cells.new } }
 {
     put_reading(gridfile::read(file), answer, cells)
 }
@@ -58,7 +58,7 @@ pub extern "C" fn hunekowha_read_packed(
     answer: &mut [u64],
     cells: &mut [i64],
 ) -> usize
-    ensures { reading-gives (read-packed bytes.now) answer.old cells.old ≡ record { returned = result; answer = answer.new; cells = cells.new } }
+    ensures { reading_gives (read_packed bytes.now) answer.old cells.old ≡ record { returned = result; answer = answer.new; cells = cells.new } }
 {
     put_reading(packed::read_packed(bytes), answer, cells)
 }
@@ -72,7 +72,7 @@ pub extern "C" fn hunekowha_write(
     text: &mut [u8],
     answer: &mut [u64],
 ) -> usize
-    ensures { write-gives height width cells.now text.old answer.old ≡ record { returned = result; text = text.new; answer = answer.new } }
+    ensures { write_gives height width cells.now text.old answer.old ≡ record { returned = result; text = text.new; answer = answer.new } }
 {
     if answer.len() < 3 {
         return 0;
@@ -97,7 +97,7 @@ pub extern "C" fn hunekowha_record(
     buffer: &[u8],
     answer: &mut [u64],
 ) -> usize
-    ensures { record-gives height width count k buffer.now answer.old ≡ record { returned = result; answer = answer.new } }
+    ensures { record_gives height width count k buffer.now answer.old ≡ record { returned = result; answer = answer.new } }
 {
     if answer.len() < 2 {
         return 0;
@@ -117,7 +117,7 @@ pub extern "C" fn hunekowha_judge(
     bytes: &[u8],
     answer: &mut [u64],
 ) -> usize
-    ensures { judge-gives height width cells.now bytes.now answer.old ≡ record { returned = result; answer = answer.new } }
+    ensures { judge_gives height width cells.now bytes.now answer.old ≡ record { returned = result; answer = answer.new } }
 {
     if answer.len() < 4 {
         return 0;
@@ -135,7 +135,7 @@ pub extern "C" fn hunekowha_judge(
 
 // A state as an edge: a byte as it is, and any larger number, which is no state, as undecided.
 fn edge_of(state: u64) -> Edge
-    ensures { result.0 ≡ state-asked state }
+    ensures { result.0 ≡ state_asked state }
 {
     if state < 256 {
         return Edge(state as u8);
@@ -249,7 +249,7 @@ pub extern "C" fn hunekowha_replay(
     calls: &[u64],
     answer: &mut [i64],
 ) -> usize
-    ensures { replay-gives (record { height = height; width = width; cells = cells.now }) calls.now answer.old ≡ record { returned = result; answer = answer.new } }
+    ensures { replay_gives (record { height = height; width = width; cells = cells.now }) calls.now answer.old ≡ record { returned = result; answer = answer.new } }
 {
     let first = Board::new(height, width, cells);
     let fresh = first.board;
@@ -265,7 +265,7 @@ pub extern "C" fn hunekowha_replay(
 // Writes the six numbers of a search or a walk.
 fn put_solved(answer: &mut [u64], solved: Solved)
     requires { 6 ≤ length answer.old }
-    ensures { answer.new ≡ paste answer.old 0 (search-numbers solved) 6 }
+    ensures { answer.new ≡ paste answer.old 0 (search_numbers solved) 6 }
 {
     let numbers = [
         solved.number as u64,
@@ -288,7 +288,7 @@ pub extern "C" fn hunekowha_solve(
     buffer: &mut [u8],
     answer: &mut [u64],
 ) -> usize
-    ensures { listing-gives (solve height width cells.now limit buffer.old) buffer.old answer.old ≡ record { returned = result; buffer = buffer.new; answer = answer.new } }
+    ensures { listing_gives (solve height width cells.now limit buffer.old) buffer.old answer.old ≡ record { returned = result; buffer = buffer.new; answer = answer.new } }
 {
     if answer.len() < 6 {
         return 0;
@@ -308,7 +308,7 @@ pub extern "C" fn hunekowha_walk(
     buffer: &mut [u8],
     answer: &mut [u64],
 ) -> usize
-    ensures { listing-gives (walk height width cells.now limit buffer.old) buffer.old answer.old ≡ record { returned = result; buffer = buffer.new; answer = answer.new } }
+    ensures { listing_gives (walk height width cells.now limit buffer.old) buffer.old answer.old ≡ record { returned = result; buffer = buffer.new; answer = answer.new } }
 {
     if answer.len() < 6 {
         return 0;
@@ -337,7 +337,7 @@ pub extern "C" fn hunekowha_common(
     table: &mut [u8],
     answer: &mut [u64],
 ) -> usize
-    ensures { common-gives height width cells.now limit buffer.old table.old answer.old ≡ record { returned = result; buffer = buffer.new; table = table.new; answer = answer.new } }
+    ensures { common_gives height width cells.now limit buffer.old table.old answer.old ≡ record { returned = result; buffer = buffer.new; table = table.new; answer = answer.new } }
 {
     if answer.len() < 6 {
         return 0;

@@ -1,6 +1,6 @@
 // The judge of a drawing: reads a grid file from standard input, of which the first 4,096 bytes suffice, takes the codes of a drawing as its
 // argument, and prints the verdict with the lines, or why the file is refused. What is printed is made, and proved, in the crate `hearing`;
-// here it is only read and written. By `judge-prints` of that crate (specs/Whole.antt) the bytes written are the text of the crate `model`.
+// here it is only read and written. By `judge_prints` of that crate (specs/Whole.antt) the bytes written are the text of the crate `model`.
 ghost use Rattle.std.specs.Prelude.{◌≤◌, length};
 
 use libc::{STDIN_FILENO, STDOUT_FILENO};

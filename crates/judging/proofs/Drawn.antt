@@ -12,179 +12,179 @@ use lib.Dec.{eqb, ltb, leb}
 use lib.ListN.{get_or}
 use lib.IntN.{ℤ}
 use borrow.Author.Tests.{lt-ltb, le-ltb, ltb-true, le-leb, not-true, not-false}
-use Rattle.rules.specs.Grid.{pad-index, blank, Grid}
-use Rattle.rules.specs.Drawing.{Drawing, num, Side, on-left, on-right}
-use Rattle.rules.specs.Record.{undecided-byte, line-byte, drawing-of}
-use Rattle.rules.specs.Tests.{both, both-off, conflict}
-use Rattle.rules.specs.Places.{row-of-pad, column-of-pad}
-use Rattle.rules.specs.CheckedListed.{has-corner, diagonal}
-use Rattle.judging.specs.Shape.{InColumn, taken_at, lines-around, square-keeps, corner-keeps}
+use Rattle.rules.specs.Grid.{pad_index, blank, Grid}
+use Rattle.rules.specs.Drawing.{Drawing, num, Side, on_left, on_right}
+use Rattle.rules.specs.Record.{undecided_byte, line_byte, drawing_of}
+use Rattle.rules.specs.Tests.{both, both_off, conflict}
+use Rattle.rules.specs.Places.{row_of_pad, column_of_pad}
+use Rattle.rules.specs.CheckedListed.{has_corner, diagonal}
+use Rattle.judging.specs.Shape.{InColumn, taken_at, lines_around, square_keeps, corner_keeps}
 
 module _ (width y x : ℕ) (here : InColumn width y x) where
   -- a grid of this width
-  abbrev some-grid : Grid
-  some-grid = record { height = 2; width = width; cell = λ v. blank }
+  abbrev some_grid : Grid
+  some_grid = record { height = 2; width = width; cell = λ v. blank }
 
-  row_at : pad-index width y x / width ≡ y
-  row_at = row-of-pad some-grid here.wide y x here.inside
+  row_at : pad_index width y x / width ≡ y
+  row_at = row_of_pad some_grid here.wide y x here.inside
 
-  column-at : pad-index width y x % width ≡ x
-  column-at = column-of-pad some-grid here.wide y x here.inside
+  column_at : pad_index width y x % width ≡ x
+  column_at = column_of_pad some_grid here.wide y x here.inside
 
   -- the numbers are small
-  pub few-before : 2 * y * (2 * width - 1) ≤ 32 * 31
-  few-before = mul-le-mul {n₂ = 32} {m₂ = 31} (omega (arith, here.low)) (omega (arith, here.narrow))
+  pub few_before : 2 * y * (2 * width - 1) ≤ 32 * 31
+  few_before = mul-le-mul {n₂ = 32} {m₂ = 31} (omega (arith, here.low)) (omega (arith, here.narrow))
 
-  pub few-before-down : (2 * y + 1) * (2 * width - 1) ≤ 33 * 31
-  few-before-down = mul-le-mul {n₂ = 33} {m₂ = 31} (omega (arith, here.low)) (omega (arith, here.narrow))
+  pub few_before_down : (2 * y + 1) * (2 * width - 1) ≤ 33 * 31
+  few_before_down = mul-le-mul {n₂ = 33} {m₂ = 31} (omega (arith, here.low)) (omega (arith, here.narrow))
 
-  pub few-below : (y + 1) * width ≤ 17 * 16
-  few-below = mul-le-mul {n₂ = 17} {m₂ = 16} (omega (arith, here.low)) here.narrow
+  pub few_below : (y + 1) * width ≤ 17 * 16
+  few_below = mul-le-mul {n₂ = 17} {m₂ = 16} (omega (arith, here.low)) here.narrow
 
   next_row : (y + 1) * width ≡ y * width + width
   next_row = ap (λ (n : ℕ). n * width) (add-one y) ∙ suc-mul y width
 
   -- THE PADS DIAGONALLY BELOW, as indexes and as pads
-  pub right-diagonal : (y + 1) * width + x + 1 ≡ diagonal on-right width (pad-index width y x)
+  pub right_diagonal : (y + 1) * width + x + 1 ≡ diagonal on_right width (pad_index width y x)
   unfolding diagonal
-  right-diagonal = omega (arith, next_row)
+  right_diagonal = omega (arith, next_row)
 
-  pub right-diagonal-pad : pad-index width (y + 1) (x + 1) ≡ diagonal on-right width (pad-index width y x)
+  pub right_diagonal_pad : pad_index width (y + 1) (x + 1) ≡ diagonal on_right width (pad_index width y x)
   unfolding diagonal
-  right-diagonal-pad = omega (arith, next_row)
+  right_diagonal_pad = omega (arith, next_row)
 
-  pub left-diagonal : 0 < x → (y + 1) * width + x - 1 ≡ diagonal on-left width (pad-index width y x)
+  pub left_diagonal : 0 < x → (y + 1) * width + x - 1 ≡ diagonal on_left width (pad_index width y x)
   unfolding diagonal
-  left-diagonal some = omega (arith, next_row)
+  left_diagonal some = omega (arith, next_row)
 
-  pub left-diagonal-pad : 0 < x → pad-index width (y + 1) (x - 1) ≡ diagonal on-left width (pad-index width y x)
+  pub left_diagonal_pad : 0 < x → pad_index width (y + 1) (x - 1) ≡ diagonal on_left width (pad_index width y x)
   unfolding diagonal
-  left-diagonal-pad some = omega (arith, next_row)
+  left_diagonal_pad some = omega (arith, next_row)
 
   -- THE TWO EDGES of the pad
   module _ (bytes : List ℕ) where
-    pub down_is : {r : Bool} → r ≡ eqb (get_or bytes ((2 * y + 1) * (2 * width - 1) + 2 * x) undecided-byte) line-byte → r ≡ (drawing-of width bytes).down (pad-index width y x)
-    unfolding drawing-of
-    down_is e = e ∙ rw (row_at, column-at) refl
+    pub down_is : {r : Bool} → r ≡ eqb (get_or bytes ((2 * y + 1) * (2 * width - 1) + 2 * x) undecided_byte) line_byte → r ≡ (drawing_of width bytes).down (pad_index width y x)
+    unfolding drawing_of
+    down_is e = e ∙ rw (row_at, column_at) refl
 
-    pub right_is : {r : Bool} → x + 1 < width → r ≡ eqb (get_or bytes (2 * y * (2 * width - 1) + (2 * x + 1)) undecided-byte) line-byte → r ≡ (drawing-of width bytes).right (pad-index width y x)
-    unfolding drawing-of
-    right_is inside e = e ∙ rw (row_at, column-at, lt-ltb (x + 1) width inside) refl
+    pub right_is : {r : Bool} → x + 1 < width → r ≡ eqb (get_or bytes (2 * y * (2 * width - 1) + (2 * x + 1)) undecided_byte) line_byte → r ≡ (drawing_of width bytes).right (pad_index width y x)
+    unfolding drawing_of
+    right_is inside e = e ∙ rw (row_at, column_at, lt-ltb (x + 1) width inside) refl
 
-    right-off : width ≤ x + 1 → (drawing-of width bytes).right (pad-index width y x) ≡ false
-    unfolding drawing-of
-    right-off last = rw (column-at, le-ltb (x + 1) width last) refl
+    right_off : width ≤ x + 1 → (drawing_of width bytes).right (pad_index width y x) ≡ false
+    unfolding drawing_of
+    right_off last = rw (column_at, le-ltb (x + 1) width last) refl
 
-    pub right-none : width ≤ x + 1 → ltb (x + 1) width ≡ (drawing-of width bytes).right (pad-index width y x)
-    right-none last = le-ltb (x + 1) width last ∙ sym (right-off last)
+    pub right_none : width ≤ x + 1 → ltb (x + 1) width ≡ (drawing_of width bytes).right (pad_index width y x)
+    right_none last = le-ltb (x + 1) width last ∙ sym (right_off last)
 
-    right-inside : (drawing-of width bytes).right (pad-index width y x) ≡ true → x + 1 < width
-    unfolding drawing-of
-    right-inside h = ltb-true _ _ (both (ltb (x + 1) width) _ (rw column-at at h)).0
+    right_inside : (drawing_of width bytes).right (pad_index width y x) ≡ true → x + 1 < width
+    unfolding drawing_of
+    right_inside h = ltb-true _ _ (both (ltb (x + 1) width) _ (rw column_at at h)).0
 
 -- CORNERS
 module _ (width y x : ℕ) (here : InColumn width y x) (bytes : List ℕ) where
   abbrev drawing : Drawing
-  drawing = drawing-of width bytes
+  drawing = drawing_of width bytes
 
   abbrev pad : ℕ
-  pad = pad-index width y x
+  pad = pad_index width y x
 
   -- to the right
   module _ {beside : Bool} (is : beside ≡ drawing.right pad) where
-    pub right-corner-if : {below : Bool} → below ≡ drawing.down pad → beside ≡ true → below ≡ has-corner on-right drawing pad
-    unfolding has-corner
-    right-corner-if down h = rw (← is, h) down
+    pub right_corner_if : {below : Bool} → below ≡ drawing.down pad → beside ≡ true → below ≡ has_corner on_right drawing pad
+    unfolding has_corner
+    right_corner_if down h = rw (← is, h) down
 
-    pub no-right-corner : beside ≡ false → beside ≡ has-corner on-right drawing pad
-    unfolding has-corner
-    no-right-corner h = rw (← is, h) refl
+    pub no_right_corner : beside ≡ false → beside ≡ has_corner on_right drawing pad
+    unfolding has_corner
+    no_right_corner h = rw (← is, h) refl
 
   -- a pad with the corner is not the last of its row
-  pub right-corner-inside : {r : Bool} → r ≡ has-corner on-right drawing pad → not r ≡ false → x + 1 < width
-  unfolding has-corner
-  right-corner-inside {r} is h = right-inside width y x here bytes (both (drawing.right pad) (drawing.down pad) (sym is ∙ not-false r h)).0
+  pub right_corner_inside : {r : Bool} → r ≡ has_corner on_right drawing pad → not r ≡ false → x + 1 < width
+  unfolding has_corner
+  right_corner_inside {r} is h = right_inside width y x here bytes (both (drawing.right pad) (drawing.down pad) (sym is ∙ not-false r h)).0
 
   -- to the left: the pad before a row's first one is the last of its row, and has no edge to the right
-  no-left-edge : x ≡ 0 → (leb 1 pad && drawing.right (pad - 1)) ≡ false
-  no-left-edge first = go y refl
+  no_left_edge : x ≡ 0 → (leb 1 pad && drawing.right (pad - 1)) ≡ false
+  no_left_edge first = go y refl
     where
       go : (row : ℕ) → y ≡ row → (leb 1 pad && drawing.right (pad - 1)) ≡ false
       go zero e = let none : pad ≡ 0 = rw (e, first) (omega arith) in rw none refl
       go (suc row) e =
           let last : InColumn width row (width - 1) = record { wide = here.wide; narrow = here.narrow; low = omega (arith, here.low); inside = omega (arith, here.wide) } in
-          let before : pad - 1 ≡ pad-index width row (width - 1) = rw (e, first) (omega (arith, suc-mul row width, here.wide)) in
-          rw before (both-off (leb 1 pad) (drawing.right (pad-index width row (width - 1))) (right-off width row (width - 1) last bytes (omega (arith, here.wide))))
+          let before : pad - 1 ≡ pad_index width row (width - 1) = rw (e, first) (omega (arith, suc-mul row width, here.wide)) in
+          rw before (both_off (leb 1 pad) (drawing.right (pad_index width row (width - 1))) (right_off width row (width - 1) last bytes (omega (arith, here.wide))))
 
-  pub no-left-corner-first : x ≡ 0 → false ≡ has-corner on-left drawing pad
-  unfolding has-corner
-  no-left-corner-first first = rw (no-left-edge first) refl
+  pub no_left_corner_first : x ≡ 0 → false ≡ has_corner on_left drawing pad
+  unfolding has_corner
+  no_left_corner_first first = rw (no_left_edge first) refl
 
   -- a pad with the corner is not the first of its row
-  pub left-corner-inside : {r : Bool} → r ≡ has-corner on-left drawing pad → not r ≡ false → 0 < x
-  left-corner-inside {r} is h = elim (ℕ_discrete x 0) [
-    | yes first ↦ conflict (sym is ∙ not-false r h) (sym (no-left-corner-first first))
+  pub left_corner_inside : {r : Bool} → r ≡ has_corner on_left drawing pad → not r ≡ false → 0 < x
+  left_corner_inside {r} is h = elim (ℕ_discrete x 0) [
+    | yes first ↦ conflict (sym is ∙ not-false r h) (sym (no_left_corner_first first))
     | no other ↦ omega arith
   ]
 
-  module _ (some : x ≡ 0 → ⊥) {beside : Bool} (is : beside ≡ drawing.right (pad-index width y (x - 1))) where
-    left-edge : (leb 1 pad && drawing.right (pad - 1)) ≡ beside
-    left-edge = let before : pad - 1 ≡ pad-index width y (x - 1) = omega arith in rw (le-leb 1 pad (omega arith), before) (sym is)
+  module _ (some : x ≡ 0 → ⊥) {beside : Bool} (is : beside ≡ drawing.right (pad_index width y (x - 1))) where
+    left_edge : (leb 1 pad && drawing.right (pad - 1)) ≡ beside
+    left_edge = let before : pad - 1 ≡ pad_index width y (x - 1) = omega arith in rw (le-leb 1 pad (omega arith), before) (sym is)
 
-    pub left-corner-if : {below : Bool} → below ≡ drawing.down pad → beside ≡ true → below ≡ has-corner on-left drawing pad
-    unfolding has-corner
-    left-corner-if down h = rw (left-edge, h) down
+    pub left_corner_if : {below : Bool} → below ≡ drawing.down pad → beside ≡ true → below ≡ has_corner on_left drawing pad
+    unfolding has_corner
+    left_corner_if down h = rw (left_edge, h) down
 
-    pub no-left-corner : beside ≡ false → beside ≡ has-corner on-left drawing pad
-    unfolding has-corner
-    no-left-corner h = rw (left-edge, h) refl
+    pub no_left_corner : beside ≡ false → beside ≡ has_corner on_left drawing pad
+    unfolding has_corner
+    no_left_corner h = rw (left_edge, h) refl
 
 -- THE CORNER RULE, on either side
-module _ (side : Side) (width : ℕ) (cells : List ℤ) (D : Drawing) (v : ℕ) {corner : Bool} (is : corner ≡ has-corner side D v) where
-  pub no-corner-keeps : not corner ≡ true → true ≡ corner-keeps side width cells D v
-  unfolding corner-keeps
-  no-corner-keeps h = rw (← is, not-true corner h) refl
+module _ (side : Side) (width : ℕ) (cells : List ℤ) (D : Drawing) (v : ℕ) {corner : Bool} (is : corner ≡ has_corner side D v) where
+  pub no_corner_keeps : not corner ≡ true → true ≡ corner_keeps side width cells D v
+  unfolding corner_keeps
+  no_corner_keeps h = rw (← is, not-true corner h) refl
 
   module _ (there : not corner ≡ false) (q : ℕ) (below : q ≡ diagonal side width v) {taken : Bool} (told : taken ≡ taken_at cells q) where
-    pub taken-keeps : taken ≡ true → taken ≡ corner-keeps side width cells D v
-    unfolding corner-keeps
-    taken-keeps h = rw (← is, not-false corner there, ← below, ← told, h) refl
+    pub taken_keeps : taken ≡ true → taken ≡ corner_keeps side width cells D v
+    unfolding corner_keeps
+    taken_keeps h = rw (← is, not-false corner there, ← below, ← told, h) refl
 
-    pub same-corner-keeps : taken ≡ false → {r : Bool} (p : ℕ) → p ≡ diagonal side width v → r ≡ has-corner side D p → r ≡ corner-keeps side width cells D v
-    unfolding corner-keeps
-    same-corner-keeps h p at e = rw (← is, not-false corner there, ← below, ← told, h) (e ∙ ap (has-corner side D) (at ∙ sym below))
+    pub same_corner_keeps : taken ≡ false → {r : Bool} (p : ℕ) → p ≡ diagonal side width v → r ≡ has_corner side D p → r ≡ corner_keeps side width cells D v
+    unfolding corner_keeps
+    same_corner_keeps h p at e = rw (← is, not-false corner there, ← below, ← told, h) (e ∙ ap (has_corner side D) (at ∙ sym below))
 
 -- UNIT SQUARES
 module _ (width y x : ℕ) (here : InColumn width y x) where
-  pub next-pad : pad-index width y (x + 1) ≡ pad-index width y x + 1
-  next-pad = omega arith
+  pub next_pad : pad_index width y (x + 1) ≡ pad_index width y x + 1
+  next_pad = omega arith
 
-  pub pad-below : pad-index width (y + 1) x ≡ pad-index width y x + width
-  pad-below = omega (arith, next_row width y x here)
+  pub pad_below : pad_index width (y + 1) x ≡ pad_index width y x + width
+  pad_below = omega (arith, next_row width y x here)
 
   -- the four lines are counted one by one
-  pub lines-counted : (D : Drawing) {a b c d : Bool} → a ≡ D.right (pad-index width y x) → b ≡ D.down (pad-index width y x) → c ≡ D.down (pad-index width y (x + 1)) → d ≡ D.right (pad-index width (y + 1) x)
-      → {k l m n total : ℕ} → k ≡ num a → l ≡ num b → m ≡ num c → n ≡ num d → total ≡ k + l + m + n → total ≡ lines-around width D (pad-index width y x)
-  lines-counted D above left right under ka lb mc nd sum =
-      let right' = right ∙ ap D.down next-pad in
-      let under' = under ∙ ap D.right pad-below in
+  pub lines_counted : (D : Drawing) {a b c d : Bool} → a ≡ D.right (pad_index width y x) → b ≡ D.down (pad_index width y x) → c ≡ D.down (pad_index width y (x + 1)) → d ≡ D.right (pad_index width (y + 1) x)
+      → {k l m n total : ℕ} → k ≡ num a → l ≡ num b → m ≡ num c → n ≡ num d → total ≡ k + l + m + n → total ≡ lines_around width D (pad_index width y x)
+  lines_counted D above left right under ka lb mc nd sum =
+      let right' = right ∙ ap D.down next_pad in
+      let under' = under ∙ ap D.right pad_below in
       sum ∙ ((λ i. ka i + lb i + mc i + nd i) ∙ (λ i. num (above i) + num (left i) + num (right' i) + num (under' i)))
 
   module _ (height : ℕ) (D : Drawing) where
-    pub last-column-keeps : width ≤ x + 1 → true ≡ square-keeps height width D (pad-index width y x)
-    unfolding square-keeps
-    last-column-keeps last = rw (column-at width y x here, le-ltb (x + 1) width last) refl
+    pub last_column_keeps : width ≤ x + 1 → true ≡ square_keeps height width D (pad_index width y x)
+    unfolding square_keeps
+    last_column_keeps last = rw (column_at width y x here, le-ltb (x + 1) width last) refl
 
     module _ (inside : x + 1 < width) where
-      pub last-row-keeps : height ≤ y + 1 → true ≡ square-keeps height width D (pad-index width y x)
-      unfolding square-keeps
-      last-row-keeps last =
+      pub last_row_keeps : height ≤ y + 1 → true ≡ square_keeps height width D (pad_index width y x)
+      unfolding square_keeps
+      last_row_keeps last =
           let rows : height * width ≤ (y + 1) * width = mul-le-mul_right width last in
-          rw (column-at width y x here, lt-ltb (x + 1) width inside, le-ltb (pad-index width y x + width) (height * width) (omega (arith, next_row width y x here))) refl
+          rw (column_at width y x here, lt-ltb (x + 1) width inside, le-ltb (pad_index width y x + width) (height * width) (omega (arith, next_row width y x here))) refl
 
-      pub few-keep : y + 1 < height → (lines : ℕ) → lines ≡ lines-around width D (pad-index width y x) → leb lines 2 ≡ square-keeps height width D (pad-index width y x)
-      unfolding square-keeps
-      few-keep more lines is =
+      pub few_keep : y + 1 < height → (lines : ℕ) → lines ≡ lines_around width D (pad_index width y x) → leb lines 2 ≡ square_keeps height width D (pad_index width y x)
+      unfolding square_keeps
+      few_keep more lines is =
           let rows : suc (y + 1) * width ≤ height * width = mul-le-mul_right width more in
-          let below : pad-index width y x + width < height * width = omega (arith, next_row width y x here, suc-mul (y + 1) width, here.inside) in
-          rw (column-at width y x here, lt-ltb (x + 1) width inside, lt-ltb (pad-index width y x + width) (height * width) below) (ap (λ (n : ℕ). leb n 2) is)
+          let below : pad_index width y x + width < height * width = omega (arith, next_row width y x here, suc-mul (y + 1) width, here.inside) in
+          rw (column_at width y x here, lt-ltb (x + 1) width inside, lt-ltb (pad_index width y x + width) (height * width) below) (ap (λ (n : ℕ). leb n 2) is)

@@ -9,27 +9,27 @@ use native.Mathlib.Numerals.{add-one}
 use native.Mathlib.Nat.{mod-lt, div-add-mod', div-lt_iff_lt-mul, mul-le-mul_right, suc-mul}
 use lib.IntN.{ℤ}
 use borrow.Author.Tests.{not-true, not-false}
-use Rattle.rules.specs.Grid.{pad-index, grid-of}
-use Rattle.rules.specs.Drawing.{Drawing, on-left, on-right}
-use Rattle.rules.specs.Record.{drawing-of}
-use Rattle.rules.specs.Tests.{both, both-on, conflict, not_so, all-below, all-below-at, all-below-so}
-use Rattle.rules.specs.CheckedListed.{squares-checked, corners-checked}
-use Rattle.model.specs.Judge.{has-listed-shape}
-use Rattle.judging.specs.Shape.{taken_at, square-keeps, corner-keeps, pad-keeps}
+use Rattle.rules.specs.Grid.{pad_index, grid_of}
+use Rattle.rules.specs.Drawing.{Drawing, on_left, on_right}
+use Rattle.rules.specs.Record.{drawing_of}
+use Rattle.rules.specs.Tests.{both, both_on, conflict, not_so, all_below, all_below_at, all_below_so}
+use Rattle.rules.specs.CheckedListed.{squares_checked, corners_checked}
+use Rattle.model.specs.Judge.{has_listed_shape}
+use Rattle.judging.specs.Shape.{taken_at, square_keeps, corner_keeps, pad_keeps}
 
 -- THE LOOP
 module _ (test : ℕ → Bool) where
-  pub none-tested : all-below test 0 ≡ true
-  unfolding all-below
-  none-tested = refl
+  pub none_tested : all_below test 0 ≡ true
+  unfolding all_below
+  none_tested = refl
 
   module _ (i : ℕ) {r : Bool} (is : r ≡ test i) where
-    pub fails : (n : ℕ) → i < n → not r ≡ true → false ≡ all-below test n
-    fails n inside h = sym (not_so (all-below test n) (λ all. conflict (all-below-at test n all i inside) (sym is ∙ not-true r h)))
+    pub fails : (n : ℕ) → i < n → not r ≡ true → false ≡ all_below test n
+    fails n inside h = sym (not_so (all_below test n) (λ all. conflict (all_below_at test n all i inside) (sym is ∙ not-true r h)))
 
-    pub passes : all-below test i ≡ true → not r ≡ false → all-below test (i + 1) ≡ true
-    unfolding all-below
-    passes all h = rw (add-one i) (both-on all (sym is ∙ not-false r h))
+    pub passes : all_below test i ≡ true → not r ≡ false → all_below test (i + 1) ≡ true
+    unfolding all_below
+    passes all h = rw (add-one i) (both_on all (sym is ∙ not-false r h))
 
 -- two tests that follow from each other are one
 same_truth : (a b : Bool) → (a ≡ true → b ≡ true) → (b ≡ true → a ≡ true) → a ≡ b
@@ -38,51 +38,51 @@ same_truth false true to from = from refl
 same_truth false false to from = refl
 
 -- three tests in one
-three-tests : (f g k : ℕ → Bool) (n : ℕ) → all-below f n && (all-below g n && all-below k n) ≡ all-below (λ v. f v && (g v && k v)) n
-three-tests f g k n = same_truth _ _ together apart
+three_tests : (f g k : ℕ → Bool) (n : ℕ) → all_below f n && (all_below g n && all_below k n) ≡ all_below (λ v. f v && (g v && k v)) n
+three_tests f g k n = same_truth _ _ together apart
   where
-    together : all-below f n && (all-below g n && all-below k n) ≡ true → all-below (λ v. f v && (g v && k v)) n ≡ true
-    together h = let (a, rest) = both (all-below f n) _ h in let (b, c) = both (all-below g n) _ rest in
-        all-below-so _ n (λ v l. both-on (all-below-at f n a v l) (both-on (all-below-at g n b v l) (all-below-at k n c v l)))
+    together : all_below f n && (all_below g n && all_below k n) ≡ true → all_below (λ v. f v && (g v && k v)) n ≡ true
+    together h = let (a, rest) = both (all_below f n) _ h in let (b, c) = both (all_below g n) _ rest in
+        all_below_so _ n (λ v l. both_on (all_below_at f n a v l) (both_on (all_below_at g n b v l) (all_below_at k n c v l)))
 
-    apart : all-below (λ v. f v && (g v && k v)) n ≡ true → all-below f n && (all-below g n && all-below k n) ≡ true
-    apart h = both-on (all-below-so f n (λ v l. (both (f v) _ (all-below-at _ n h v l)).0))
-        (both-on (all-below-so g n (λ v l. (both (g v) _ (both (f v) _ (all-below-at _ n h v l)).1).0))
-        (all-below-so k n (λ v l. (both (g v) _ (both (f v) _ (all-below-at _ n h v l)).1).1)))
+    apart : all_below (λ v. f v && (g v && k v)) n ≡ true → all_below f n && (all_below g n && all_below k n) ≡ true
+    apart h = both_on (all_below_so f n (λ v l. (both (f v) _ (all_below_at _ n h v l)).0))
+        (both_on (all_below_so g n (λ v l. (both (g v) _ (both (f v) _ (all_below_at _ n h v l)).1).0))
+        (all_below_so k n (λ v l. (both (g v) _ (both (f v) _ (all_below_at _ n h v l)).1).1)))
 
 -- row by row
-pub pad-inside : (height width y x : ℕ) → y < height → x < width → pad-index width y x < height * width
-pad-inside height width y x low inside =
+pub pad_inside : (height width y x : ℕ) → y < height → x < width → pad_index width y x < height * width
+pad_inside height width y x low inside =
     let rows : suc y * width ≤ height * width = mul-le-mul_right width low in
     omega (arith, suc-mul y width)
 
-pub by_rows : (test : ℕ → Bool) (height width : ℕ) → 0 < width → all-below (λ y. all-below (λ x. test (pad-index width y x)) width) height ≡ all-below test (height * width)
-by_rows test height width some = same_truth _ _ rows-to-pads pads-to-rows
+pub by_rows : (test : ℕ → Bool) (height width : ℕ) → 0 < width → all_below (λ y. all_below (λ x. test (pad_index width y x)) width) height ≡ all_below test (height * width)
+by_rows test height width some = same_truth _ _ rows_to_pads pads_to_rows
   where
-    rows-to-pads : all-below (λ y. all-below (λ x. test (pad-index width y x)) width) height ≡ true → all-below test (height * width) ≡ true
-    rows-to-pads h = all-below-so test (height * width) (λ v l. ap test (sym (div-add-mod' v width))
-        ∙ all-below-at (λ x. test (pad-index width (v / width) x)) width (all-below-at _ height h (v / width) ((div-lt_iff_lt-mul some).1 l)) (v % width) (mod-lt v some))
+    rows_to_pads : all_below (λ y. all_below (λ x. test (pad_index width y x)) width) height ≡ true → all_below test (height * width) ≡ true
+    rows_to_pads h = all_below_so test (height * width) (λ v l. ap test (sym (div-add-mod' v width))
+        ∙ all_below_at (λ x. test (pad_index width (v / width) x)) width (all_below_at _ height h (v / width) ((div-lt_iff_lt-mul some).1 l)) (v % width) (mod-lt v some))
 
-    pads-to-rows : all-below test (height * width) ≡ true → all-below (λ y. all-below (λ x. test (pad-index width y x)) width) height ≡ true
-    pads-to-rows h = all-below-so _ height (λ y low. all-below-so _ width (λ x inside. all-below-at test (height * width) h (pad-index width y x) (pad-inside height width y x low inside)))
+    pads_to_rows : all_below test (height * width) ≡ true → all_below (λ y. all_below (λ x. test (pad_index width y x)) width) height ≡ true
+    pads_to_rows h = all_below_so _ height (λ y low. all_below_so _ width (λ x inside. all_below_at test (height * width) h (pad_index width y x) (pad_inside height width y x low inside)))
 
 -- THE SHAPE OF A LISTED DRAWING, row by row
-pub shape-by-rows : (height width : ℕ) (cells : List ℤ) (bytes : List ℕ) → 0 < width
-    → all-below (λ y. all-below (λ x. pad-keeps height width cells (drawing-of width bytes) (pad-index width y x)) width) height ≡ has-listed-shape (grid-of height width cells) bytes
-unfolding has-listed-shape squares-checked corners-checked grid-of pad-keeps square-keeps corner-keeps taken_at
-shape-by-rows height width cells bytes some = by_rows (pad-keeps height width cells (drawing-of width bytes)) height width some ∙ sym (three-tests _ _ _ (height * width))
+pub shape_by_rows : (height width : ℕ) (cells : List ℤ) (bytes : List ℕ) → 0 < width
+    → all_below (λ y. all_below (λ x. pad_keeps height width cells (drawing_of width bytes) (pad_index width y x)) width) height ≡ has_listed_shape (grid_of height width cells) bytes
+unfolding has_listed_shape squares_checked corners_checked grid_of pad_keeps square_keeps corner_keeps taken_at
+shape_by_rows height width cells bytes some = by_rows (pad_keeps height width cells (drawing_of width bytes)) height width some ∙ sym (three_tests _ _ _ (height * width))
 
 -- the three tests of a pad, one after the other
-module _ (height width : ℕ) (cells : List ℤ) (D : Drawing) (v : ℕ) {square : Bool} (s : square ≡ square-keeps height width D v) where
-  pub square-fails : not square ≡ true → false ≡ pad-keeps height width cells D v
-  unfolding pad-keeps
-  square-fails h = rw (← s, not-true square h) refl
+module _ (height width : ℕ) (cells : List ℤ) (D : Drawing) (v : ℕ) {square : Bool} (s : square ≡ square_keeps height width D v) where
+  pub square_fails : not square ≡ true → false ≡ pad_keeps height width cells D v
+  unfolding pad_keeps
+  square_fails h = rw (← s, not-true square h) refl
 
-  module _ (ok : not square ≡ false) {left : Bool} (l : left ≡ corner-keeps on-left width cells D v) where
-    pub left-fails : left ≡ false → left ≡ pad-keeps height width cells D v
-    unfolding pad-keeps
-    left-fails h = rw (← s, not-false square ok, ← l, h) refl
+  module _ (ok : not square ≡ false) {left : Bool} (l : left ≡ corner_keeps on_left width cells D v) where
+    pub left_fails : left ≡ false → left ≡ pad_keeps height width cells D v
+    unfolding pad_keeps
+    left_fails h = rw (← s, not-false square ok, ← l, h) refl
 
-    pub right-decides : left ≡ true → {right : Bool} → right ≡ corner-keeps on-right width cells D v → right ≡ pad-keeps height width cells D v
-    unfolding pad-keeps
-    right-decides h r = rw (← s, not-false square ok, ← l, h) r
+    pub right_decides : left ≡ true → {right : Bool} → right ≡ corner_keeps on_right width cells D v → right ≡ pad_keeps height width cells D v
+    unfolding pad_keeps
+    right_decides h r = rw (← s, not-false square ok, ← l, h) r

@@ -4,8 +4,8 @@ use Rattle.model.specs.Choice.{if◌then◌else◌}
 use Rattle.model.specs.Judge as model
 use Rattle.judging.specs.declared.Judged.{Judged}
 
-abbrev pub judged-says : Judged → model.Judged
-judged-says r = record { number = r.number; index = r.index; verdict = r.verdict; lines = r.lines }
+abbrev pub judged_says : Judged → model.Judged
+judged_says r = record { number = r.number; index = r.index; verdict = r.verdict; lines = r.lines }
 
 -- the verdict by the pads: whether they are finished, and whether they keep the rules of a listed drawing
 abbrev pub mark : Bool → Bool → ℕ

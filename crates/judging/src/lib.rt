@@ -3,15 +3,15 @@
 // rules say. The ends of the pads are joined line by line, by the functions that step c of a decision calls. The places are gone through
 // once, and then the pads once.
 ghost use Rattle.std.specs.Prelude.{◌≡◌, ◌+◌, ◌*◌, ◌≤◌, ◌<◌, eqb, length, get_or};
-ghost use Rattle.rules.specs.Grid.{pad-index, place_at, field-side, places, grid-of, Accepted};
-ghost use Rattle.rules.specs.Drawing.{on-left, on-right};
-ghost use Rattle.rules.specs.Record.{line-byte, undecided-byte, drawing-of, record-lines};
-ghost use Rattle.rules.specs.Tests.{all-below};
-ghost use Rattle.rules.specs.CheckedListed.{has-corner};
+ghost use Rattle.rules.specs.Grid.{pad_index, place_at, field_side, places, grid_of, Accepted};
+ghost use Rattle.rules.specs.Drawing.{on_left, on_right};
+ghost use Rattle.rules.specs.Record.{line_byte, undecided_byte, drawing_of, record_lines};
+ghost use Rattle.rules.specs.Tests.{all_below};
+ghost use Rattle.rules.specs.CheckedListed.{has_corner};
 ghost use Rattle.model.specs.Judge as model;
-ghost use Rattle.judging.specs.Judging.{judged-says, mark, answer};
-ghost use Rattle.judging.specs.Following.{InUse, Stepped, lines-in, FollowedOn, finished-at};
-ghost use Rattle.judging.specs.Shape.{InColumn, taken_at, lines-around, square-keeps, corner-keeps, pad-keeps};
+ghost use Rattle.judging.specs.Judging.{judged_says, mark, answer};
+ghost use Rattle.judging.specs.Following.{InUse, Stepped, lines_in, FollowedOn, finished_at};
+ghost use Rattle.judging.specs.Shape.{InColumn, taken_at, lines_around, square_keeps, corner_keeps, pad_keeps};
 
 use grid::{BLANK, Edge, HOLE, Pads};
 
@@ -54,7 +54,7 @@ fn follow_line(ends: &mut [i64; 512], first: usize, second: usize) -> bool
 // Follows the byte of an edge: 1 for a line, 2 for none, and no other.
 fn follow_edge(ends: &mut [i64; 512], first: usize, second: usize, byte: u8) -> bool
     requires { (first < 512) × (second < 512) × InUse ends.old }
-    ensures { Stepped (model.after-edge first second byte) ends.old result ends.new }
+    ensures { Stepped (model.after_edge first second byte) ends.old result ends.new }
 {
     if byte == LINE {
         return follow_line(ends, first, second);
@@ -65,7 +65,7 @@ fn follow_edge(ends: &mut [i64; 512], first: usize, second: usize, byte: u8) -> 
 // Follows the byte of a place; between the edges it is 0.
 fn follow_place(ends: &mut [i64; 512], width: usize, row: usize, column: usize, byte: u8) -> bool
     requires { (width ≤ 16) × (row < 31) × (column < 31) × InUse ends.old }
-    ensures { Stepped (model.after-place width (place_at width row column) byte) ends.old result ends.new }
+    ensures { Stepped (model.after_place width (place_at width row column) byte) ends.old result ends.new }
 {
     match grid::pads_at(width, row, column) {
         Pads::Beside(first, second) => follow_edge(ends, first, second, byte),
@@ -82,8 +82,8 @@ fn follow_row(
     bytes: &[u8],
     lines: usize,
 ) -> Followed
-    requires { (2 ≤ width) × (width ≤ 16) × (row < 31) × (row * field-side width + field-side width ≤ length bytes.now) × InUse ends.old × (lines ≡ lines-in bytes.now (row * field-side width)) }
-    ensures { FollowedOn width bytes.now (row * field-side width) (row * field-side width + field-side width) ends.old result ends.new }
+    requires { (2 ≤ width) × (width ≤ 16) × (row < 31) × (row * field_side width + field_side width ≤ length bytes.now) × InUse ends.old × (lines ≡ lines_in bytes.now (row * field_side width)) }
+    ensures { FollowedOn width bytes.now (row * field_side width) (row * field_side width + field_side width) ends.old result ends.new }
 {
     let side = 2 * width - 1;
     let mut found = lines;
@@ -126,7 +126,7 @@ fn follow_record(ends: &mut [i64; 512], height: usize, width: usize, bytes: &[u8
 // Whether a pad is finished: a clue has its line, a blank pad two or none, a hole none.
 fn is_finished(cells: &[i64], ends: &[i64; 512], v: usize) -> bool
     requires { (v < length cells.now) × (v < 512) × (length ends.now ≡ 512) }
-    ensures { result ≡ finished-at cells.now ends.now v }
+    ensures { result ≡ finished_at cells.now ends.now v }
 {
     let cell = cells[v];
     let end = ends[v];
@@ -141,7 +141,7 @@ fn is_finished(cells: &[i64], ends: &[i64; 512], v: usize) -> bool
 
 // Whether the place of that number holds a line; past the record's end there is none.
 fn line_at(bytes: &[u8], place: usize) -> bool
-    ensures { result ≡ eqb (get_or bytes.now place undecided-byte) line-byte }
+    ensures { result ≡ eqb (get_or bytes.now place undecided_byte) line_byte }
 {
     if place < bytes.len() {
         return bytes[place] == LINE;
@@ -152,7 +152,7 @@ fn line_at(bytes: &[u8], place: usize) -> bool
 // Whether pad (y, x) has a line to the right, at place (2y, 2x+1).
 fn right_at(bytes: &[u8], width: usize, y: usize, x: usize) -> bool
     requires { InColumn width y x }
-    ensures { result ≡ (drawing-of width bytes.now).right (pad-index width y x) }
+    ensures { result ≡ (drawing_of width bytes.now).right (pad_index width y x) }
 {
     x + 1 < width && line_at(bytes, 2 * y * (2 * width - 1) + (2 * x + 1))
 }
@@ -160,7 +160,7 @@ fn right_at(bytes: &[u8], width: usize, y: usize, x: usize) -> bool
 // Whether it has a line downward, at place (2y+1, 2x).
 fn down_at(bytes: &[u8], width: usize, y: usize, x: usize) -> bool
     requires { InColumn width y x }
-    ensures { result ≡ (drawing-of width bytes.now).down (pad-index width y x) }
+    ensures { result ≡ (drawing_of width bytes.now).down (pad_index width y x) }
 {
     line_at(bytes, (2 * y + 1) * (2 * width - 1) + 2 * x)
 }
@@ -178,7 +178,7 @@ fn is_taken(cells: &[i64], v: usize) -> bool
 // Whether pad (y, x) has the lines right and down.
 fn right_corner(bytes: &[u8], width: usize, y: usize, x: usize) -> bool
     requires { InColumn width y x }
-    ensures { result ≡ has-corner on-right (drawing-of width bytes.now) (pad-index width y x) }
+    ensures { result ≡ has_corner on_right (drawing_of width bytes.now) (pad_index width y x) }
 {
     right_at(bytes, width, y, x) && down_at(bytes, width, y, x)
 }
@@ -186,7 +186,7 @@ fn right_corner(bytes: &[u8], width: usize, y: usize, x: usize) -> bool
 // Whether it has the lines left and down.
 fn left_corner(bytes: &[u8], width: usize, y: usize, x: usize) -> bool
     requires { InColumn width y x }
-    ensures { result ≡ has-corner on-left (drawing-of width bytes.now) (pad-index width y x) }
+    ensures { result ≡ has_corner on_left (drawing_of width bytes.now) (pad_index width y x) }
 {
     if x == 0 {
         return false;
@@ -197,7 +197,7 @@ fn left_corner(bytes: &[u8], width: usize, y: usize, x: usize) -> bool
 // The corner rule at pad (y, x), to the right: diagonally below stands a clue or a hole, or the same corner.
 fn right_corner_keeps(bytes: &[u8], width: usize, cells: &[i64], y: usize, x: usize) -> bool
     requires { InColumn width y x × (y < 16) }
-    ensures { result ≡ corner-keeps on-right width cells.now (drawing-of width bytes.now) (pad-index width y x) }
+    ensures { result ≡ corner_keeps on_right width cells.now (drawing_of width bytes.now) (pad_index width y x) }
 {
     if !right_corner(bytes, width, y, x) {
         return true;
@@ -208,7 +208,7 @@ fn right_corner_keeps(bytes: &[u8], width: usize, cells: &[i64], y: usize, x: us
 // The same to the left.
 fn left_corner_keeps(bytes: &[u8], width: usize, cells: &[i64], y: usize, x: usize) -> bool
     requires { InColumn width y x × (y < 16) }
-    ensures { result ≡ corner-keeps on-left width cells.now (drawing-of width bytes.now) (pad-index width y x) }
+    ensures { result ≡ corner_keeps on_left width cells.now (drawing_of width bytes.now) (pad_index width y x) }
 {
     if !left_corner(bytes, width, y, x) {
         return true;
@@ -219,7 +219,7 @@ fn left_corner_keeps(bytes: &[u8], width: usize, cells: &[i64], y: usize, x: usi
 // The number of lines in the unit square of pad (y, x): above, on the left, on the right, below.
 fn square_lines(bytes: &[u8], width: usize, y: usize, x: usize) -> usize
     requires { InColumn width y x × (y < 16) × (x + 1 < width) }
-    ensures { result ≡ lines-around width (drawing-of width bytes.now) (pad-index width y x) }
+    ensures { result ≡ lines_around width (drawing_of width bytes.now) (pad_index width y x) }
 {
     let above = boardparts::one_if(right_at(bytes, width, y, x));
     let left = boardparts::one_if(down_at(bytes, width, y, x));
@@ -231,7 +231,7 @@ fn square_lines(bytes: &[u8], width: usize, y: usize, x: usize) -> usize
 // At most two lines in the unit square of pad (y, x), if it has one.
 fn square_keeps(bytes: &[u8], height: usize, width: usize, y: usize, x: usize) -> bool
     requires { InColumn width y x × (height ≤ 16) × (y < height) }
-    ensures { result ≡ square-keeps height width (drawing-of width bytes.now) (pad-index width y x) }
+    ensures { result ≡ square_keeps height width (drawing_of width bytes.now) (pad_index width y x) }
 {
     if x + 1 < width {
         if y + 1 < height {
@@ -244,7 +244,7 @@ fn square_keeps(bytes: &[u8], height: usize, width: usize, y: usize, x: usize) -
 // The rules of a listed drawing at pad (y, x).
 fn pad_keeps(height: usize, width: usize, cells: &[i64], bytes: &[u8], y: usize, x: usize) -> bool
     requires { InColumn width y x × (height ≤ 16) × (y < height) }
-    ensures { result ≡ pad-keeps height width cells.now (drawing-of width bytes.now) (pad-index width y x) }
+    ensures { result ≡ pad_keeps height width cells.now (drawing_of width bytes.now) (pad_index width y x) }
 {
     if !square_keeps(bytes, height, width, y, x) {
         return false;
@@ -262,7 +262,7 @@ fn row_verdict(
     y: usize,
 ) -> u8
     requires { Accepted height width cells.now × (length ends.now ≡ 512) × (y < height) }
-    ensures { result ≡ mark (all-below (λ x. finished-at cells.now ends.now (pad-index width y x)) width) (all-below (λ x. pad-keeps height width cells.now (drawing-of width bytes.now) (pad-index width y x)) width) }
+    ensures { result ≡ mark (all_below (λ x. finished_at cells.now ends.now (pad_index width y x)) width) (all_below (λ x. pad_keeps height width cells.now (drawing_of width bytes.now) (pad_index width y x)) width) }
 {
     let mut least = 2;
     let mut x = 0;
@@ -281,7 +281,7 @@ fn row_verdict(
 // The verdict by all pads, the least of the rows.
 fn pads_verdict(height: usize, width: usize, cells: &[i64], bytes: &[u8], ends: &[i64; 512]) -> u8
     requires { Accepted height width cells.now × (length ends.now ≡ 512) }
-    ensures { result ≡ mark (all-below (finished-at cells.now ends.now) (height * width)) (model.has-listed-shape (grid-of height width cells.now) bytes.now) }
+    ensures { result ≡ mark (all_below (finished_at cells.now ends.now) (height * width)) (model.has_listed_shape (grid_of height width cells.now) bytes.now) }
 {
     let mut least = 2;
     let mut y = 0;
@@ -300,7 +300,7 @@ fn pads_verdict(height: usize, width: usize, cells: &[i64], bytes: &[u8], ends: 
 
 // The answer for an accepted grid: a verdict with the lines, 0 beside 0.
 fn answered(verdict: u8, lines: usize) -> Judged
-    ensures { judged-says result ≡ answer verdict lines }
+    ensures { judged_says result ≡ answer verdict lines }
 {
     if verdict == 0 {
         return Judged {
@@ -321,7 +321,7 @@ fn answered(verdict: u8, lines: usize) -> Judged
 // Judges a record of an accepted grid: its length, its places, the pads.
 pub fn judge_record(height: usize, width: usize, cells: &[i64], bytes: &[u8]) -> Judged
     requires { Accepted height width cells.now }
-    ensures { judged-says result ≡ answer (model.verdict (grid-of height width cells.now) bytes.now) (record-lines bytes.now) }
+    ensures { judged_says result ≡ answer (model.verdict (grid_of height width cells.now) bytes.now) (record_lines bytes.now) }
 {
     if bytes.len() != (2 * height - 1) * (2 * width - 1) {
         return answered(0, 0);
@@ -335,7 +335,7 @@ pub fn judge_record(height: usize, width: usize, cells: &[i64], bytes: &[u8]) ->
 
 // Judges a record: the grid's refusals beside a 0, or the verdict with the lines.
 pub fn judge(height: usize, width: usize, cells: &[i64], bytes: &[u8]) -> Judged
-    ensures { judged-says result ≡ model.judge height width cells.now bytes.now }
+    ensures { judged_says result ≡ model.judge height width cells.now bytes.now }
 {
     let refusal = grid::grid_refusal(height, width, cells);
     if refusal.number != 0 {

@@ -20,8 +20,8 @@ pub record Copied {A : Type 0} (source start : List A) (place : ℕ) (target : L
   pub same_length : length target ≡ length start
 
 module _ {A : Type 0} (source start : List A) (place : ℕ) (fits : place + length source ≤ length start) where
-  pub none-copied : Copied source start place start 0
-  none-copied = record { within = omega arith; holds = paste-zero start place source; same_length = refl }
+  pub none_copied : Copied source start place start 0
+  none_copied = record { within = omega arith; holds = paste-zero start place source; same_length = refl }
 
   -- a store of the source's next element
   pub one_more : {target : List A} {i : ℕ} {value : A} (z : A) → value ≡ get_or source i z → i < length source
@@ -32,8 +32,8 @@ module _ {A : Type 0} (source start : List A) (place : ℕ) (fits : place + leng
       ∙ paste-suc start place source i z (omega arith) below ∙ ap (λ (n : ℕ). paste start place source n) (sym (add-one i)) in
       record { within = omega arith; holds = stored; same_length = ap length stored ∙ length-paste start place source (i + 1) (omega arith) (omega arith) }
 
-  pub all-copied : {target : List A} {i : ℕ} → length source ≤ i → Copied source start place target i → target ≡ paste start place source (length source)
-  all-copied {target} {i} ended copied = copied.holds ∙ ap (λ (n : ℕ). paste start place source n) (le_antisymm copied.within ended)
+  pub all_copied : {target : List A} {i : ℕ} → length source ≤ i → Copied source start place target i → target ≡ paste start place source (length source)
+  all_copied {target} {i} ended copied = copied.holds ∙ ap (λ (n : ℕ). paste start place source n) (le_antisymm copied.within ended)
 
 -- an i64 that was stored as its bits is the same number
 pub back : {z : ℤ} → SFits w64 z → to_z w64 (of_z w64 z) ≡ z

@@ -4,9 +4,9 @@ use Rattle.std.specs.Prelude.{ℕ, Bool, ◌&&◌, leb}
 use Rattle.rules.specs.Grid.{least_size, largest_size}
 
 -- is this a number of rows, or of columns?
-unfoldable pub is-size : ℕ → Bool
-is-size n = leb least_size n && leb n largest_size
+unfoldable pub is_size : ℕ → Bool
+is_size n = leb least_size n && leb n largest_size
 
 -- a field of a grid file has at most this many digits
-unfoldable pub most-digits : ℕ
-most-digits = 10
+unfoldable pub most_digits : ℕ
+most_digits = 10

@@ -6,60 +6,60 @@ use Rattle.rules.specs.Grid.{Cell, blank, clue, hole}
 -- THE END of a pad: a line passes through it, or the other end of its chain is this pad, or a clue of this code.
 pub data End : Type 0 where
   through : End
-  at-pad : ℕ → End
-  at-clue : ℕ → End
+  at_pad : ℕ → End
+  at_clue : ℕ → End
 
 -- document 01's end number: -1 through, the index of a pad, -v - 2 for a clue of value v
-unfoldable pub end-number : End → ℤ
-end-number through = negsuc 0
-end-number (at-pad v) = pos v
-end-number (at-clue code) = negsuc (suc code)
+unfoldable pub end_number : End → ℤ
+end_number through = negsuc 0
+end_number (at_pad v) = pos v
+end_number (at_clue code) = negsuc (suc code)
 
 -- where there is no line yet, a clue's end is at its code, any other pad's at itself
-abbrev pub bare-end : ℕ → Cell → End
-bare-end v blank = at-pad v
-bare-end v (clue c) = at-clue c
-bare-end v hole = at-pad v
+abbrev pub bare_end : ℕ → Cell → End
+bare_end v blank = at_pad v
+bare_end v (clue c) = at_clue c
+bare_end v hole = at_pad v
 
 abbrev pub is_through : End → Bool
 is_through through = true
-is_through (at-pad a) = false
-is_through (at-clue c) = false
+is_through (at_pad a) = false
+is_through (at_clue c) = false
 
 -- both end numbers are negative, and they are unequal
-abbrev pub unequal-negative : End → End → Bool
-unequal-negative through through = false
-unequal-negative through (at-pad b) = false
-unequal-negative through (at-clue d) = true
-unequal-negative (at-pad a) B = false
-unequal-negative (at-clue c) through = true
-unequal-negative (at-clue c) (at-pad b) = false
-unequal-negative (at-clue c) (at-clue d) = not (eqb c d)
+abbrev pub unequal_negative : End → End → Bool
+unequal_negative through through = false
+unequal_negative through (at_pad b) = false
+unequal_negative through (at_clue d) = true
+unequal_negative (at_pad a) B = false
+unequal_negative (at_clue c) through = true
+unequal_negative (at_clue c) (at_pad b) = false
+unequal_negative (at_clue c) (at_clue d) = not (eqb c d)
 
-abbrev pub isPad : End → ℕ → Bool
-isPad through v = false
-isPad (at-pad a) v = eqb a v
-isPad (at-clue c) v = false
+abbrev pub is_pad : End → ℕ → Bool
+is_pad through v = false
+is_pad (at_pad a) v = eqb a v
+is_pad (at_clue c) v = false
 
 -- A LINE CANNOT BE between two pads, by their ends A and B and the second pad's index: one of them can take no line more, two codes would
 -- meet, or the chain would close
 unfoldable pub unjoinable : End → End → ℕ → Bool
-unjoinable A B v = is_through A || (is_through B || (unequal-negative A B || isPad A v))
+unjoinable A B v = is_through A || (is_through B || (unequal_negative A B || is_pad A v))
 
 -- one end changed
 abbrev pub pick_end : Bool → End → End → End
 pick_end true a b = a
 pick_end false a b = b
 
-unfoldable pub put-end : (ℕ → End) → ℕ → End → ℕ → End
-put-end ends v e u = pick_end (eqb u v) e (ends u)
+unfoldable pub put_end : (ℕ → End) → ℕ → End → ℕ → End
+put_end ends v e u = pick_end (eqb u v) e (ends u)
 
 -- the end of the pad that `at` names, if it names one
-unfoldable pub put-end-at : (ℕ → End) → End → End → ℕ → End
-put-end-at ends through e = ends
-put-end-at ends (at-clue c) e = ends
-put-end-at ends (at-pad v) e = put-end ends v e
+unfoldable pub put_end_at : (ℕ → End) → End → End → ℕ → End
+put_end_at ends through e = ends
+put_end_at ends (at_clue c) e = ends
+put_end_at ends (at_pad v) e = put_end ends v e
 
 -- JOINED: both pads get -1, then pad A (if there is one) gets B and pad B gets A
-unfoldable pub joined-ends : (ℕ → End) → ℕ → ℕ → End → End → ℕ → End
-joined-ends ends u v A B = put-end-at (put-end-at (put-end (put-end ends u through) v through) A B) B A
+unfoldable pub joined_ends : (ℕ → End) → ℕ → ℕ → End → End → ℕ → End
+joined_ends ends u v A B = put_end_at (put_end_at (put_end (put_end ends u through) v through) A B) B A

@@ -4,13 +4,13 @@
 -- `ruletest`. It rests on JoinedEnds.antt and knows nothing of boards and searches.
 use Rattle.model.specs.Choice.{if◌then◌else◌}
 use Rattle.std.specs.Prelude.{ℕ, zero, suc, ◌%◌, ◌/◌, Bool, false, ◌&&◌, ◌||◌, List, eqb, get_or, length, ℤ}
-use Rattle.rules.specs.Grid.{first, second, Place, edge, no_edge, place_at, field-side, places, Cell, blank, clue, hole, Grid, grid-of, pads}
-use Rattle.rules.specs.Drawing.{on-left, on-right}
-use Rattle.rules.specs.Record.{undecided-byte, line-byte, none-byte, drawing-of, record-lines}
-use Rattle.rules.specs.Tests.{all-below}
-use Rattle.rules.specs.CheckedListed.{squares-checked, corners-checked}
-use Rattle.model.specs.Refusals.{grid-refusal}
-use Rattle.model.specs.JoinedEnds.{End, is_through, isPad, bare-end, unjoinable, joined-ends}
+use Rattle.rules.specs.Grid.{first, second, Place, edge, no_edge, place_at, field_side, places, Cell, blank, clue, hole, Grid, grid_of, pads}
+use Rattle.rules.specs.Drawing.{on_left, on_right}
+use Rattle.rules.specs.Record.{undecided_byte, line_byte, none_byte, drawing_of, record_lines}
+use Rattle.rules.specs.Tests.{all_below}
+use Rattle.rules.specs.CheckedListed.{squares_checked, corners_checked}
+use Rattle.model.specs.Refusals.{grid_refusal}
+use Rattle.model.specs.JoinedEnds.{End, is_through, is_pad, bare_end, unjoinable, joined_ends}
 
 -- FOLLOWED: the ends of the pads after some places of a record, as long as no byte and no line was wrong
 pub data Followed : Type 0 where
@@ -19,29 +19,29 @@ pub data Followed : Type 0 where
 
 -- a line between pads u and v
 unfoldable pub after_line : ℕ → ℕ → (ℕ → End) → Followed
-after_line u v ends = if unjoinable (ends u) (ends v) v then wrong else so_far (joined-ends ends u v (ends u) (ends v))
+after_line u v ends = if unjoinable (ends u) (ends v) v then wrong else so_far (joined_ends ends u v (ends u) (ends v))
 
 -- the byte of an edge between them is 1, a line, or 2, none
-unfoldable pub after-edge : ℕ → ℕ → ℕ → (ℕ → End) → Followed
-after-edge u v byte ends =
-    if eqb byte line-byte then after_line u v ends
-    else if eqb byte none-byte then so_far ends
+unfoldable pub after_edge : ℕ → ℕ → ℕ → (ℕ → End) → Followed
+after_edge u v byte ends =
+    if eqb byte line_byte then after_line u v ends
+    else if eqb byte none_byte then so_far ends
     else wrong
 
 -- and between the edges the bytes are 0
-unfoldable pub after-place : ℕ → Place → ℕ → (ℕ → End) → Followed
-after-place width (edge e) byte ends = after-edge (first e) (second width e) byte ends
-after-place width no_edge byte ends = if eqb byte undecided-byte then so_far ends else wrong
+unfoldable pub after_place : ℕ → Place → ℕ → (ℕ → End) → Followed
+after_place width (edge e) byte ends = after_edge (first e) (second width e) byte ends
+after_place width no_edge byte ends = if eqb byte undecided_byte then so_far ends else wrong
 
 -- a pad is finished: a clue has its line, a blank pad two or none, a hole none
 abbrev pub finished : Cell → ℕ → End → Bool
-finished blank v end = is_through end || isPad end v
+finished blank v end = is_through end || is_pad end v
 finished (clue code) v end = is_through end
-finished hole v end = isPad end v
+finished hole v end = is_pad end v
 
 abbrev pub all_finished : Grid → Followed → Bool
 all_finished g wrong = false
-all_finished g (so_far ends) = all-below (λ v. finished (g.cell v) v (ends v)) (pads g)
+all_finished g (so_far ends) = all_below (λ v. finished (g.cell v) v (ends v)) (pads g)
 
 abbrev pub and_then : Followed → ((ℕ → End) → Followed) → Followed
 and_then wrong next = wrong
@@ -50,22 +50,22 @@ and_then (so_far ends) next = next ends
 module _ (g : Grid) (bytes : List ℕ) where
   -- after the first n places of the field, row by row
   unfoldable pub followed : ℕ → Followed
-  followed zero = so_far (λ v. bare-end v (g.cell v))
+  followed zero = so_far (λ v. bare_end v (g.cell v))
   followed (suc n) = and_then (followed n)
-      (after-place g.width (place_at g.width (n / field-side g.width) (n % field-side g.width)) (get_or bytes n undecided-byte))
+      (after_place g.width (place_at g.width (n / field_side g.width) (n % field_side g.width)) (get_or bytes n undecided_byte))
 
   -- THE TEST OF THE RULES: the record of an ordinary drawing,
-  unfoldable pub is-ordinary-record : Bool
-  is-ordinary-record = eqb (length bytes) (places g.height g.width) && all_finished g (followed (places g.height g.width))
+  unfoldable pub is_ordinary_record : Bool
+  is_ordinary_record = eqb (length bytes) (places g.height g.width) && all_finished g (followed (places g.height g.width))
 
   -- and what more is asked of a listed one: at most two lines in each unit square, and the corner rule on both sides
-  unfoldable pub has-listed-shape : Bool
-  has-listed-shape =
-      let D = drawing-of g.width bytes in
-      squares-checked g D && (corners-checked on-left g D && corners-checked on-right g D)
+  unfoldable pub has_listed_shape : Bool
+  has_listed_shape =
+      let D = drawing_of g.width bytes in
+      squares_checked g D && (corners_checked on_left g D && corners_checked on_right g D)
 
   unfoldable pub verdict : ℕ
-  verdict = if is-ordinary-record then (if has-listed-shape then 2 else 1) else 0
+  verdict = if is_ordinary_record then (if has_listed_shape then 2 else 1) else 0
 
 -- JUDGE: the grid's refusals beside a 0, or the verdict; every 0 has lines 0
 pub record Judged : Type 0 where
@@ -76,8 +76,8 @@ pub record Judged : Type 0 where
 
 unfoldable pub judge : ℕ → ℕ → List ℤ → List ℕ → Judged
 judge height width cells bytes =
-    let refusal = grid-refusal height width cells in
-    let said = verdict (grid-of height width cells) bytes in
+    let refusal = grid_refusal height width cells in
+    let said = verdict (grid_of height width cells) bytes in
     if eqb refusal.0 0
-    then record { number = 0; index = 0; verdict = said; lines = if eqb said 0 then 0 else record-lines bytes }
+    then record { number = 0; index = 0; verdict = said; lines = if eqb said 0 then 0 else record_lines bytes }
     else record { number = refusal.0; index = refusal.1; verdict = 0; lines = 0 }

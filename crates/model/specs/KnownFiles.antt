@@ -1,13 +1,13 @@
 -- Known grid files and what is printed for them, by computation: K10, K11 and K12 of the documents, accepted files, each
--- refusal at its place, and the texts that the documents show. The statements come first; `known-files` and
--- `known-texts` prove them all, each by `refl`.
+-- refusal at its place, and the texts that the documents show. The statements come first; `known_files` and
+-- `known_texts` prove them all, each by `refl`.
 use Rattle.std.specs.Prelude.{ℕ, zero, suc, ◌≡◌, refl, List, [], ◌∷◌, ◌++◌, length, replicate, get_or, ℤ, pos, negsuc}
-use Rattle.model.specs.Bounds.{is-size, most-digits}
-use Rattle.model.specs.Text.{bytes, comma, line-end}
-use Rattle.model.specs.Decimal.{digit-byte, digits-before, decimal}
-use Rattle.model.specs.GridFile.{is_digit, is-comma, is-line-end, is-hole-sign, begins-hole, is-allowed, disallowed-number, is-zero-alone, blank, hole, no_cells, start, in-header, fields-due, is-complete, field-cell, bad-size, refusal, with-digit, with-hole, begun, after, accepted, declined, read-from, read}
-use Rattle.rules.specs.Record.{record-lines}
-use Rattle.model.specs.Printed.{line_at, right-line, down-line, code-of-pad, code-digits-from, code-digits, summary-line, layout-line, refusal-line, Found, layout-lines, found-text, reading-text, printed}
+use Rattle.model.specs.Bounds.{is_size, most_digits}
+use Rattle.model.specs.Text.{bytes, comma, line_end}
+use Rattle.model.specs.Decimal.{digit_byte, digits_before, decimal}
+use Rattle.model.specs.GridFile.{is_digit, is_comma, is_line_end, is_hole_sign, begins_hole, is_allowed, disallowed_number, is_zero_alone, blank, hole, no_cells, start, in_header, fields_due, is_complete, field_cell, bad_size, refusal, with_digit, with_hole, begun, after, accepted, declined, read_from, read}
+use Rattle.rules.specs.Record.{record_lines}
+use Rattle.model.specs.Printed.{line_at, right_line, down_line, code_of_pad, code_digits_from, code_digits, summary_line, layout_line, refusal_line, Found, layout_lines, found_text, reading_text, printed}
 
 -- number, line and field of a file's answer
 pub record Answer : Type 0 where
@@ -45,14 +45,14 @@ K12 = answer (bytes "1,2\n") ≡ names 5 1 1
 -- ## Accepted files
 
 -- the file of document 01
-abbrev pub Example-read : Type 0
-Example-read =
+abbrev pub ExampleRead : Type 0
+ExampleRead =
     read (bytes "2,2\n5,\n,5\n")
     ≡ record { number = 0; line = 0; field = 0; height = 2; width = 2; cells = pos 5 ∷ blank ∷ blank ∷ pos 5 ∷ replicate 252 blank }
 
 -- `0` alone is floor 0, in every field too; zeros that do not lead are digits like others
-abbrev pub Zeros-read : Type 0
-Zeros-read =
+abbrev pub ZerosRead : Type 0
+ZerosRead =
     (read (bytes "2,2\n0,\n,0\n")
     ≡ record { number = 0; line = 0; field = 0; height = 2; width = 2; cells = pos 0 ∷ blank ∷ blank ∷ pos 0 ∷ replicate 252 blank })
     × (read (bytes "2,2\n0,0\n0,0\n")
@@ -61,14 +61,14 @@ Zeros-read =
     ≡ record { number = 0; line = 0; field = 0; height = 2; width = 2; cells = pos 10 ∷ pos 100 ∷ pos 2020 ∷ pos 1000000000 ∷ replicate 252 blank })
 
 -- codes on both sides of the largest signed number of 32 bits, and the two whose 32 bits would be those of a hole and of a blank pad
-abbrev pub Wide-codes-read : Type 0
-Wide-codes-read =
+abbrev pub WideCodesRead : Type 0
+WideCodesRead =
     (read (bytes "2,3\n2147483646,2147483647,2147483648\n4294967294,4294967295,3100000012\n")
     ≡ record { number = 0; line = 0; field = 0; height = 2; width = 3; cells = pos 2147483646 ∷ pos 2147483647 ∷ pos 2147483648 ∷ pos 4294967294 ∷ pos 4294967295 ∷ pos 3100000012 ∷ replicate 250 blank })
 
 -- `#` alone in a field of a row is a hole, -2: beside blank pads and codes, in every field, in the last one
-abbrev pub Holes-read : Type 0
-Holes-read =
+abbrev pub HolesRead : Type 0
+HolesRead =
     (read (bytes "2,3\n5,,#\n#,0,5\n")
     ≡ record { number = 0; line = 0; field = 0; height = 2; width = 3; cells = pos 5 ∷ blank ∷ negsuc 1 ∷ negsuc 1 ∷ pos 0 ∷ pos 5 ∷ replicate 250 blank })
     × (read (bytes "2,2\n#,#\n#,#\n")
@@ -77,29 +77,29 @@ Holes-read =
     × (cell (bytes "2,2\n,\n,#\n") 3 ≡ negsuc 1)
 
 -- the longest file: ten digits in each of 16 rows of 16 fields
-unfoldable pub longest-row : ℕ → List ℕ
-longest-row zero = bytes "4294967295\n"
-longest-row (suc more) = bytes "4294967295," ++ longest-row more
+unfoldable pub longest_row : ℕ → List ℕ
+longest_row zero = bytes "4294967295\n"
+longest_row (suc more) = bytes "4294967295," ++ longest_row more
 
-unfoldable pub longest-rows : ℕ → List ℕ
-longest-rows zero = []
-longest-rows (suc more) = longest-row 15 ++ longest-rows more
+unfoldable pub longest_rows : ℕ → List ℕ
+longest_rows zero = []
+longest_rows (suc more) = longest_row 15 ++ longest_rows more
 
-unfoldable pub longest-file : List ℕ
-longest-file = bytes "16,16\n" ++ longest-rows 16
+unfoldable pub longest_file : List ℕ
+longest_file = bytes "16,16\n" ++ longest_rows 16
 
-abbrev pub Longest-read : Type 0
-Longest-read =
-    (length longest-file ≡ 2822)
-    × (read longest-file
+abbrev pub LongestRead : Type 0
+LongestRead =
+    (length longest_file ≡ 2822)
+    × (read longest_file
     ≡ record { number = 0; line = 0; field = 0; height = 16; width = 16; cells = replicate 256 (pos 4294967295) })
 
 -- ## Refused files
 
 -- 1: a disallowed byte with no digit of its field before it: in the header, in a row, in the last field, also where the field
 -- before has a digit; a `#` in the header; a digit, a second `#`, a space or a return (0D) after the `#` of a hole
-abbrev pub Refused-1 : Type 0
-Refused-1 =
+abbrev pub Refused1 : Type 0
+Refused1 =
     (answer (bytes " 2,2\n") ≡ names 1 1 1)
     × (answer (bytes "2,x2\n") ≡ names 1 1 2)
     × (answer (bytes "2,2\nx,\n,\n") ≡ names 1 2 1)
@@ -115,8 +115,8 @@ Refused-1 =
 
 -- 13: a disallowed byte after a digit of its field: in the header, in a row, in the last field; after a 0, which has no value
 -- yet, and after ten digits; a return (0D) is no line end; a `#` after a digit, in the header too
-abbrev pub Refused-13 : Type 0
-Refused-13 =
+abbrev pub Refused13 : Type 0
+Refused13 =
     (answer (bytes "2x,2\n") ≡ names 13 1 1)
     × (answer (bytes "2,2\r\n") ≡ names 13 1 2)
     × (answer (bytes "2,1234567890x\n") ≡ names 13 1 2)
@@ -132,8 +132,8 @@ Refused-13 =
 
 -- 15: a second digit after a leading 0: in the header, in a row, in the last field; a file that has 07 for the rear door and 7 for the
 -- front; a second 0 too; also where an eleventh digit, the end of the file, a letter or a hole's sign comes later
-abbrev pub Refused-15 : Type 0
-Refused-15 =
+abbrev pub Refused15 : Type 0
+Refused15 =
     (answer (bytes "02,2\n") ≡ names 15 1 1)
     × (answer (bytes "2,02\n") ≡ names 15 1 2)
     × (answer (bytes "2,0000000002\n") ≡ names 15 1 2)
@@ -148,8 +148,8 @@ Refused-15 =
     × (answer (replicate 4096 48) ≡ names 15 1 1)
 
 -- 2: an eleventh digit, also where a letter comes after it
-abbrev pub Refused-2 : Type 0
-Refused-2 =
+abbrev pub Refused2 : Type 0
+Refused2 =
     (answer (bytes "2,10000000002\n") ≡ names 2 1 2)
     × (answer (bytes "12345678901x,2\n") ≡ names 2 1 1)
     × (answer (bytes "2,2\n10000000000,\n,\n") ≡ names 2 2 1)
@@ -157,8 +157,8 @@ Refused-2 =
     × (answer (replicate 4096 49) ≡ names 2 1 1)
 
 -- 3: the ended field exceeds 4294967295, also where 4 or 5 would apply
-abbrev pub Refused-3 : Type 0
-Refused-3 =
+abbrev pub Refused3 : Type 0
+Refused3 =
     (answer (bytes "1,4294967296\n") ≡ names 3 1 2)
     × (answer (bytes "4294967296\n") ≡ names 3 1 1)
     × (answer (bytes "4294967295\n") ≡ names 4 1 1)
@@ -166,8 +166,8 @@ Refused-3 =
     × (answer (bytes "2,2\n,\n,9999999999\n") ≡ names 3 3 2)
 
 -- 4: too few fields, or a comma after the last, also where 5 would apply, and after a hole
-abbrev pub Refused-4 : Type 0
-Refused-4 =
+abbrev pub Refused4 : Type 0
+Refused4 =
     (answer (bytes "17\n") ≡ names 4 1 1)
     × (answer (bytes "2,2,") ≡ names 4 1 2)
     × (answer (bytes "17,17,") ≡ names 4 1 2)
@@ -177,8 +177,8 @@ Refused-4 =
     × (answer (bytes "2,2\n#,#,\n") ≡ names 4 2 2)
 
 -- 5: H or W empty or outside 2..16, 0 too, the first bad one
-abbrev pub Refused-5 : Type 0
-Refused-5 =
+abbrev pub Refused5 : Type 0
+Refused5 =
     (answer (bytes ",2\n") ≡ names 5 1 1)
     × (answer (bytes "0,2\n") ≡ names 5 1 1)
     × (answer (bytes "2,\n") ≡ names 5 1 2)
@@ -187,8 +187,8 @@ Refused-5 =
     × (answer (bytes "16,17\n") ≡ names 5 1 2)
 
 -- 6: the file ends before the last row does, right after a `#` too, or has a byte after it, whatever byte that is
-abbrev pub Refused-6 : Type 0
-Refused-6 =
+abbrev pub Refused6 : Type 0
+Refused6 =
     (answer [] ≡ names 6 1 1)
     × (answer (bytes "2,2") ≡ names 6 1 2)
     × (answer (bytes "2,2\n") ≡ names 6 2 1)
@@ -202,16 +202,16 @@ Refused-6 =
     × (answer (bytes "2,2\n,\n,#\n#") ≡ names 6 4 1)
 
 -- a declined grid is 0, 0, all blank
-abbrev pub Declined-read : Type 0
-Declined-read =
+abbrev pub DeclinedRead : Type 0
+DeclinedRead =
     read (bytes "2,2\n5,\n,5")
     ≡ record { number = 6; line = 3; field = 2; height = 0; width = 0; cells = replicate 256 blank }
 
-pub known-files :
-    K10 × K11 × K12 × Example-read × Zeros-read × Wide-codes-read × Holes-read × Longest-read
-    × Refused-1 × Refused-13 × Refused-15 × Refused-2 × Refused-3 × Refused-4 × Refused-5 × Refused-6 × Declined-read
-unfolding is-size most-digits bytes is_digit is-comma is-line-end is-hole-sign begins-hole is-allowed disallowed-number is-zero-alone blank hole no_cells start in-header fields-due is-complete field-cell bad-size refusal with-digit with-hole begun after accepted declined read-from read answer cell longest-row longest-rows longest-file
-known-files = (
+pub known_files :
+    K10 × K11 × K12 × ExampleRead × ZerosRead × WideCodesRead × HolesRead × LongestRead
+    × Refused1 × Refused13 × Refused15 × Refused2 × Refused3 × Refused4 × Refused5 × Refused6 × DeclinedRead
+unfolding is_size most_digits bytes is_digit is_comma is_line_end is_hole_sign begins_hole is_allowed disallowed_number is_zero_alone blank hole no_cells start in_header fields_due is_complete field_cell bad_size refusal with_digit with_hole begun after accepted declined read_from read answer cell longest_row longest_rows longest_file
+known_files = (
   (refl, refl, refl),
   refl,
   refl,
@@ -234,8 +234,8 @@ known-files = (
 -- ## Printed texts
 
 -- the one layout of document 01's file: down from its first pad, then right to its last
-unfoldable pub example-found : Found
-example-found =
+unfoldable pub example_found : Found
+example_found =
     record {
       outcome = 0;
       layouts = 1;
@@ -244,14 +244,14 @@ example-found =
       records = (0 ∷ 2 ∷ 0 ∷ 1 ∷ 0 ∷ 2 ∷ 0 ∷ 1 ∷ 0 ∷ []) ∷ [];
     }
 
-abbrev pub Example-printed : Type 0
-Example-printed =
-    printed (λ height width cells. found-text height width example-found) (bytes "2,2\n5,\n,5\n") ≡ bytes "1,2,2,0\n1,2,2010\n"
+abbrev pub ExamplePrinted : Type 0
+ExamplePrinted =
+    printed (λ height width cells. found_text height width example_found) (bytes "2,2\n5,\n,5\n") ≡ bytes "1,2,2,0\n1,2,2010\n"
 
-abbrev pub Refused-printed : Type 0
-Refused-printed =
-    (printed (λ height width cells. found-text height width example-found) (bytes "2,2\n1O,\n,1O\n") ≡ bytes "refused,13,2,1\n")
-    × (printed (λ height width cells. found-text height width example-found) (bytes "2,2\n 10,\n,10\n") ≡ bytes "refused,1,2,1\n")
+abbrev pub RefusedPrinted : Type 0
+RefusedPrinted =
+    (printed (λ height width cells. found_text height width example_found) (bytes "2,2\n1O,\n,1O\n") ≡ bytes "refused,13,2,1\n")
+    × (printed (λ height width cells. found_text height width example_found) (bytes "2,2\n 10,\n,10\n") ≡ bytes "refused,1,2,1\n")
 
 -- numbers in shortest digits, up to the largest of 64 bits
 abbrev pub Decimals : Type 0
@@ -263,6 +263,6 @@ Decimals =
     × (decimal 1000000 ≡ bytes "1000000")
     × (decimal 18446744073709551615 ≡ bytes "18446744073709551615")
 
-pub known-texts : Example-printed × Refused-printed × Decimals
-unfolding example-found is-size most-digits bytes is_digit is-comma is-line-end is-hole-sign begins-hole is-allowed disallowed-number is-zero-alone blank hole no_cells start in-header fields-due is-complete field-cell bad-size refusal with-digit with-hole begun after accepted declined read-from read record-lines digit-byte digits-before decimal line_at right-line down-line code-of-pad code-digits-from code-digits comma line-end summary-line layout-line refusal-line layout-lines found-text reading-text printed
-known-texts = (refl, (refl, refl), (refl, refl, refl, refl, refl, refl))
+pub known_texts : ExamplePrinted × RefusedPrinted × Decimals
+unfolding example_found is_size most_digits bytes is_digit is_comma is_line_end is_hole_sign begins_hole is_allowed disallowed_number is_zero_alone blank hole no_cells start in_header fields_due is_complete field_cell bad_size refusal with_digit with_hole begun after accepted declined read_from read record_lines digit_byte digits_before decimal line_at right_line down_line code_of_pad code_digits_from code_digits comma line_end summary_line layout_line refusal_line layout_lines found_text reading_text printed
+known_texts = (refl, (refl, refl), (refl, refl, refl, refl, refl, refl))

@@ -3,10 +3,10 @@ use Rattle.std.specs.Prelude.{◌≡◌, refl, List, [], ◌∷◌, ℕ, zero, s
 use Rattle.std.proofs.Common.{sym, ap, ◌∙◌, not-suc-le-zero, le_of_suc-le-suc}
 use Rattle.std.proofs.Math.Nat.{sub-zero, zero-sub, suc-sub-suc}
 
-pub drop-replicate : {A : Type 0} (x : A) (n size : ℕ) → drop n (replicate size x) ≡ replicate (size - n) x
-drop-replicate x zero size = ap (λ (k : ℕ). replicate k x) (sym (sub-zero size))
-drop-replicate x (suc n) zero = ap (λ (k : ℕ). replicate k x) (sym (zero-sub (suc n)))
-drop-replicate x (suc n) (suc size) = drop-replicate x n size ∙ ap (λ (k : ℕ). replicate k x) (sym (suc-sub-suc size n))
+pub drop_replicate : {A : Type 0} (x : A) (n size : ℕ) → drop n (replicate size x) ≡ replicate (size - n) x
+drop_replicate x zero size = ap (λ (k : ℕ). replicate k x) (sym (sub-zero size))
+drop_replicate x (suc n) zero = ap (λ (k : ℕ). replicate k x) (sym (zero-sub (suc n)))
+drop_replicate x (suc n) (suc size) = drop_replicate x n size ∙ ap (λ (k : ℕ). replicate k x) (sym (suc-sub-suc size n))
 
 -- what stands in a list is the same, whatever would stand past its end
 pub default_free : {A : Type 0} (l : List A) (i : ℕ) (a b : A) → i < length l → get_or l i a ≡ get_or l i b

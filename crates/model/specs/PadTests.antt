@@ -4,20 +4,20 @@ use Rattle.std.specs.Prelude.{ℕ, ◌+◌, ◌%◌, Bool, true, false, ◌&&◌
 use Rattle.rules.specs.Grid.{Edge, right, down, Cell, blank, clue, hole, Grid, pads}
 
 -- A PAD is blank, a clue or a hole. Blank is what corners and bars ask; clue is what the degree asks.
-abbrev pub isBlank : Cell → Bool
-isBlank blank = true
-isBlank (clue c) = false
-isBlank hole = false
+abbrev pub is_blank : Cell → Bool
+is_blank blank = true
+is_blank (clue c) = false
+is_blank hole = false
 
-abbrev pub isClue : Cell → Bool
-isClue blank = false
-isClue (clue c) = true
-isClue hole = false
+abbrev pub is_clue : Cell → Bool
+is_clue blank = false
+is_clue (clue c) = true
+is_clue hole = false
 
-abbrev pub isHole : Cell → Bool
-isHole blank = false
-isHole (clue c) = false
-isHole hole = true
+abbrev pub is_hole : Cell → Bool
+is_hole blank = false
+is_hole (clue c) = false
+is_hole hole = true
 
 module _ (g : Grid) where
   -- WHICH NEIGHBOURS a pad has
@@ -27,12 +27,12 @@ module _ (g : Grid) where
   abbrev pub has_left : ℕ → Bool
   has_left v = ltb 0 (v % g.width)
 
-  abbrev pub has-down : ℕ → Bool
-  has-down v = ltb (v + g.width) (pads g)
+  abbrev pub has_down : ℕ → Bool
+  has_down v = ltb (v + g.width) (pads g)
 
-  abbrev pub has-up : ℕ → Bool
-  has-up v = leb g.width v
+  abbrev pub has_up : ℕ → Bool
+  has_up v = leb g.width v
 
-  abbrev pub on-board : Edge → Bool
-  on-board (right v) = has_right v && ltb v (pads g)
-  on-board (down v) = has-down v
+  abbrev pub on_board : Edge → Bool
+  on_board (right v) = has_right v && ltb v (pads g)
+  on_board (down v) = has_down v

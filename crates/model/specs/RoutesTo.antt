@@ -3,19 +3,19 @@
 -- error after each of its runs. It rests on Routes.antt.
 use Rattle.std.specs.Prelude.{ℕ, ◌+◌, ◌*◌, ◌-◌, Bool, true, ◌&&◌, List, [], ◌∷◌, ◌++◌, leb, length}
 use Rattle.model.specs.Choice.{if◌then◌else◌}
-use Rattle.model.specs.Text.{bytes, line-end}
+use Rattle.model.specs.Text.{bytes, line_end}
 use Rattle.model.specs.Decimal.{decimal}
 use Rattle.model.specs.GridFile.{is_digit}
-use Rattle.model.specs.Routes.{list-text}
+use Rattle.model.specs.Routes.{list_text}
 
 -- ## The limit
 
 -- the largest number of 64 bits, which has 20 digits
-abbrev pub largest-limit : ℕ
-largest-limit = 18446744073709551615
+abbrev pub largest_limit : ℕ
+largest_limit = 18446744073709551615
 
-abbrev pub most-limit-digits : ℕ
-most-limit-digits = 20
+abbrev pub most_limit_digits : ℕ
+most_limit_digits = 20
 
 unfoldable pub all_digits : List ℕ → Bool
 all_digits [] = true
@@ -27,33 +27,33 @@ value_after value [] = value
 value_after value (byte ∷ text) = value_after (value * 10 + (byte - 48)) text
 
 -- a text is a limit where it is 1 to 20 digits, whose value has 64 bits
-unfoldable pub is-limit : List ℕ → Bool
-is-limit text = leb 1 (length text) && (leb (length text) most-limit-digits && (all_digits text && leb (value_after 0 text) largest-limit))
+unfoldable pub is_limit : List ℕ → Bool
+is_limit text = leb 1 (length text) && (leb (length text) most_limit_digits && (all_digits text && leb (value_after 0 text) largest_limit))
 
 pub data Limit : Type 0 where
   boards : ℕ → Limit
-  no-limit : Limit
+  no_limit : Limit
 
-unfoldable pub limit-of : List ℕ → Limit
-limit-of text = if is-limit text then boards (value_after 0 text) else no-limit
+unfoldable pub limit_of : List ℕ → Limit
+limit_of text = if is_limit text then boards (value_after 0 text) else no_limit
 
 -- the line for any other text, and for no argument or more than one
-unfoldable pub limit-line : List ℕ
-limit-line = bytes "refused: the limit must be a number from 0 to 18446744073709551615 (routes_to LIMIT < GRID-FILE)\n"
+unfoldable pub limit_line : List ℕ
+limit_line = bytes "refused: the limit must be a number from 0 to 18446744073709551615 (routes_to LIMIT < GRID-FILE)\n"
 
 -- ## What is printed
 
 -- 4,096 records of the largest board
-abbrev pub routes-to-room : ℕ
-routes-to-room = 3936256
+abbrev pub routes_to_room : ℕ
+routes_to_room = 3936256
 
-unfoldable pub routes-to-text : List ℕ → List ℕ → List ℕ
-routes-to-text argument input =
-    elim (limit-of argument) [
-      | boards limit ↦ list-text limit routes-to-room input
-      | no-limit ↦ limit-line
+unfoldable pub routes_to_text : List ℕ → List ℕ → List ℕ
+routes_to_text argument input =
+    elim (limit_of argument) [
+      | boards limit ↦ list_text limit routes_to_room input
+      | no_limit ↦ limit_line
     ]
 
 -- what is said of each run
-unfoldable pub progress-line : (visited layouts : ℕ) → List ℕ
-progress-line visited layouts = bytes "visited " ++ decimal visited ++ bytes " boards, layouts " ++ decimal layouts ++ line-end
+unfoldable pub progress_line : (visited layouts : ℕ) → List ℕ
+progress_line visited layouts = bytes "visited " ++ decimal visited ++ bytes " boards, layouts " ++ decimal layouts ++ line_end

@@ -3,23 +3,23 @@
 -- record, the ends and the flag. Each sequence is told apart from some wrong version of a decision, which its comment names; decisions
 -- on flagged boards, undo of a flag, and undo below the first checkpoint are among them.
 use Rattle.std.specs.Prelude.{ℕ, ◌≡◌, refl, Bool, true, false, List, [], ◌∷◌, ℤ, pos, negsuc}
-use Rattle.rules.specs.Grid.{cell-of, blank-cell, grid-of, place_at, parity}
+use Rattle.rules.specs.Grid.{cell_of, blank_cell, grid_of, place_at, parity}
 use Rattle.rules.specs.Record.{field, tabulate}
-use Rattle.model.specs.JoinedEnds.{end-number, unjoinable, joined-ends, put-end, put-end-at}
-use Rattle.model.specs.Board.{fresh, prepared, shut_at, shut, bare, decide, check, after_store, cannot-join, join-ends, check-items, settled, decide-first, degree, undecideds, lines, keep-aparts, around, do-item, do-items, shape-items, barred, set-flag, set-edge, enough}
-use Rattle.model.specs.Calls.{Board, Answer, shown, fresh-board, edge_at, decide-edge, read-edge, add-checkpoint, undo}
+use Rattle.model.specs.JoinedEnds.{end_number, unjoinable, joined_ends, put_end, put_end_at}
+use Rattle.model.specs.Board.{fresh, prepared, shut_at, shut, bare, decide, check, after_store, cannot_join, join_ends, check_items, settled, decide_first, degree, undecideds, lines, keep_aparts, around, do_item, do_items, shape_items, barred, set_flag, set_edge, enough}
+use Rattle.model.specs.Calls.{Board, Answer, shown, fresh_board, edge_at, decide_edge, read_edge, add_checkpoint, undo}
 
 pub data Call : Type 0 where
-  decide-call : (row column state : ℕ) → Call
-  read-call : (row column : ℕ) → Call
-  checkpoint-call : Call
-  undo-call : Call
+  decide_call : (row column state : ℕ) → Call
+  read_call : (row column : ℕ) → Call
+  checkpoint_call : Call
+  undo_call : Call
 
-unfoldable pub do-call : Board → Call → Answer
-do-call b (decide-call row column state) = decide-edge b row column state
-do-call b (read-call row column) = read-edge b row column
-do-call b checkpoint-call = add-checkpoint b
-do-call b undo-call = record { number = 0; answer = 0; board = undo b }
+unfoldable pub do_call : Board → Call → Answer
+do_call b (decide_call row column state) = decide_edge b row column state
+do_call b (read_call row column) = read_edge b row column
+do_call b checkpoint_call = add_checkpoint b
+do_call b undo_call = record { number = 0; answer = 0; board = undo b }
 
 -- what is seen after a call
 pub record Seen : Type 0 where
@@ -34,7 +34,7 @@ seen a = let s = shown a.board in record { answer = a.answer; edges = s.edges; e
 -- the calls one after another, each with what is seen after it
 unfoldable pub replay : Board → List Call → List Seen
 replay b [] = []
-replay b (call ∷ calls) = let a = do-call b call in seen a ∷ replay a.board calls
+replay b (call ∷ calls) = let a = do_call b call in seen a ∷ replay a.board calls
 
 abbrev pub after : ℕ → List ℕ → List ℤ → Bool → Seen
 after answer edges ends flag = record { answer = answer; edges = edges; ends = ends; flag = flag }
@@ -42,10 +42,10 @@ after answer edges ends flag = record { answer = answer; edges = edges; ends = e
 -- in a square the side before the opposite edge
 -- Refuses: (g) in a square, the opposite edge set before the side; (h) no flag test after a decision nested in a square; (h) no flag test
 -- after a pad check; the second pad checked before the first
-abbrev Sequence-1 : Type 0
-Sequence-1 =
-    replay (fresh-board (grid-of 2 2 (blank-cell ∷ blank-cell ∷ (pos 0) ∷ (pos 0) ∷ [])))
-    ((decide-call 1 2 1) ∷ (read-call 0 1) ∷ (read-call 1 0) ∷ [])
+abbrev Sequence1 : Type 0
+Sequence1 =
+    replay (fresh_board (grid_of 2 2 (blank_cell ∷ blank_cell ∷ (pos 0) ∷ (pos 0) ∷ [])))
+    ((decide_call 1 2 1) ∷ (read_call 0 1) ∷ (read_call 1 0) ∷ [])
     ≡ after 1 (0 ∷ 1 ∷ 0 ∷ 2 ∷ 0 ∷ 1 ∷ 0 ∷ 0 ∷ 0 ∷ []) ((negsuc 1) ∷ (negsuc 0) ∷ (negsuc 1) ∷ (negsuc 0) ∷ []) true
     ∷ after 1 (0 ∷ 1 ∷ 0 ∷ 2 ∷ 0 ∷ 1 ∷ 0 ∷ 0 ∷ 0 ∷ []) ((negsuc 1) ∷ (negsuc 0) ∷ (negsuc 1) ∷ (negsuc 0) ∷ []) true
     ∷ after 2 (0 ∷ 1 ∷ 0 ∷ 2 ∷ 0 ∷ 1 ∷ 0 ∷ 0 ∷ 0 ∷ []) ((negsuc 1) ∷ (negsuc 0) ∷ (negsuc 1) ∷ (negsuc 0) ∷ []) true
@@ -56,10 +56,10 @@ Sequence-1 =
 -- bars; (g) in a square, the opposite edge set before the side; (h) no flag test after a decision nested in a square; (h) no flag test
 -- after a pad check; (h) no flag test after a decision that keeps ends apart; the second pad checked before the first; different clue ends
 -- not kept apart; equal clue ends kept apart too
-abbrev Sequence-2 : Type 0
-Sequence-2 =
-    replay (fresh-board (grid-of 3 7 ((pos 2) ∷ blank-cell ∷ blank-cell ∷ blank-cell ∷ (pos 2) ∷ (pos 2) ∷ (pos 2) ∷ (pos 0) ∷ (pos 1) ∷ blank-cell ∷ blank-cell ∷ blank-cell ∷ blank-cell ∷ blank-cell ∷ blank-cell ∷ blank-cell ∷ blank-cell ∷ blank-cell ∷ blank-cell ∷ (pos 0) ∷ blank-cell ∷ [])))
-    ((decide-call 0 7 1) ∷ (decide-call 1 6 1) ∷ (read-call 3 4) ∷ [])
+abbrev Sequence2 : Type 0
+Sequence2 =
+    replay (fresh_board (grid_of 3 7 ((pos 2) ∷ blank_cell ∷ blank_cell ∷ blank_cell ∷ (pos 2) ∷ (pos 2) ∷ (pos 2) ∷ (pos 0) ∷ (pos 1) ∷ blank_cell ∷ blank_cell ∷ blank_cell ∷ blank_cell ∷ blank_cell ∷ blank_cell ∷ blank_cell ∷ blank_cell ∷ blank_cell ∷ blank_cell ∷ (pos 0) ∷ blank_cell ∷ [])))
+    ((decide_call 0 7 1) ∷ (decide_call 1 6 1) ∷ (read_call 3 4) ∷ [])
     ≡ after 0 (0 ∷ 0 ∷ 0 ∷ 0 ∷ 0 ∷ 0 ∷ 0 ∷ 1 ∷ 0 ∷ 2 ∷ 0 ∷ 0 ∷ 0 ∷ 0 ∷ 0 ∷ 0 ∷ 0 ∷ 0 ∷ 0 ∷ 0 ∷ 0 ∷ 2 ∷ 0 ∷ 0 ∷ 0 ∷ 0 ∷ 0 ∷ 0 ∷ 0 ∷ 0 ∷ 0 ∷ 0 ∷ 0 ∷ 0 ∷ 0 ∷ 0 ∷ 0 ∷ 0 ∷ 0 ∷ 0 ∷ 0 ∷ 0 ∷ 0 ∷ 0 ∷ 0 ∷ 0 ∷ 0 ∷ 0 ∷ 0 ∷ 0 ∷ 0 ∷ 0 ∷ 0 ∷ 0 ∷ 0 ∷ 0 ∷ 0 ∷ 0 ∷ 0 ∷ 0 ∷ 0 ∷ 0 ∷ 0 ∷ 0 ∷ 0 ∷ []) ((negsuc 3) ∷ (pos 1) ∷ (pos 2) ∷ (negsuc 3) ∷ (negsuc 0) ∷ (negsuc 3) ∷ (negsuc 3) ∷ (negsuc 1) ∷ (negsuc 2) ∷ (pos 9) ∷ (pos 10) ∷ (pos 11) ∷ (pos 12) ∷ (pos 13) ∷ (pos 14) ∷ (pos 15) ∷ (pos 16) ∷ (pos 17) ∷ (pos 18) ∷ (negsuc 1) ∷ (pos 20) ∷ []) false
     ∷ after 1 (0 ∷ 1 ∷ 0 ∷ 1 ∷ 0 ∷ 1 ∷ 0 ∷ 1 ∷ 0 ∷ 2 ∷ 0 ∷ 0 ∷ 0 ∷ 2 ∷ 0 ∷ 2 ∷ 0 ∷ 2 ∷ 0 ∷ 1 ∷ 0 ∷ 2 ∷ 0 ∷ 0 ∷ 0 ∷ 0 ∷ 0 ∷ 2 ∷ 0 ∷ 2 ∷ 0 ∷ 1 ∷ 0 ∷ 2 ∷ 0 ∷ 1 ∷ 0 ∷ 0 ∷ 0 ∷ 0 ∷ 0 ∷ 0 ∷ 0 ∷ 0 ∷ 0 ∷ 2 ∷ 0 ∷ 1 ∷ 0 ∷ 2 ∷ 0 ∷ 0 ∷ 0 ∷ 0 ∷ 0 ∷ 0 ∷ 0 ∷ 0 ∷ 0 ∷ 1 ∷ 0 ∷ 2 ∷ 0 ∷ 0 ∷ 0 ∷ []) ((negsuc 0) ∷ (negsuc 0) ∷ (negsuc 3) ∷ (negsuc 0) ∷ (negsuc 0) ∷ (negsuc 3) ∷ (negsuc 3) ∷ (negsuc 1) ∷ (negsuc 2) ∷ (negsuc 3) ∷ (negsuc 0) ∷ (negsuc 0) ∷ (pos 17) ∷ (pos 13) ∷ (pos 14) ∷ (pos 15) ∷ (pos 16) ∷ (pos 12) ∷ (negsuc 0) ∷ (negsuc 1) ∷ (pos 20) ∷ []) true
     ∷ after 0 (0 ∷ 1 ∷ 0 ∷ 1 ∷ 0 ∷ 1 ∷ 0 ∷ 1 ∷ 0 ∷ 2 ∷ 0 ∷ 0 ∷ 0 ∷ 2 ∷ 0 ∷ 2 ∷ 0 ∷ 2 ∷ 0 ∷ 1 ∷ 0 ∷ 2 ∷ 0 ∷ 0 ∷ 0 ∷ 0 ∷ 0 ∷ 2 ∷ 0 ∷ 2 ∷ 0 ∷ 1 ∷ 0 ∷ 2 ∷ 0 ∷ 1 ∷ 0 ∷ 0 ∷ 0 ∷ 0 ∷ 0 ∷ 0 ∷ 0 ∷ 0 ∷ 0 ∷ 2 ∷ 0 ∷ 1 ∷ 0 ∷ 2 ∷ 0 ∷ 0 ∷ 0 ∷ 0 ∷ 0 ∷ 0 ∷ 0 ∷ 0 ∷ 0 ∷ 1 ∷ 0 ∷ 2 ∷ 0 ∷ 0 ∷ 0 ∷ []) ((negsuc 0) ∷ (negsuc 0) ∷ (negsuc 3) ∷ (negsuc 0) ∷ (negsuc 0) ∷ (negsuc 3) ∷ (negsuc 3) ∷ (negsuc 1) ∷ (negsuc 2) ∷ (negsuc 3) ∷ (negsuc 0) ∷ (negsuc 0) ∷ (pos 17) ∷ (pos 13) ∷ (pos 14) ∷ (pos 15) ∷ (pos 16) ∷ (pos 12) ∷ (negsuc 0) ∷ (negsuc 1) ∷ (pos 20) ∷ []) true
@@ -68,10 +68,10 @@ Sequence-2 =
 -- the down-left bar before the down-right; undo with no checkpoint gives the fresh board
 -- Refuses: (d) undo that forgets the flag; undo that forgets the ends; (f) the two bars of a downward edge in the other order; no bars;
 -- (g) in a square, the opposite edge set before the side; the second pad checked before the first
-abbrev Sequence-3 : Type 0
-Sequence-3 =
-    replay (fresh-board (grid-of 2 3 (blank-cell ∷ blank-cell ∷ blank-cell ∷ blank-cell ∷ blank-cell ∷ blank-cell ∷ [])))
-    ((decide-call 1 2 1) ∷ (read-call 0 1) ∷ undo-call ∷ [])
+abbrev Sequence3 : Type 0
+Sequence3 =
+    replay (fresh_board (grid_of 2 3 (blank_cell ∷ blank_cell ∷ blank_cell ∷ blank_cell ∷ blank_cell ∷ blank_cell ∷ [])))
+    ((decide_call 1 2 1) ∷ (read_call 0 1) ∷ undo_call ∷ [])
     ≡ after 1 (0 ∷ 2 ∷ 0 ∷ 2 ∷ 0 ∷ 2 ∷ 0 ∷ 1 ∷ 0 ∷ 2 ∷ 0 ∷ 2 ∷ 0 ∷ 1 ∷ 0 ∷ []) ((pos 0) ∷ (pos 5) ∷ (pos 2) ∷ (pos 3) ∷ (negsuc 0) ∷ (pos 1) ∷ []) true
     ∷ after 2 (0 ∷ 2 ∷ 0 ∷ 2 ∷ 0 ∷ 2 ∷ 0 ∷ 1 ∷ 0 ∷ 2 ∷ 0 ∷ 2 ∷ 0 ∷ 1 ∷ 0 ∷ []) ((pos 0) ∷ (pos 5) ∷ (pos 2) ∷ (pos 3) ∷ (negsuc 0) ∷ (pos 1) ∷ []) true
     ∷ after 0 (0 ∷ 0 ∷ 0 ∷ 0 ∷ 0 ∷ 0 ∷ 0 ∷ 0 ∷ 0 ∷ 0 ∷ 0 ∷ 0 ∷ 0 ∷ 0 ∷ 0 ∷ []) ((pos 0) ∷ (pos 1) ∷ (pos 2) ∷ (pos 3) ∷ (pos 4) ∷ (pos 5) ∷ []) false
@@ -81,10 +81,10 @@ Sequence-3 =
 -- Refuses: (d) undo that forgets the flag; undo that always clears the flag; undo that forgets the ends; (f) the two bars of a right edge
 -- in the other order; no bars; (h) no flag test after a decision nested in a bar; (h) no flag test after a pad check; the second pad
 -- checked before the first; a decision on a flagged board changes nothing
-abbrev Sequence-4 : Type 0
-Sequence-4 =
-    replay (fresh-board (grid-of 2 2 (blank-cell ∷ blank-cell ∷ blank-cell ∷ blank-cell ∷ [])))
-    ((decide-call 0 1 1) ∷ checkpoint-call ∷ (decide-call 2 1 2) ∷ undo-call ∷ undo-call ∷ undo-call ∷ [])
+abbrev Sequence4 : Type 0
+Sequence4 =
+    replay (fresh_board (grid_of 2 2 (blank_cell ∷ blank_cell ∷ blank_cell ∷ blank_cell ∷ [])))
+    ((decide_call 0 1 1) ∷ checkpoint_call ∷ (decide_call 2 1 2) ∷ undo_call ∷ undo_call ∷ undo_call ∷ [])
     ≡ after 1 (0 ∷ 1 ∷ 0 ∷ 2 ∷ 0 ∷ 0 ∷ 0 ∷ 0 ∷ 0 ∷ []) ((pos 1) ∷ (pos 0) ∷ (pos 2) ∷ (pos 3) ∷ []) true
     ∷ after 0 (0 ∷ 1 ∷ 0 ∷ 2 ∷ 0 ∷ 0 ∷ 0 ∷ 0 ∷ 0 ∷ []) ((pos 1) ∷ (pos 0) ∷ (pos 2) ∷ (pos 3) ∷ []) true
     ∷ after 1 (0 ∷ 1 ∷ 0 ∷ 2 ∷ 0 ∷ 0 ∷ 0 ∷ 2 ∷ 0 ∷ []) ((pos 1) ∷ (pos 0) ∷ (pos 2) ∷ (pos 3) ∷ []) true
@@ -95,10 +95,10 @@ Sequence-4 =
 
 -- the diagonal pad is a clue (K8): nothing is forced
 -- Refuses: (a) the diagonal rule applied at a clue; undo that forgets the ends; equal clue ends kept apart too
-abbrev Sequence-5 : Type 0
-Sequence-5 =
-    replay (fresh-board (grid-of 3 3 (blank-cell ∷ (pos 5) ∷ blank-cell ∷ (pos 5) ∷ (pos 6) ∷ blank-cell ∷ blank-cell ∷ blank-cell ∷ (pos 6) ∷ [])))
-    (checkpoint-call ∷ (decide-call 0 1 1) ∷ (read-call 2 3) ∷ undo-call ∷ (decide-call 1 0 1) ∷ [])
+abbrev Sequence5 : Type 0
+Sequence5 =
+    replay (fresh_board (grid_of 3 3 (blank_cell ∷ (pos 5) ∷ blank_cell ∷ (pos 5) ∷ (pos 6) ∷ blank_cell ∷ blank_cell ∷ blank_cell ∷ (pos 6) ∷ [])))
+    (checkpoint_call ∷ (decide_call 0 1 1) ∷ (read_call 2 3) ∷ undo_call ∷ (decide_call 1 0 1) ∷ [])
     ≡ after 0 (0 ∷ 0 ∷ 0 ∷ 0 ∷ 0 ∷ 0 ∷ 0 ∷ 0 ∷ 0 ∷ 0 ∷ 0 ∷ 0 ∷ 0 ∷ 0 ∷ 0 ∷ 0 ∷ 0 ∷ 0 ∷ 0 ∷ 0 ∷ 0 ∷ 0 ∷ 0 ∷ 0 ∷ 0 ∷ []) ((pos 0) ∷ (negsuc 6) ∷ (pos 2) ∷ (negsuc 6) ∷ (negsuc 7) ∷ (pos 5) ∷ (pos 6) ∷ (pos 7) ∷ (negsuc 7) ∷ []) false
     ∷ after 0 (0 ∷ 1 ∷ 0 ∷ 2 ∷ 0 ∷ 1 ∷ 0 ∷ 2 ∷ 0 ∷ 2 ∷ 0 ∷ 2 ∷ 0 ∷ 0 ∷ 0 ∷ 2 ∷ 0 ∷ 0 ∷ 0 ∷ 0 ∷ 0 ∷ 2 ∷ 0 ∷ 0 ∷ 0 ∷ []) ((negsuc 0) ∷ (negsuc 0) ∷ (pos 2) ∷ (negsuc 0) ∷ (negsuc 7) ∷ (pos 5) ∷ (pos 6) ∷ (pos 7) ∷ (negsuc 7) ∷ []) false
     ∷ after 0 (0 ∷ 1 ∷ 0 ∷ 2 ∷ 0 ∷ 1 ∷ 0 ∷ 2 ∷ 0 ∷ 2 ∷ 0 ∷ 2 ∷ 0 ∷ 0 ∷ 0 ∷ 2 ∷ 0 ∷ 0 ∷ 0 ∷ 0 ∷ 0 ∷ 2 ∷ 0 ∷ 0 ∷ 0 ∷ []) ((negsuc 0) ∷ (negsuc 0) ∷ (pos 2) ∷ (negsuc 0) ∷ (negsuc 7) ∷ (pos 5) ∷ (pos 6) ∷ (pos 7) ∷ (negsuc 7) ∷ []) false
@@ -109,10 +109,10 @@ Sequence-5 =
 -- a right and down corner forces both lines, whichever of its edges comes first
 -- Refuses: (a) the diagonal rule applied at a clue; (b) a corner tested only when its down edge comes last; (b) a corner tested only when
 -- its right or left edge comes last; undo that forgets the ends; equal clue ends kept apart too
-abbrev Sequence-6 : Type 0
-Sequence-6 =
-    replay (fresh-board (grid-of 4 4 (blank-cell ∷ (pos 2) ∷ blank-cell ∷ blank-cell ∷ (pos 2) ∷ blank-cell ∷ blank-cell ∷ blank-cell ∷ blank-cell ∷ (pos 0) ∷ (pos 0) ∷ blank-cell ∷ blank-cell ∷ blank-cell ∷ blank-cell ∷ blank-cell ∷ [])))
-    (checkpoint-call ∷ (decide-call 0 1 1) ∷ (decide-call 1 0 1) ∷ (read-call 2 3) ∷ undo-call ∷ (decide-call 1 0 1) ∷ (read-call 3 2) ∷ [])
+abbrev Sequence6 : Type 0
+Sequence6 =
+    replay (fresh_board (grid_of 4 4 (blank_cell ∷ (pos 2) ∷ blank_cell ∷ blank_cell ∷ (pos 2) ∷ blank_cell ∷ blank_cell ∷ blank_cell ∷ blank_cell ∷ (pos 0) ∷ (pos 0) ∷ blank_cell ∷ blank_cell ∷ blank_cell ∷ blank_cell ∷ blank_cell ∷ [])))
+    (checkpoint_call ∷ (decide_call 0 1 1) ∷ (decide_call 1 0 1) ∷ (read_call 2 3) ∷ undo_call ∷ (decide_call 1 0 1) ∷ (read_call 3 2) ∷ [])
     ≡ after 0 (0 ∷ 0 ∷ 0 ∷ 0 ∷ 0 ∷ 0 ∷ 0 ∷ 0 ∷ 0 ∷ 0 ∷ 0 ∷ 0 ∷ 0 ∷ 0 ∷ 0 ∷ 0 ∷ 0 ∷ 0 ∷ 0 ∷ 0 ∷ 0 ∷ 0 ∷ 0 ∷ 0 ∷ 0 ∷ 0 ∷ 0 ∷ 0 ∷ 0 ∷ 0 ∷ 0 ∷ 0 ∷ 0 ∷ 0 ∷ 0 ∷ 0 ∷ 0 ∷ 0 ∷ 0 ∷ 0 ∷ 0 ∷ 0 ∷ 0 ∷ 0 ∷ 0 ∷ 0 ∷ 0 ∷ 0 ∷ 0 ∷ []) ((pos 0) ∷ (negsuc 3) ∷ (pos 2) ∷ (pos 3) ∷ (negsuc 3) ∷ (pos 5) ∷ (pos 6) ∷ (pos 7) ∷ (pos 8) ∷ (negsuc 1) ∷ (negsuc 1) ∷ (pos 11) ∷ (pos 12) ∷ (pos 13) ∷ (pos 14) ∷ (pos 15) ∷ []) false
     ∷ after 0 (0 ∷ 1 ∷ 0 ∷ 2 ∷ 0 ∷ 0 ∷ 0 ∷ 1 ∷ 0 ∷ 2 ∷ 0 ∷ 0 ∷ 0 ∷ 0 ∷ 0 ∷ 2 ∷ 0 ∷ 1 ∷ 0 ∷ 0 ∷ 0 ∷ 2 ∷ 0 ∷ 1 ∷ 0 ∷ 2 ∷ 0 ∷ 0 ∷ 0 ∷ 2 ∷ 0 ∷ 2 ∷ 0 ∷ 0 ∷ 0 ∷ 2 ∷ 0 ∷ 2 ∷ 0 ∷ 0 ∷ 0 ∷ 0 ∷ 0 ∷ 2 ∷ 0 ∷ 2 ∷ 0 ∷ 0 ∷ 0 ∷ []) ((negsuc 0) ∷ (negsuc 0) ∷ (pos 2) ∷ (pos 3) ∷ (negsuc 0) ∷ (negsuc 0) ∷ (negsuc 1) ∷ (pos 7) ∷ (pos 8) ∷ (negsuc 0) ∷ (negsuc 1) ∷ (pos 11) ∷ (pos 12) ∷ (pos 13) ∷ (pos 14) ∷ (pos 15) ∷ []) false
     ∷ after 0 (0 ∷ 1 ∷ 0 ∷ 2 ∷ 0 ∷ 0 ∷ 0 ∷ 1 ∷ 0 ∷ 2 ∷ 0 ∷ 0 ∷ 0 ∷ 0 ∷ 0 ∷ 2 ∷ 0 ∷ 1 ∷ 0 ∷ 0 ∷ 0 ∷ 2 ∷ 0 ∷ 1 ∷ 0 ∷ 2 ∷ 0 ∷ 0 ∷ 0 ∷ 2 ∷ 0 ∷ 2 ∷ 0 ∷ 0 ∷ 0 ∷ 2 ∷ 0 ∷ 2 ∷ 0 ∷ 0 ∷ 0 ∷ 0 ∷ 0 ∷ 2 ∷ 0 ∷ 2 ∷ 0 ∷ 0 ∷ 0 ∷ []) ((negsuc 0) ∷ (negsuc 0) ∷ (pos 2) ∷ (pos 3) ∷ (negsuc 0) ∷ (negsuc 0) ∷ (negsuc 1) ∷ (pos 7) ∷ (pos 8) ∷ (negsuc 0) ∷ (negsuc 1) ∷ (pos 11) ∷ (pos 12) ∷ (pos 13) ∷ (pos 14) ∷ (pos 15) ∷ []) false
@@ -125,10 +125,10 @@ Sequence-6 =
 -- a left and down corner forces both lines, whichever of its edges comes first
 -- Refuses: (a) the diagonal rule applied at a clue; (b) a corner tested only when its down edge comes last; (b) a corner tested only when
 -- its right or left edge comes last; undo that forgets the ends; equal clue ends kept apart too
-abbrev Sequence-7 : Type 0
-Sequence-7 =
-    replay (fresh-board (grid-of 4 3 ((pos 2) ∷ (pos 2) ∷ blank-cell ∷ blank-cell ∷ blank-cell ∷ blank-cell ∷ (pos 2) ∷ (pos 2) ∷ blank-cell ∷ (pos 2) ∷ blank-cell ∷ (pos 2) ∷ [])))
-    (checkpoint-call ∷ (decide-call 0 3 1) ∷ (read-call 2 1) ∷ undo-call ∷ (decide-call 1 4 1) ∷ (decide-call 0 3 1) ∷ (read-call 3 2) ∷ [])
+abbrev Sequence7 : Type 0
+Sequence7 =
+    replay (fresh_board (grid_of 4 3 ((pos 2) ∷ (pos 2) ∷ blank_cell ∷ blank_cell ∷ blank_cell ∷ blank_cell ∷ (pos 2) ∷ (pos 2) ∷ blank_cell ∷ (pos 2) ∷ blank_cell ∷ (pos 2) ∷ [])))
+    (checkpoint_call ∷ (decide_call 0 3 1) ∷ (read_call 2 1) ∷ undo_call ∷ (decide_call 1 4 1) ∷ (decide_call 0 3 1) ∷ (read_call 3 2) ∷ [])
     ≡ after 0 (0 ∷ 0 ∷ 0 ∷ 0 ∷ 0 ∷ 0 ∷ 0 ∷ 0 ∷ 0 ∷ 0 ∷ 0 ∷ 0 ∷ 0 ∷ 0 ∷ 0 ∷ 0 ∷ 0 ∷ 0 ∷ 0 ∷ 0 ∷ 0 ∷ 0 ∷ 0 ∷ 0 ∷ 0 ∷ 0 ∷ 0 ∷ 0 ∷ 0 ∷ 0 ∷ 0 ∷ 0 ∷ 0 ∷ 0 ∷ 0 ∷ []) ((negsuc 3) ∷ (negsuc 3) ∷ (pos 2) ∷ (pos 3) ∷ (pos 4) ∷ (pos 5) ∷ (negsuc 3) ∷ (negsuc 3) ∷ (pos 8) ∷ (negsuc 3) ∷ (pos 10) ∷ (negsuc 3) ∷ []) false
     ∷ after 0 (0 ∷ 2 ∷ 0 ∷ 1 ∷ 0 ∷ 1 ∷ 0 ∷ 2 ∷ 0 ∷ 1 ∷ 0 ∷ 1 ∷ 0 ∷ 2 ∷ 0 ∷ 2 ∷ 0 ∷ 1 ∷ 0 ∷ 1 ∷ 0 ∷ 2 ∷ 0 ∷ 2 ∷ 0 ∷ 1 ∷ 0 ∷ 2 ∷ 0 ∷ 1 ∷ 0 ∷ 2 ∷ 0 ∷ 2 ∷ 0 ∷ []) ((negsuc 0) ∷ (negsuc 0) ∷ (negsuc 0) ∷ (negsuc 0) ∷ (negsuc 0) ∷ (negsuc 0) ∷ (negsuc 0) ∷ (negsuc 0) ∷ (negsuc 0) ∷ (negsuc 0) ∷ (pos 10) ∷ (negsuc 0) ∷ []) false
     ∷ after 1 (0 ∷ 2 ∷ 0 ∷ 1 ∷ 0 ∷ 1 ∷ 0 ∷ 2 ∷ 0 ∷ 1 ∷ 0 ∷ 1 ∷ 0 ∷ 2 ∷ 0 ∷ 2 ∷ 0 ∷ 1 ∷ 0 ∷ 1 ∷ 0 ∷ 2 ∷ 0 ∷ 2 ∷ 0 ∷ 1 ∷ 0 ∷ 2 ∷ 0 ∷ 1 ∷ 0 ∷ 2 ∷ 0 ∷ 2 ∷ 0 ∷ []) ((negsuc 0) ∷ (negsuc 0) ∷ (negsuc 0) ∷ (negsuc 0) ∷ (negsuc 0) ∷ (negsuc 0) ∷ (negsuc 0) ∷ (negsuc 0) ∷ (negsuc 0) ∷ (negsuc 0) ∷ (pos 10) ∷ (negsuc 0) ∷ []) false
@@ -141,10 +141,10 @@ Sequence-7 =
 -- a corner whose forced line lies off the board
 -- Refuses: (d) undo that forgets the flag; undo that forgets the ends; (f) the two bars of a downward edge in the other order; equal clue
 -- ends kept apart too
-abbrev Sequence-8 : Type 0
-Sequence-8 =
-    replay (fresh-board (grid-of 2 3 (blank-cell ∷ blank-cell ∷ (pos 1) ∷ blank-cell ∷ (pos 1) ∷ blank-cell ∷ [])))
-    (checkpoint-call ∷ (decide-call 1 2 1) ∷ (read-call 2 3) ∷ undo-call ∷ [])
+abbrev Sequence8 : Type 0
+Sequence8 =
+    replay (fresh_board (grid_of 2 3 (blank_cell ∷ blank_cell ∷ (pos 1) ∷ blank_cell ∷ (pos 1) ∷ blank_cell ∷ [])))
+    (checkpoint_call ∷ (decide_call 1 2 1) ∷ (read_call 2 3) ∷ undo_call ∷ [])
     ≡ after 0 (0 ∷ 0 ∷ 0 ∷ 0 ∷ 0 ∷ 0 ∷ 0 ∷ 0 ∷ 0 ∷ 0 ∷ 0 ∷ 0 ∷ 0 ∷ 0 ∷ 0 ∷ []) ((pos 0) ∷ (pos 1) ∷ (negsuc 2) ∷ (pos 3) ∷ (negsuc 2) ∷ (pos 5) ∷ []) false
     ∷ after 1 (0 ∷ 2 ∷ 0 ∷ 1 ∷ 0 ∷ 2 ∷ 0 ∷ 1 ∷ 0 ∷ 2 ∷ 0 ∷ 2 ∷ 0 ∷ 2 ∷ 0 ∷ []) ((pos 0) ∷ (negsuc 0) ∷ (negsuc 0) ∷ (pos 3) ∷ (negsuc 0) ∷ (pos 5) ∷ []) true
     ∷ after 2 (0 ∷ 2 ∷ 0 ∷ 1 ∷ 0 ∷ 2 ∷ 0 ∷ 1 ∷ 0 ∷ 2 ∷ 0 ∷ 2 ∷ 0 ∷ 2 ∷ 0 ∷ []) ((pos 0) ∷ (negsuc 0) ∷ (negsuc 0) ∷ (pos 3) ∷ (negsuc 0) ∷ (pos 5) ∷ []) true
@@ -155,10 +155,10 @@ Sequence-8 =
 -- Refuses: (d) undo that forgets the flag; undo that forgets the ends; (g) in a square, the opposite edge set before the side; (h) no flag
 -- test after a decision nested in a square; (h) no flag test after a pad check; the second pad checked before the first; a decision on a
 -- flagged board changes nothing; a line at a pad that a line passes through does not set the flag
-abbrev Sequence-9 : Type 0
-Sequence-9 =
-    replay (fresh-board (grid-of 2 2 (blank-cell ∷ blank-cell ∷ blank-cell ∷ (pos 1) ∷ [])))
-    ((decide-call 2 1 1) ∷ (decide-call 1 2 1) ∷ (decide-call 0 1 2) ∷ undo-call ∷ [])
+abbrev Sequence9 : Type 0
+Sequence9 =
+    replay (fresh_board (grid_of 2 2 (blank_cell ∷ blank_cell ∷ blank_cell ∷ (pos 1) ∷ [])))
+    ((decide_call 2 1 1) ∷ (decide_call 1 2 1) ∷ (decide_call 0 1 2) ∷ undo_call ∷ [])
     ≡ after 1 (0 ∷ 2 ∷ 0 ∷ 1 ∷ 0 ∷ 0 ∷ 0 ∷ 1 ∷ 0 ∷ []) ((negsuc 2) ∷ (pos 1) ∷ (negsuc 0) ∷ (negsuc 0) ∷ []) true
     ∷ after 1 (0 ∷ 2 ∷ 0 ∷ 1 ∷ 0 ∷ 1 ∷ 0 ∷ 1 ∷ 0 ∷ []) ((negsuc 2) ∷ (pos 1) ∷ (negsuc 0) ∷ (negsuc 0) ∷ []) true
     ∷ after 1 (0 ∷ 2 ∷ 0 ∷ 1 ∷ 0 ∷ 1 ∷ 0 ∷ 1 ∷ 0 ∷ []) ((negsuc 2) ∷ (pos 1) ∷ (negsuc 0) ∷ (negsuc 0) ∷ []) true
@@ -168,10 +168,10 @@ Sequence-9 =
 -- the edge's own pads are checked before the far ends
 -- Refuses: (d) undo that forgets the flag; undo that forgets the ends; the second pad checked before the first; pads A and B checked
 -- before the edge's own pads; different clue ends not kept apart
-abbrev Sequence-10 : Type 0
-Sequence-10 =
-    replay (fresh-board (grid-of 2 2 ((pos 0) ∷ blank-cell ∷ blank-cell ∷ (pos 1) ∷ [])))
-    (checkpoint-call ∷ (decide-call 1 0 1) ∷ undo-call ∷ (decide-call 1 2 1) ∷ [])
+abbrev Sequence10 : Type 0
+Sequence10 =
+    replay (fresh_board (grid_of 2 2 ((pos 0) ∷ blank_cell ∷ blank_cell ∷ (pos 1) ∷ [])))
+    (checkpoint_call ∷ (decide_call 1 0 1) ∷ undo_call ∷ (decide_call 1 2 1) ∷ [])
     ≡ after 0 (0 ∷ 0 ∷ 0 ∷ 0 ∷ 0 ∷ 0 ∷ 0 ∷ 0 ∷ 0 ∷ []) ((negsuc 1) ∷ (pos 1) ∷ (pos 2) ∷ (negsuc 2) ∷ []) false
     ∷ after 1 (0 ∷ 2 ∷ 0 ∷ 1 ∷ 0 ∷ 2 ∷ 0 ∷ 2 ∷ 0 ∷ []) ((negsuc 0) ∷ (pos 1) ∷ (negsuc 1) ∷ (negsuc 2) ∷ []) true
     ∷ after 0 (0 ∷ 0 ∷ 0 ∷ 0 ∷ 0 ∷ 0 ∷ 0 ∷ 0 ∷ 0 ∷ []) ((negsuc 1) ∷ (pos 1) ∷ (pos 2) ∷ (negsuc 2) ∷ []) false
@@ -183,10 +183,10 @@ Sequence-10 =
 -- opposite edge tested before the sides; (h) no flag test after a decision nested in a square; (h) no flag test after a pad check; (h) no
 -- flag test after a decision that keeps ends apart; the second pad checked before the first; different clue ends not kept apart; a
 -- decision on a flagged board changes nothing
-abbrev Sequence-11 : Type 0
-Sequence-11 =
-    replay (fresh-board (grid-of 3 2 ((pos 2) ∷ blank-cell ∷ blank-cell ∷ blank-cell ∷ (pos 1) ∷ (pos 1) ∷ [])))
-    ((decide-call 3 0 1) ∷ (decide-call 2 1 1) ∷ (decide-call 3 2 1) ∷ (decide-call 0 1 1) ∷ [])
+abbrev Sequence11 : Type 0
+Sequence11 =
+    replay (fresh_board (grid_of 3 2 ((pos 2) ∷ blank_cell ∷ blank_cell ∷ blank_cell ∷ (pos 1) ∷ (pos 1) ∷ [])))
+    ((decide_call 3 0 1) ∷ (decide_call 2 1 1) ∷ (decide_call 3 2 1) ∷ (decide_call 0 1 1) ∷ [])
     ≡ after 1 (0 ∷ 1 ∷ 0 ∷ 2 ∷ 0 ∷ 2 ∷ 0 ∷ 0 ∷ 0 ∷ 1 ∷ 0 ∷ 0 ∷ 0 ∷ 0 ∷ 0 ∷ []) ((negsuc 0) ∷ (negsuc 3) ∷ (negsuc 2) ∷ (pos 3) ∷ (negsuc 0) ∷ (negsuc 2) ∷ []) true
     ∷ after 1 (0 ∷ 1 ∷ 0 ∷ 2 ∷ 0 ∷ 2 ∷ 0 ∷ 1 ∷ 0 ∷ 1 ∷ 0 ∷ 0 ∷ 0 ∷ 0 ∷ 0 ∷ []) ((negsuc 0) ∷ (negsuc 3) ∷ (negsuc 0) ∷ (negsuc 2) ∷ (negsuc 0) ∷ (negsuc 2) ∷ []) true
     ∷ after 1 (0 ∷ 1 ∷ 0 ∷ 2 ∷ 0 ∷ 2 ∷ 0 ∷ 1 ∷ 0 ∷ 1 ∷ 0 ∷ 1 ∷ 0 ∷ 2 ∷ 0 ∷ []) ((negsuc 0) ∷ (negsuc 3) ∷ (negsuc 0) ∷ (negsuc 0) ∷ (negsuc 0) ∷ (negsuc 0) ∷ []) true
@@ -198,10 +198,10 @@ Sequence-11 =
 -- forced down line before the forced right or left one; a set flag after the first forced line leaves out the second; no bars; (g) the
 -- right square before the left; (g) in a square, the opposite edge set before the side; (h) no flag test after a pad check; the second pad
 -- checked before the first; equal clue ends kept apart too; a decision on a flagged board changes nothing
-abbrev Sequence-12 : Type 0
-Sequence-12 =
-    replay (fresh-board (grid-of 3 3 ((pos 1) ∷ blank-cell ∷ blank-cell ∷ blank-cell ∷ blank-cell ∷ blank-cell ∷ (pos 1) ∷ blank-cell ∷ blank-cell ∷ [])))
-    (checkpoint-call ∷ (decide-call 4 3 1) ∷ undo-call ∷ [])
+abbrev Sequence12 : Type 0
+Sequence12 =
+    replay (fresh_board (grid_of 3 3 ((pos 1) ∷ blank_cell ∷ blank_cell ∷ blank_cell ∷ blank_cell ∷ blank_cell ∷ (pos 1) ∷ blank_cell ∷ blank_cell ∷ [])))
+    (checkpoint_call ∷ (decide_call 4 3 1) ∷ undo_call ∷ [])
     ≡ after 0 (0 ∷ 0 ∷ 0 ∷ 0 ∷ 0 ∷ 0 ∷ 0 ∷ 0 ∷ 0 ∷ 0 ∷ 0 ∷ 0 ∷ 0 ∷ 0 ∷ 0 ∷ 0 ∷ 0 ∷ 0 ∷ 0 ∷ 0 ∷ 0 ∷ 0 ∷ 0 ∷ 0 ∷ 0 ∷ []) ((negsuc 2) ∷ (pos 1) ∷ (pos 2) ∷ (pos 3) ∷ (pos 4) ∷ (pos 5) ∷ (negsuc 2) ∷ (pos 7) ∷ (pos 8) ∷ []) false
     ∷ after 1 (0 ∷ 1 ∷ 0 ∷ 1 ∷ 0 ∷ 2 ∷ 0 ∷ 2 ∷ 0 ∷ 1 ∷ 0 ∷ 1 ∷ 0 ∷ 2 ∷ 0 ∷ 2 ∷ 0 ∷ 1 ∷ 0 ∷ 1 ∷ 0 ∷ 2 ∷ 0 ∷ 1 ∷ 0 ∷ []) ((negsuc 0) ∷ (negsuc 0) ∷ (negsuc 0) ∷ (negsuc 2) ∷ (negsuc 0) ∷ (negsuc 0) ∷ (negsuc 2) ∷ (negsuc 0) ∷ (negsuc 0) ∷ []) true
     ∷ after 0 (0 ∷ 0 ∷ 0 ∷ 0 ∷ 0 ∷ 0 ∷ 0 ∷ 0 ∷ 0 ∷ 0 ∷ 0 ∷ 0 ∷ 0 ∷ 0 ∷ 0 ∷ 0 ∷ 0 ∷ 0 ∷ 0 ∷ 0 ∷ 0 ∷ 0 ∷ 0 ∷ 0 ∷ 0 ∷ []) ((negsuc 2) ∷ (pos 1) ∷ (pos 2) ∷ (pos 3) ∷ (pos 4) ∷ (pos 5) ∷ (negsuc 2) ∷ (pos 7) ∷ (pos 8) ∷ []) false
@@ -212,10 +212,10 @@ Sequence-12 =
 -- set flag after the first forced line leaves out the second; a set flag after the two forced lines ends the decision; (h) no flag test
 -- after a pad check; the second pad checked before the first; different clue ends not kept apart; equal clue ends kept apart too; the
 -- opposite state of a decided edge does not set the flag; a decision on a flagged board changes nothing
-abbrev Sequence-13 : Type 0
-Sequence-13 =
-    replay (fresh-board (grid-of 3 4 (blank-cell ∷ (pos 1) ∷ blank-cell ∷ blank-cell ∷ (pos 1) ∷ blank-cell ∷ blank-cell ∷ blank-cell ∷ (pos 1) ∷ (pos 1) ∷ blank-cell ∷ (pos 2) ∷ [])))
-    (checkpoint-call ∷ (decide-call 4 3 1) ∷ undo-call ∷ [])
+abbrev Sequence13 : Type 0
+Sequence13 =
+    replay (fresh_board (grid_of 3 4 (blank_cell ∷ (pos 1) ∷ blank_cell ∷ blank_cell ∷ (pos 1) ∷ blank_cell ∷ blank_cell ∷ blank_cell ∷ (pos 1) ∷ (pos 1) ∷ blank_cell ∷ (pos 2) ∷ [])))
+    (checkpoint_call ∷ (decide_call 4 3 1) ∷ undo_call ∷ [])
     ≡ after 0 (0 ∷ 0 ∷ 0 ∷ 0 ∷ 0 ∷ 0 ∷ 0 ∷ 0 ∷ 0 ∷ 0 ∷ 0 ∷ 0 ∷ 0 ∷ 0 ∷ 0 ∷ 0 ∷ 0 ∷ 0 ∷ 0 ∷ 0 ∷ 0 ∷ 0 ∷ 0 ∷ 0 ∷ 0 ∷ 0 ∷ 0 ∷ 0 ∷ 0 ∷ 0 ∷ 0 ∷ 0 ∷ 0 ∷ 0 ∷ 0 ∷ []) ((pos 0) ∷ (negsuc 2) ∷ (pos 2) ∷ (pos 3) ∷ (negsuc 2) ∷ (pos 5) ∷ (pos 6) ∷ (pos 7) ∷ (negsuc 2) ∷ (negsuc 2) ∷ (pos 10) ∷ (negsuc 3) ∷ []) false
     ∷ after 1 (0 ∷ 2 ∷ 0 ∷ 1 ∷ 0 ∷ 2 ∷ 0 ∷ 2 ∷ 0 ∷ 2 ∷ 0 ∷ 1 ∷ 0 ∷ 0 ∷ 0 ∷ 2 ∷ 0 ∷ 2 ∷ 0 ∷ 2 ∷ 0 ∷ 1 ∷ 0 ∷ 2 ∷ 0 ∷ 1 ∷ 0 ∷ 1 ∷ 0 ∷ 2 ∷ 0 ∷ 1 ∷ 0 ∷ 2 ∷ 0 ∷ []) ((pos 0) ∷ (negsuc 0) ∷ (negsuc 0) ∷ (pos 3) ∷ (negsuc 0) ∷ (pos 5) ∷ (negsuc 0) ∷ (negsuc 3) ∷ (negsuc 0) ∷ (negsuc 0) ∷ (negsuc 0) ∷ (negsuc 0) ∷ []) true
     ∷ after 0 (0 ∷ 0 ∷ 0 ∷ 0 ∷ 0 ∷ 0 ∷ 0 ∷ 0 ∷ 0 ∷ 0 ∷ 0 ∷ 0 ∷ 0 ∷ 0 ∷ 0 ∷ 0 ∷ 0 ∷ 0 ∷ 0 ∷ 0 ∷ 0 ∷ 0 ∷ 0 ∷ 0 ∷ 0 ∷ 0 ∷ 0 ∷ 0 ∷ 0 ∷ 0 ∷ 0 ∷ 0 ∷ 0 ∷ 0 ∷ 0 ∷ []) ((pos 0) ∷ (negsuc 2) ∷ (pos 2) ∷ (pos 3) ∷ (negsuc 2) ∷ (pos 5) ∷ (pos 6) ∷ (pos 7) ∷ (negsuc 2) ∷ (negsuc 2) ∷ (pos 10) ∷ (negsuc 3) ∷ []) false
@@ -226,10 +226,10 @@ Sequence-13 =
 -- left (upper); (h) no flag test after a decision nested in a square; (h) no flag test after a decision nested in a bar; (h) no flag test
 -- after a pad check; (h) no flag test after a decision that keeps ends apart; the second pad checked before the first; different clue ends
 -- not kept apart; a decision on a flagged board changes nothing
-abbrev Sequence-14 : Type 0
-Sequence-14 =
-    replay (fresh-board (grid-of 3 2 ((pos 0) ∷ (pos 2) ∷ (pos 1) ∷ blank-cell ∷ blank-cell ∷ blank-cell ∷ [])))
-    ((decide-call 3 2 1) ∷ (decide-call 3 0 1) ∷ (decide-call 3 0 1) ∷ undo-call ∷ [])
+abbrev Sequence14 : Type 0
+Sequence14 =
+    replay (fresh_board (grid_of 3 2 ((pos 0) ∷ (pos 2) ∷ (pos 1) ∷ blank_cell ∷ blank_cell ∷ blank_cell ∷ [])))
+    ((decide_call 3 2 1) ∷ (decide_call 3 0 1) ∷ (decide_call 3 0 1) ∷ undo_call ∷ [])
     ≡ after 1 (0 ∷ 2 ∷ 0 ∷ 2 ∷ 0 ∷ 0 ∷ 0 ∷ 2 ∷ 0 ∷ 0 ∷ 0 ∷ 1 ∷ 0 ∷ 0 ∷ 0 ∷ []) ((negsuc 1) ∷ (negsuc 3) ∷ (negsuc 2) ∷ (pos 5) ∷ (pos 4) ∷ (pos 3) ∷ []) true
     ∷ after 1 (0 ∷ 2 ∷ 0 ∷ 2 ∷ 0 ∷ 0 ∷ 0 ∷ 2 ∷ 0 ∷ 1 ∷ 0 ∷ 1 ∷ 0 ∷ 0 ∷ 0 ∷ []) ((negsuc 1) ∷ (negsuc 3) ∷ (negsuc 0) ∷ (pos 5) ∷ (negsuc 2) ∷ (pos 3) ∷ []) true
     ∷ after 1 (0 ∷ 2 ∷ 0 ∷ 2 ∷ 0 ∷ 0 ∷ 0 ∷ 2 ∷ 0 ∷ 1 ∷ 0 ∷ 1 ∷ 0 ∷ 0 ∷ 0 ∷ []) ((negsuc 1) ∷ (negsuc 3) ∷ (negsuc 0) ∷ (pos 5) ∷ (negsuc 2) ∷ (pos 3) ∷ []) true
@@ -239,10 +239,10 @@ Sequence-14 =
 -- one pad check sets one edge only
 -- Refuses: (c) a pad check that sets every undecided edge; (d) undo that forgets the flag; undo that forgets the ends; (h) no flag test
 -- after a pad check; the second pad checked before the first
-abbrev Sequence-15 : Type 0
-Sequence-15 =
-    replay (fresh-board (grid-of 3 2 (blank-cell ∷ (pos 1) ∷ blank-cell ∷ (pos 0) ∷ blank-cell ∷ (pos 2) ∷ [])))
-    (checkpoint-call ∷ (decide-call 2 1 1) ∷ undo-call ∷ [])
+abbrev Sequence15 : Type 0
+Sequence15 =
+    replay (fresh_board (grid_of 3 2 (blank_cell ∷ (pos 1) ∷ blank_cell ∷ (pos 0) ∷ blank_cell ∷ (pos 2) ∷ [])))
+    (checkpoint_call ∷ (decide_call 2 1 1) ∷ undo_call ∷ [])
     ≡ after 0 (0 ∷ 0 ∷ 0 ∷ 0 ∷ 0 ∷ 0 ∷ 0 ∷ 0 ∷ 0 ∷ 0 ∷ 0 ∷ 0 ∷ 0 ∷ 0 ∷ 0 ∷ []) ((pos 0) ∷ (negsuc 2) ∷ (pos 2) ∷ (negsuc 1) ∷ (pos 4) ∷ (negsuc 3) ∷ []) false
     ∷ after 1 (0 ∷ 1 ∷ 0 ∷ 2 ∷ 0 ∷ 2 ∷ 0 ∷ 1 ∷ 0 ∷ 0 ∷ 0 ∷ 0 ∷ 0 ∷ 0 ∷ 0 ∷ []) ((negsuc 2) ∷ (negsuc 0) ∷ (negsuc 1) ∷ (negsuc 0) ∷ (pos 4) ∷ (negsuc 3) ∷ []) true
     ∷ after 0 (0 ∷ 0 ∷ 0 ∷ 0 ∷ 0 ∷ 0 ∷ 0 ∷ 0 ∷ 0 ∷ 0 ∷ 0 ∷ 0 ∷ 0 ∷ 0 ∷ 0 ∷ []) ((pos 0) ∷ (negsuc 2) ∷ (pos 2) ∷ (negsuc 1) ∷ (pos 4) ∷ (negsuc 3) ∷ []) false
@@ -251,10 +251,10 @@ Sequence-15 =
 -- pad A before pad B
 -- Refuses: (b) a corner tested only when its down edge comes last; no bars; the second pad checked before the first; pad B checked before
 -- pad A
-abbrev Sequence-16 : Type 0
-Sequence-16 =
-    replay (fresh-board (grid-of 4 5 (blank-cell ∷ blank-cell ∷ blank-cell ∷ blank-cell ∷ blank-cell ∷ blank-cell ∷ blank-cell ∷ blank-cell ∷ blank-cell ∷ blank-cell ∷ blank-cell ∷ blank-cell ∷ (pos 2) ∷ blank-cell ∷ blank-cell ∷ blank-cell ∷ blank-cell ∷ blank-cell ∷ blank-cell ∷ blank-cell ∷ [])))
-    ((decide-call 1 6 2) ∷ (decide-call 5 8 1) ∷ [])
+abbrev Sequence16 : Type 0
+Sequence16 =
+    replay (fresh_board (grid_of 4 5 (blank_cell ∷ blank_cell ∷ blank_cell ∷ blank_cell ∷ blank_cell ∷ blank_cell ∷ blank_cell ∷ blank_cell ∷ blank_cell ∷ blank_cell ∷ blank_cell ∷ blank_cell ∷ (pos 2) ∷ blank_cell ∷ blank_cell ∷ blank_cell ∷ blank_cell ∷ blank_cell ∷ blank_cell ∷ blank_cell ∷ [])))
+    ((decide_call 1 6 2) ∷ (decide_call 5 8 1) ∷ [])
     ≡ after 0 (0 ∷ 0 ∷ 0 ∷ 0 ∷ 0 ∷ 0 ∷ 0 ∷ 0 ∷ 0 ∷ 0 ∷ 0 ∷ 0 ∷ 0 ∷ 0 ∷ 0 ∷ 2 ∷ 0 ∷ 0 ∷ 0 ∷ 0 ∷ 0 ∷ 0 ∷ 0 ∷ 0 ∷ 0 ∷ 0 ∷ 0 ∷ 0 ∷ 0 ∷ 0 ∷ 0 ∷ 0 ∷ 0 ∷ 0 ∷ 0 ∷ 0 ∷ 0 ∷ 0 ∷ 0 ∷ 0 ∷ 0 ∷ 0 ∷ 0 ∷ 0 ∷ 0 ∷ 0 ∷ 0 ∷ 0 ∷ 0 ∷ 0 ∷ 0 ∷ 0 ∷ 0 ∷ 0 ∷ 0 ∷ 0 ∷ 0 ∷ 0 ∷ 0 ∷ 0 ∷ 0 ∷ 0 ∷ 0 ∷ []) ((pos 0) ∷ (pos 1) ∷ (pos 2) ∷ (pos 3) ∷ (pos 4) ∷ (pos 5) ∷ (pos 6) ∷ (pos 7) ∷ (pos 8) ∷ (pos 9) ∷ (pos 10) ∷ (pos 11) ∷ (negsuc 3) ∷ (pos 13) ∷ (pos 14) ∷ (pos 15) ∷ (pos 16) ∷ (pos 17) ∷ (pos 18) ∷ (pos 19) ∷ []) false
     ∷ after 1 (0 ∷ 1 ∷ 0 ∷ 1 ∷ 0 ∷ 1 ∷ 0 ∷ 1 ∷ 0 ∷ 1 ∷ 0 ∷ 2 ∷ 0 ∷ 2 ∷ 0 ∷ 2 ∷ 0 ∷ 1 ∷ 0 ∷ 2 ∷ 0 ∷ 1 ∷ 0 ∷ 1 ∷ 0 ∷ 2 ∷ 0 ∷ 1 ∷ 0 ∷ 2 ∷ 0 ∷ 2 ∷ 0 ∷ 1 ∷ 0 ∷ 1 ∷ 0 ∷ 2 ∷ 0 ∷ 1 ∷ 0 ∷ 2 ∷ 0 ∷ 2 ∷ 0 ∷ 1 ∷ 0 ∷ 2 ∷ 0 ∷ 2 ∷ 0 ∷ 1 ∷ 0 ∷ 1 ∷ 0 ∷ 1 ∷ 0 ∷ 1 ∷ 0 ∷ 1 ∷ 0 ∷ 2 ∷ 0 ∷ []) ((negsuc 0) ∷ (negsuc 0) ∷ (negsuc 0) ∷ (negsuc 0) ∷ (negsuc 0) ∷ (negsuc 0) ∷ (pos 19) ∷ (negsuc 0) ∷ (negsuc 0) ∷ (negsuc 0) ∷ (negsuc 0) ∷ (negsuc 3) ∷ (negsuc 0) ∷ (negsuc 0) ∷ (negsuc 0) ∷ (negsuc 0) ∷ (negsuc 0) ∷ (negsuc 0) ∷ (negsuc 0) ∷ (pos 6) ∷ []) true
     ∷ []
@@ -262,10 +262,10 @@ Sequence-16 =
 -- the least code and the largest that the Rust can be asked about
 -- Refuses: (d) undo that forgets the flag; undo that forgets the ends; (h) no flag test after a pad check; the second pad checked before
 -- the first; different clue ends not kept apart; equal clue ends kept apart too
-abbrev Sequence-17 : Type 0
-Sequence-17 =
-    replay (fresh-board (grid-of 2 3 ((pos 0) ∷ blank-cell ∷ (pos 0) ∷ (pos 2147483646) ∷ blank-cell ∷ (pos 2147483646) ∷ [])))
-    (checkpoint-call ∷ (decide-call 0 1 1) ∷ undo-call ∷ (decide-call 1 2 1) ∷ (decide-call 0 1 2) ∷ undo-call ∷ [])
+abbrev Sequence17 : Type 0
+Sequence17 =
+    replay (fresh_board (grid_of 2 3 ((pos 0) ∷ blank_cell ∷ (pos 0) ∷ (pos 2147483646) ∷ blank_cell ∷ (pos 2147483646) ∷ [])))
+    (checkpoint_call ∷ (decide_call 0 1 1) ∷ undo_call ∷ (decide_call 1 2 1) ∷ (decide_call 0 1 2) ∷ undo_call ∷ [])
     ≡ after 0 (0 ∷ 0 ∷ 0 ∷ 0 ∷ 0 ∷ 0 ∷ 0 ∷ 0 ∷ 0 ∷ 0 ∷ 0 ∷ 0 ∷ 0 ∷ 0 ∷ 0 ∷ []) ((negsuc 1) ∷ (pos 1) ∷ (negsuc 1) ∷ (negsuc 2147483647) ∷ (pos 4) ∷ (negsuc 2147483647) ∷ []) false
     ∷ after 0 (0 ∷ 1 ∷ 0 ∷ 1 ∷ 0 ∷ 2 ∷ 0 ∷ 2 ∷ 0 ∷ 2 ∷ 0 ∷ 1 ∷ 0 ∷ 1 ∷ 0 ∷ []) ((negsuc 0) ∷ (negsuc 0) ∷ (negsuc 0) ∷ (negsuc 0) ∷ (negsuc 0) ∷ (negsuc 0) ∷ []) false
     ∷ after 0 (0 ∷ 0 ∷ 0 ∷ 0 ∷ 0 ∷ 0 ∷ 0 ∷ 0 ∷ 0 ∷ 0 ∷ 0 ∷ 0 ∷ 0 ∷ 0 ∷ 0 ∷ []) ((negsuc 1) ∷ (pos 1) ∷ (negsuc 1) ∷ (negsuc 2147483647) ∷ (pos 4) ∷ (negsuc 2147483647) ∷ []) false
@@ -277,10 +277,10 @@ Sequence-17 =
 -- ends kept apart and far ends checked, with the flag clear
 -- Refuses: (a) the diagonal rule applied at a clue; pads A and B not checked; different clue ends not kept apart; equal clue ends kept
 -- apart too
-abbrev Sequence-18 : Type 0
-Sequence-18 =
-    replay (fresh-board (grid-of 4 4 ((pos 1) ∷ blank-cell ∷ blank-cell ∷ blank-cell ∷ blank-cell ∷ (pos 2) ∷ (pos 1) ∷ blank-cell ∷ blank-cell ∷ blank-cell ∷ blank-cell ∷ blank-cell ∷ blank-cell ∷ blank-cell ∷ (pos 1) ∷ (pos 2) ∷ [])))
-    ((decide-call 0 5 1) ∷ (read-call 4 3) ∷ [])
+abbrev Sequence18 : Type 0
+Sequence18 =
+    replay (fresh_board (grid_of 4 4 ((pos 1) ∷ blank_cell ∷ blank_cell ∷ blank_cell ∷ blank_cell ∷ (pos 2) ∷ (pos 1) ∷ blank_cell ∷ blank_cell ∷ blank_cell ∷ blank_cell ∷ blank_cell ∷ blank_cell ∷ blank_cell ∷ (pos 1) ∷ (pos 2) ∷ [])))
+    ((decide_call 0 5 1) ∷ (read_call 4 3) ∷ [])
     ≡ after 0 (0 ∷ 2 ∷ 0 ∷ 1 ∷ 0 ∷ 1 ∷ 0 ∷ 1 ∷ 0 ∷ 1 ∷ 0 ∷ 2 ∷ 0 ∷ 1 ∷ 0 ∷ 2 ∷ 0 ∷ 2 ∷ 0 ∷ 2 ∷ 0 ∷ 1 ∷ 0 ∷ 2 ∷ 0 ∷ 1 ∷ 0 ∷ 1 ∷ 0 ∷ 0 ∷ 0 ∷ 0 ∷ 0 ∷ 2 ∷ 0 ∷ 0 ∷ 0 ∷ 0 ∷ 0 ∷ 0 ∷ 0 ∷ 1 ∷ 0 ∷ 0 ∷ 0 ∷ 0 ∷ 0 ∷ 2 ∷ 0 ∷ []) ((negsuc 0) ∷ (negsuc 0) ∷ (negsuc 0) ∷ (negsuc 0) ∷ (negsuc 0) ∷ (negsuc 0) ∷ (negsuc 0) ∷ (negsuc 0) ∷ (negsuc 2) ∷ (pos 9) ∷ (negsuc 2) ∷ (negsuc 0) ∷ (pos 12) ∷ (pos 13) ∷ (negsuc 2) ∷ (negsuc 0) ∷ []) false
     ∷ after 0 (0 ∷ 2 ∷ 0 ∷ 1 ∷ 0 ∷ 1 ∷ 0 ∷ 1 ∷ 0 ∷ 1 ∷ 0 ∷ 2 ∷ 0 ∷ 1 ∷ 0 ∷ 2 ∷ 0 ∷ 2 ∷ 0 ∷ 2 ∷ 0 ∷ 1 ∷ 0 ∷ 2 ∷ 0 ∷ 1 ∷ 0 ∷ 1 ∷ 0 ∷ 0 ∷ 0 ∷ 0 ∷ 0 ∷ 2 ∷ 0 ∷ 0 ∷ 0 ∷ 0 ∷ 0 ∷ 0 ∷ 0 ∷ 1 ∷ 0 ∷ 0 ∷ 0 ∷ 0 ∷ 0 ∷ 2 ∷ 0 ∷ []) ((negsuc 0) ∷ (negsuc 0) ∷ (negsuc 0) ∷ (negsuc 0) ∷ (negsuc 0) ∷ (negsuc 0) ∷ (negsuc 0) ∷ (negsuc 0) ∷ (negsuc 2) ∷ (pos 9) ∷ (negsuc 2) ∷ (negsuc 0) ∷ (pos 12) ∷ (pos 13) ∷ (negsuc 2) ∷ (negsuc 0) ∷ []) false
     ∷ []
@@ -289,10 +289,10 @@ Sequence-18 =
 -- Refuses: (d) undo that forgets the flag; undo that always clears the flag; undo that forgets the ends; no bars; (h) no flag test after a
 -- pad check; the second pad checked before the first; the opposite state of a decided edge does not set the flag; a decision on a flagged
 -- board changes nothing
-abbrev Sequence-19 : Type 0
-Sequence-19 =
-    replay (fresh-board (grid-of 3 3 ((pos 1) ∷ blank-cell ∷ blank-cell ∷ blank-cell ∷ blank-cell ∷ blank-cell ∷ blank-cell ∷ blank-cell ∷ (pos 1) ∷ [])))
-    ((decide-call 0 1 2) ∷ checkpoint-call ∷ (decide-call 1 0 2) ∷ checkpoint-call ∷ (decide-call 2 3 1) ∷ undo-call ∷ undo-call ∷ (decide-call 0 1 1) ∷ [])
+abbrev Sequence19 : Type 0
+Sequence19 =
+    replay (fresh_board (grid_of 3 3 ((pos 1) ∷ blank_cell ∷ blank_cell ∷ blank_cell ∷ blank_cell ∷ blank_cell ∷ blank_cell ∷ blank_cell ∷ (pos 1) ∷ [])))
+    ((decide_call 0 1 2) ∷ checkpoint_call ∷ (decide_call 1 0 2) ∷ checkpoint_call ∷ (decide_call 2 3 1) ∷ undo_call ∷ undo_call ∷ (decide_call 0 1 1) ∷ [])
     ≡ after 0 (0 ∷ 2 ∷ 0 ∷ 0 ∷ 0 ∷ 1 ∷ 0 ∷ 0 ∷ 0 ∷ 0 ∷ 0 ∷ 0 ∷ 0 ∷ 0 ∷ 0 ∷ 0 ∷ 0 ∷ 0 ∷ 0 ∷ 0 ∷ 0 ∷ 0 ∷ 0 ∷ 0 ∷ 0 ∷ []) ((negsuc 0) ∷ (pos 1) ∷ (pos 2) ∷ (negsuc 2) ∷ (pos 4) ∷ (pos 5) ∷ (pos 6) ∷ (pos 7) ∷ (negsuc 2) ∷ []) false
     ∷ after 0 (0 ∷ 2 ∷ 0 ∷ 0 ∷ 0 ∷ 1 ∷ 0 ∷ 0 ∷ 0 ∷ 0 ∷ 0 ∷ 0 ∷ 0 ∷ 0 ∷ 0 ∷ 0 ∷ 0 ∷ 0 ∷ 0 ∷ 0 ∷ 0 ∷ 0 ∷ 0 ∷ 0 ∷ 0 ∷ []) ((negsuc 0) ∷ (pos 1) ∷ (pos 2) ∷ (negsuc 2) ∷ (pos 4) ∷ (pos 5) ∷ (pos 6) ∷ (pos 7) ∷ (negsuc 2) ∷ []) false
     ∷ after 1 (0 ∷ 2 ∷ 0 ∷ 0 ∷ 0 ∷ 1 ∷ 0 ∷ 0 ∷ 0 ∷ 0 ∷ 0 ∷ 0 ∷ 0 ∷ 0 ∷ 0 ∷ 0 ∷ 0 ∷ 0 ∷ 0 ∷ 0 ∷ 0 ∷ 0 ∷ 0 ∷ 0 ∷ 0 ∷ []) ((negsuc 0) ∷ (pos 1) ∷ (pos 2) ∷ (negsuc 2) ∷ (pos 4) ∷ (pos 5) ∷ (pos 6) ∷ (pos 7) ∷ (negsuc 2) ∷ []) true
@@ -307,10 +307,10 @@ Sequence-19 =
 -- Refuses: (d) undo that forgets the flag; undo that forgets the ends; (g) in a square, the opposite edge set before the side; (h) no flag
 -- test after a decision nested in a square; (h) no flag test after a pad check; the second pad checked before the first; a line that
 -- closes a loop does not set the flag
-abbrev Sequence-20 : Type 0
-Sequence-20 =
-    replay (fresh-board (grid-of 3 3 (blank-cell ∷ blank-cell ∷ blank-cell ∷ blank-cell ∷ (pos 2) ∷ blank-cell ∷ blank-cell ∷ blank-cell ∷ blank-cell ∷ [])))
-    (checkpoint-call ∷ (decide-call 4 3 1) ∷ undo-call ∷ [])
+abbrev Sequence20 : Type 0
+Sequence20 =
+    replay (fresh_board (grid_of 3 3 (blank_cell ∷ blank_cell ∷ blank_cell ∷ blank_cell ∷ (pos 2) ∷ blank_cell ∷ blank_cell ∷ blank_cell ∷ blank_cell ∷ [])))
+    (checkpoint_call ∷ (decide_call 4 3 1) ∷ undo_call ∷ [])
     ≡ after 0 (0 ∷ 0 ∷ 0 ∷ 0 ∷ 0 ∷ 0 ∷ 0 ∷ 0 ∷ 0 ∷ 0 ∷ 0 ∷ 0 ∷ 0 ∷ 0 ∷ 0 ∷ 0 ∷ 0 ∷ 0 ∷ 0 ∷ 0 ∷ 0 ∷ 0 ∷ 0 ∷ 0 ∷ 0 ∷ []) ((pos 0) ∷ (pos 1) ∷ (pos 2) ∷ (pos 3) ∷ (negsuc 3) ∷ (pos 5) ∷ (pos 6) ∷ (pos 7) ∷ (pos 8) ∷ []) false
     ∷ after 1 (0 ∷ 1 ∷ 0 ∷ 1 ∷ 0 ∷ 1 ∷ 0 ∷ 2 ∷ 0 ∷ 1 ∷ 0 ∷ 2 ∷ 0 ∷ 2 ∷ 0 ∷ 1 ∷ 0 ∷ 0 ∷ 0 ∷ 1 ∷ 0 ∷ 1 ∷ 0 ∷ 1 ∷ 0 ∷ []) ((negsuc 0) ∷ (negsuc 0) ∷ (negsuc 0) ∷ (negsuc 0) ∷ (negsuc 3) ∷ (negsuc 0) ∷ (pos 7) ∷ (pos 6) ∷ (negsuc 0) ∷ []) true
     ∷ after 0 (0 ∷ 0 ∷ 0 ∷ 0 ∷ 0 ∷ 0 ∷ 0 ∷ 0 ∷ 0 ∷ 0 ∷ 0 ∷ 0 ∷ 0 ∷ 0 ∷ 0 ∷ 0 ∷ 0 ∷ 0 ∷ 0 ∷ 0 ∷ 0 ∷ 0 ∷ 0 ∷ 0 ∷ 0 ∷ []) ((pos 0) ∷ (pos 1) ∷ (pos 2) ∷ (pos 3) ∷ (negsuc 3) ∷ (pos 5) ∷ (pos 6) ∷ (pos 7) ∷ (pos 8) ∷ []) false
@@ -318,6 +318,6 @@ Sequence-20 =
 
 -- all of them, by computation
 pub sequences :
-    Sequence-1 × Sequence-2 × Sequence-3 × Sequence-4 × Sequence-5 × Sequence-6 × Sequence-7 × Sequence-8 × Sequence-9 × Sequence-10 × Sequence-11 × Sequence-12 × Sequence-13 × Sequence-14 × Sequence-15 × Sequence-16 × Sequence-17 × Sequence-18 × Sequence-19 × Sequence-20
-unfolding do-call seen replay shown fresh-board edge_at decide-edge read-edge add-checkpoint undo grid-of cell-of field tabulate place_at parity fresh prepared shut_at shut bare end-number decide check after_store cannot-join unjoinable join-ends check-items settled decide-first degree undecideds lines keep-aparts around do-item do-items shape-items barred joined-ends put-end put-end-at set-flag set-edge enough
+    Sequence1 × Sequence2 × Sequence3 × Sequence4 × Sequence5 × Sequence6 × Sequence7 × Sequence8 × Sequence9 × Sequence10 × Sequence11 × Sequence12 × Sequence13 × Sequence14 × Sequence15 × Sequence16 × Sequence17 × Sequence18 × Sequence19 × Sequence20
+unfolding do_call seen replay shown fresh_board edge_at decide_edge read_edge add_checkpoint undo grid_of cell_of field tabulate place_at parity fresh prepared shut_at shut bare end_number decide check after_store cannot_join unjoinable join_ends check_items settled decide_first degree undecideds lines keep_aparts around do_item do_items shape_items barred joined_ends put_end put_end_at set_flag set_edge enough
 sequences = (refl, refl, refl, refl, refl, refl, refl, refl, refl, refl, refl, refl, refl, refl, refl, refl, refl, refl, refl, refl)

@@ -14,9 +14,9 @@ unfoldable pub comma : List ℕ
 comma = bytes ","
 
 -- a line is ended by 0A
-unfoldable pub line-end : List ℕ
-line-end = bytes "\n"
+unfoldable pub line_end : List ℕ
+line_end = bytes "\n"
 
 -- a hole's field is this sign
-unfoldable pub hole-sign : List ℕ
-hole-sign = bytes "#"
+unfoldable pub hole_sign : List ℕ
+hole_sign = bytes "#"

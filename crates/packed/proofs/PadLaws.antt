@@ -12,59 +12,59 @@ use lib.Seq.{drop-cons}
 use lib.IntN.{pos, negsuc}
 use lib.Dec.{ltb}
 use borrow.Author.Tests.{lt-ltb, le-ltb, ne_eqb, eq-eqb}
-use Rattle.rules.specs.Grid.{largest-code}
+use Rattle.rules.specs.Grid.{largest_code}
 use Rattle.model.specs.GridFile.{blank}
-use Rattle.model.specs.Packed.{PackedPad, cell, refused, half-bytes, all-FF, some-above-9, digits_value, packed-pad}
+use Rattle.model.specs.Packed.{PackedPad, cell, refused, half_bytes, all_FF, some_above_9, digits_value, packed_pad}
 
 -- ## A blank pad
 
 module _ (five : List ℕ) (i : ℕ) (inside : i < length five) where
-  pub blank-byte : get_or five i 0 ≡ 255 → all-FF (drop i five) ≡ all-FF (drop (i + 1) five)
-  unfolding all-FF
-  blank-byte e = rw (drop-cons five i 0 inside, eq-eqb _ _ e, add-one i) refl
+  pub blank_byte : get_or five i 0 ≡ 255 → all_FF (drop i five) ≡ all_FF (drop (i + 1) five)
+  unfolding all_FF
+  blank_byte e = rw (drop-cons five i 0 inside, eq-eqb _ _ e, add-one i) refl
 
-  pub other_byte : (get_or five i 0 ≡ 255 → ⊥) → all-FF (drop i five) ≡ false
-  unfolding all-FF
+  pub other_byte : (get_or five i 0 ≡ 255 → ⊥) → all_FF (drop i five) ≡ false
+  unfolding all_FF
   other_byte n = rw (drop-cons five i 0 inside, ne_eqb _ _ n) refl
 
-pub all-passed : (five : List ℕ) (i : ℕ) → length five ≤ i → all-FF (drop i five) ≡ true
-unfolding all-FF
-all-passed five i h = rw (drop_of_length-le five h) refl
+pub all_passed : (five : List ℕ) (i : ℕ) → length five ≤ i → all_FF (drop i five) ≡ true
+unfolding all_FF
+all_passed five i h = rw (drop_of_length-le five h) refl
 
-pub blank-pad : (five : List ℕ) → all-FF five ≡ true → cell (negsuc 0) ≡ packed-pad five
-unfolding packed-pad blank
-blank-pad five e = rw e refl
+pub blank_pad : (five : List ℕ) → all_FF five ≡ true → cell (negsuc 0) ≡ packed_pad five
+unfolding packed_pad blank
+blank_pad five e = rw e refl
 
 -- ## Digits
 
 -- what the bytes that are left of a pad give behind digits that have a value
-unfoldable pub pad-from : ℕ → List ℕ → PackedPad
-pad-from value bytes =
-    if some-above-9 (half-bytes bytes) then refused 17
-    else if ltb largest-code (digits_value value (half-bytes bytes)) then refused 3
-    else cell (pos (digits_value value (half-bytes bytes)))
+unfoldable pub pad_from : ℕ → List ℕ → PackedPad
+pad_from value bytes =
+    if some_above_9 (half_bytes bytes) then refused 17
+    else if ltb largest_code (digits_value value (half_bytes bytes)) then refused 3
+    else cell (pos (digits_value value (half_bytes bytes)))
 
 module _ (value byte : ℕ) (bytes : List ℕ) where
-  pub high-refused : 9 < byte / 16 → pad-from value (byte ∷ bytes) ≡ refused 17
-  unfolding pad-from half-bytes some-above-9
-  high-refused h = rw (lt-ltb 9 (byte / 16) h) refl
+  pub high_refused : 9 < byte / 16 → pad_from value (byte ∷ bytes) ≡ refused 17
+  unfolding pad_from half_bytes some_above_9
+  high_refused h = rw (lt-ltb 9 (byte / 16) h) refl
 
   module _ (high : byte / 16 ≤ 9) where
-    pub low-refused : 9 < byte % 16 → pad-from value (byte ∷ bytes) ≡ refused 17
-    unfolding pad-from half-bytes some-above-9
-    low-refused h = rw (le-ltb 9 (byte / 16) high, lt-ltb 9 (byte % 16) h) refl
+    pub low_refused : 9 < byte % 16 → pad_from value (byte ∷ bytes) ≡ refused 17
+    unfolding pad_from half_bytes some_above_9
+    low_refused h = rw (le-ltb 9 (byte / 16) high, lt-ltb 9 (byte % 16) h) refl
 
-    pub two_digits : byte % 16 ≤ 9 → pad-from value (byte ∷ bytes) ≡ pad-from ((value * 10 + byte / 16) * 10 + byte % 16) bytes
-    unfolding pad-from half-bytes some-above-9 digits_value
+    pub two_digits : byte % 16 ≤ 9 → pad_from value (byte ∷ bytes) ≡ pad_from ((value * 10 + byte / 16) * 10 + byte % 16) bytes
+    unfolding pad_from half_bytes some_above_9 digits_value
     two_digits low = rw (le-ltb 9 (byte / 16) high, le-ltb 9 (byte % 16) low) refl
 
-pub value-too-large : (value : ℕ) → largest-code < value → pad-from value [] ≡ refused 3
-unfolding pad-from half-bytes some-above-9 digits_value
-value-too-large value h = rw (lt-ltb _ _ h) refl
+pub value_too_large : (value : ℕ) → largest_code < value → pad_from value [] ≡ refused 3
+unfolding pad_from half_bytes some_above_9 digits_value
+value_too_large value h = rw (lt-ltb _ _ h) refl
 
-pub value-in-range : (value : ℕ) → value ≤ largest-code → pad-from value [] ≡ cell (pos value)
-unfolding pad-from half-bytes some-above-9 digits_value
-value-in-range value h = rw (le-ltb _ _ h) refl
+pub value_in_range : (value : ℕ) → value ≤ largest_code → pad_from value [] ≡ cell (pos value)
+unfolding pad_from half_bytes some_above_9 digits_value
+value_in_range value h = rw (le-ltb _ _ h) refl
 
 -- ## The loop of `pad_of`
 
@@ -72,10 +72,10 @@ value-in-range value h = rw (le-ltb _ _ h) refl
 pub record Passed (five : List ℕ) (value i : ℕ) : Type 0 where
   pub within : i ≤ length five
   pub small : value < 100 ^ i
-  pub left : pad-from value (drop i five) ≡ packed-pad five
+  pub left : pad_from value (drop i five) ≡ packed_pad five
 
-pub none_passed : (five : List ℕ) → all-FF five ≡ false → Passed five 0 0
-unfolding packed-pad pad-from
+pub none_passed : (five : List ℕ) → all_FF five ≡ false → Passed five 0 0
+unfolding packed_pad pad_from
 none_passed five n = record { within = omega arith; small = omega arith; left = rw n refl }
 
 module _ {five : List ℕ} {value i : ℕ} (p : Passed five value i) (few : length five ≤ 5) where
@@ -84,29 +84,29 @@ module _ {five : List ℕ} {value i : ℕ} (p : Passed five value i) (few : leng
   fits = let early : i ≤ 5 = omega (arith, p.within) in omega (arith, pow-le-pow_right {n = 100} (omega arith) early, p.small)
 
   module _ (inside : i < length five) {byte : ℕ} (there : byte ≡ get_or five i 0) where
-    from-here : {answer : PackedPad} → pad-from value (byte ∷ drop (i + 1) five) ≡ answer → answer ≡ packed-pad five
-    from-here e = sym e ∙ ap (pad-from value) (sym here) ∙ p.left
+    from_here : {answer : PackedPad} → pad_from value (byte ∷ drop (i + 1) five) ≡ answer → answer ≡ packed_pad five
+    from_here e = sym e ∙ ap (pad_from value) (sym here) ∙ p.left
       where
         here : drop i five ≡ byte ∷ drop (i + 1) five
         here = rw (there, add-one i) (drop-cons five i 0 inside)
 
-    pub refused-high : 9 < byte / 16 → refused 17 ≡ packed-pad five
-    refused-high h = from-here (high-refused value byte _ h)
+    pub refused_high : 9 < byte / 16 → refused 17 ≡ packed_pad five
+    refused_high h = from_here (high_refused value byte _ h)
 
     module _ (high : byte / 16 ≤ 9) where
-      pub refused-low : 9 < byte % 16 → refused 17 ≡ packed-pad five
-      refused-low h = from-here (low-refused value byte _ high h)
+      pub refused_low : 9 < byte % 16 → refused 17 ≡ packed_pad five
+      refused_low h = from_here (low_refused value byte _ high h)
 
-      pub one-passed : byte % 16 ≤ 9 → Passed five ((value * 10 + byte / 16) * 10 + byte % 16) (i + 1)
-      one-passed low = record { within = omega arith; small = rw (add-one i) (omega (arith, p.small)); left = from-here (two_digits value byte _ high low) }
+      pub one_passed : byte % 16 ≤ 9 → Passed five ((value * 10 + byte / 16) * 10 + byte % 16) (i + 1)
+      one_passed low = record { within = omega arith; small = rw (add-one i) (omega (arith, p.small)); left = from_here (two_digits value byte _ high low) }
 
   -- all have been passed
   module _ (all : length five ≤ i) where
-    from_end : {answer : PackedPad} → pad-from value [] ≡ answer → answer ≡ packed-pad five
-    from_end e = sym e ∙ ap (pad-from value) (sym (drop_of_length-le five all)) ∙ p.left
+    from_end : {answer : PackedPad} → pad_from value [] ≡ answer → answer ≡ packed_pad five
+    from_end e = sym e ∙ ap (pad_from value) (sym (drop_of_length-le five all)) ∙ p.left
 
-    pub too_large : largest-code < value → refused 3 ≡ packed-pad five
-    too_large h = from_end (value-too-large value h)
+    pub too_large : largest_code < value → refused 3 ≡ packed_pad five
+    too_large h = from_end (value_too_large value h)
 
-    pub a-code : value ≤ largest-code → cell (pos value) ≡ packed-pad five
-    a-code h = from_end (value-in-range value h)
+    pub a_code : value ≤ largest_code → cell (pos value) ≡ packed_pad five
+    a_code h = from_end (value_in_range value h)

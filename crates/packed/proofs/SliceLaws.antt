@@ -13,40 +13,40 @@ use lib.IntN.{ℤ}
 use mir.Syntax.{w64}
 use mir.Val.{SFits, to_z, of_z}
 use mir.ValLaws.{to_z-of_z}
-use Rattle.model.specs.Bounds.{is-size}
-use Rattle.model.specs.RefusalLaws.{size-of-test}
-use Rattle.model.specs.GridFile.{Reading, blank, no_cells, declined-reading}
-use Rattle.model.specs.Packed.{cell, refused, packed-pad, declined-pad, read-pads, read-sized, read-packed}
+use Rattle.model.specs.Bounds.{is_size}
+use Rattle.model.specs.RefusalLaws.{size_of_test}
+use Rattle.model.specs.GridFile.{Reading, blank, no_cells, declined_reading}
+use Rattle.model.specs.Packed.{cell, refused, packed_pad, declined_pad, read_pads, read_sized, read_packed}
 use Rattle.packed.specs.declared.Pad.{Pad}
 use Rattle.packed.specs.declared.Pad.TheVariants.{Cell, Refused}
-use Rattle.packed.specs.Pads.{pad-says, pad-number}
-use Rattle.reading.specs.PadSteps.{two-at-least, height-refused, width-refused, too_short, too_long, whole, pad-read, pad-refused}
+use Rattle.packed.specs.Pads.{pad_says, pad_number}
+use Rattle.reading.specs.PadSteps.{two_at_least, height_refused, width_refused, too_short, too_long, whole, pad_read, pad_refused}
 use Rattle.reading.specs.PackedPads.{Packable, packable}
 
 -- ## The part of the slice that is a pad
 
 module _ (from : ℕ) (bytes : List ℕ) where
-  pub pad-part : take (from + 5 - from) (drop from bytes) ≡ take 5 (drop from bytes)
-  pad-part = ap (λ (n : ℕ). take n (drop from bytes)) five
+  pub pad_part : take (from + 5 - from) (drop from bytes) ≡ take 5 (drop from bytes)
+  pad_part = ap (λ (n : ℕ). take n (drop from bytes)) five
     where
       five : from + 5 - from ≡ 5
       five = omega arith
 
-  pub part-short : length (take (from + 5 - from) (drop from bytes)) ≤ 5
-  part-short = rw (pad-part, length-take) (min-le_left 5 (length (drop from bytes)))
+  pub part_short : length (take (from + 5 - from) (drop from bytes)) ≤ 5
+  part_short = rw (pad_part, length-take) (min-le_left 5 (length (drop from bytes)))
 
 -- ## What a pad's answer tells
 
-module _ {found : Pad} (five : List ℕ) (says : pad-says found ≡ packed-pad five) where
-  pub told-refused : {number n : ℕ} → number ≡ pad-number found → found ≡ Refused n → packed-pad five ≡ refused number
-  told-refused k e = sym says ∙ ap pad-says e ∙ ap refused (sym (k ∙ ap pad-number e))
+module _ {found : Pad} (five : List ℕ) (says : pad_says found ≡ packed_pad five) where
+  pub told_refused : {number n : ℕ} → number ≡ pad_number found → found ≡ Refused n → packed_pad five ≡ refused number
+  told_refused k e = sym says ∙ ap pad_says e ∙ ap refused (sym (k ∙ ap pad_number e))
 
-  pub told-cell : {z : ℤ} → found ≡ Cell z → packed-pad five ≡ cell z
-  told-cell e = sym says ∙ ap pad-says e
+  pub told_cell : {z : ℤ} → found ≡ Cell z → packed_pad five ≡ cell z
+  told_cell e = sym says ∙ ap pad_says e
 
   -- the cell fits the array's numbers
-  pub cell-back : {z : ℤ} → found ≡ Cell z → to_z w64 (of_z w64 z) ≡ z
-  cell-back {z} e = to_z-of_z w64 z (go (packable five z (told-cell e)))
+  pub cell_back : {z : ℤ} → found ≡ Cell z → to_z w64 (of_z w64 z) ≡ z
+  cell_back {z} e = to_z-of_z w64 z (go (packable five z (told_cell e)))
     where
       go : Packable z → SFits w64 z
       go (inl k) = rw k (record { sfits = omega arith })
@@ -54,8 +54,8 @@ module _ {found : Pad} (five : List ℕ) (says : pad-says found ≡ packed-pad f
 
 -- ## The loop over the pads
 
-pub pads-fit : (height width : ℕ) → is-size height ≡ true → is-size width ≡ true → height * width ≤ 256
-pads-fit height width h w = mul-le-mul (size-of-test _ h).1 (size-of-test _ w).1
+pub pads_fit : (height width : ℕ) → is_size height ≡ true → is_size width ≡ true → height * width ≤ 256
+pads_fit height width h w = mul-le-mul (size_of_test _ h).1 (size_of_test _ w).1
 
 -- the cells so far stand in the array, with blank ones behind them, and reading on from here is what reading all pads comes to
 pub record Reached (bytes : List ℕ) (height width : ℕ) (cells : List ℤ) (index : ℕ) : Type 0 where
@@ -63,16 +63,16 @@ pub record Reached (bytes : List ℕ) (height width : ℕ) (cells : List ℤ) (i
   pub counted : length so_far ≡ index
   pub array : cells ≡ so_far ++ replicate (256 - index) blank
   pub within : index ≤ height * width
-  pub same : read-pads height width (height * width - index) so_far (drop (2 + index * 5) bytes) ≡ read-pads height width (height * width) [] (drop 2 bytes)
+  pub same : read_pads height width (height * width - index) so_far (drop (2 + index * 5) bytes) ≡ read_pads height width (height * width) [] (drop 2 bytes)
 
-pub pads-begin : (bytes : List ℕ) (height width : ℕ) {cells : List ℤ} → cells ≡ no_cells → Reached bytes height width cells 0
+pub pads_begin : (bytes : List ℕ) (height width : ℕ) {cells : List ℤ} → cells ≡ no_cells → Reached bytes height width cells 0
 unfolding no_cells
-pads-begin bytes height width e = record { so_far = []; counted = refl; array = e; within = omega arith; same = rw (sub-zero (height * width)) refl }
+pads_begin bytes height width e = record { so_far = []; counted = refl; array = e; within = omega arith; same = rw (sub-zero (height * width)) refl }
 
 module _ {bytes : List ℕ} {height width : ℕ} {cells : List ℤ} {index : ℕ} (r : Reached bytes height width cells index) where
-  pub all_read : height * width ≤ index → record { number = 0; line = 0; field = 0; height = height; width = width; cells = cells } ≡ read-pads height width (height * width) [] (drop 2 bytes)
-  unfolding read-pads
-  all_read h = rw r.array (ap (λ (n : ℕ). record { number = 0; line = 0; field = 0; height = height; width = width; cells = r.so_far ++ replicate (256 - n) blank }) (sym r.counted) ∙ ap (λ (n : ℕ). read-pads height width n r.so_far (drop (2 + index * 5) bytes)) none_left) ∙ r.same
+  pub all_read : height * width ≤ index → record { number = 0; line = 0; field = 0; height = height; width = width; cells = cells } ≡ read_pads height width (height * width) [] (drop 2 bytes)
+  unfolding read_pads
+  all_read h = rw r.array (ap (λ (n : ℕ). record { number = 0; line = 0; field = 0; height = height; width = width; cells = r.so_far ++ replicate (256 - n) blank }) (sym r.counted) ∙ ap (λ (n : ℕ). read_pads height width n r.so_far (drop (2 + index * 5) bytes)) none_left) ∙ r.same
     where
       none_left : 0 ≡ height * width - index
       none_left = omega (arith, r.within)
@@ -85,21 +85,21 @@ module _ {bytes : List ℕ} {height width : ℕ} {cells : List ℤ} {index : ℕ
     one_more : height * width - index ≡ suc (height * width - (index + 1))
     one_more = omega arith
 
-    pub refused-here : {number : ℕ} → packed-pad five ≡ refused number → declined-pad number width index ≡ read-pads height width (height * width) [] (drop 2 bytes)
-    refused-here {number} e = ap (declined-pad number width) (sym r.counted) ∙ sym (pad-refused height width _ r.so_far _ (ap packed-pad (sym part) ∙ e)) ∙ ap (λ (n : ℕ). read-pads height width n r.so_far (drop (2 + index * 5) bytes)) (sym one_more) ∙ r.same
+    pub refused_here : {number : ℕ} → packed_pad five ≡ refused number → declined_pad number width index ≡ read_pads height width (height * width) [] (drop 2 bytes)
+    refused_here {number} e = ap (declined_pad number width) (sym r.counted) ∙ sym (pad_refused height width _ r.so_far _ (ap packed_pad (sym part) ∙ e)) ∙ ap (λ (n : ℕ). read_pads height width n r.so_far (drop (2 + index * 5) bytes)) (sym one_more) ∙ r.same
 
-    pub read_here : {c stored : ℤ} → packed-pad five ≡ cell c → stored ≡ c → is-size height ≡ true → is-size width ≡ true → Reached bytes height width (set cells index stored) (index + 1)
+    pub read_here : {c stored : ℤ} → packed_pad five ≡ cell c → stored ≡ c → is_size height ≡ true → is_size width ≡ true → Reached bytes height width (set cells index stored) (index + 1)
     read_here {c} e s h w =
         record {
           so_far = r.so_far ++ (c ∷ []);
           counted = length-append r.so_far (c ∷ []) ∙ ap (λ (n : ℕ). n + 1) r.counted;
           array = rw (s, r.array, room) (set_at r.so_far blank (replicate (256 - (index + 1)) blank) c index r.counted ∙ simp append_assoc);
           within = omega arith;
-          same = ap (λ (n : ℕ). read-pads height width (height * width - (index + 1)) (r.so_far ++ (c ∷ [])) (drop n bytes)) next ∙ ap (read-pads height width (height * width - (index + 1)) (r.so_far ++ (c ∷ []))) (sym (drop-drop 5 (2 + index * 5) bytes)) ∙ sym (pad-read height width _ r.so_far _ (ap packed-pad (sym part) ∙ e)) ∙ ap (λ (n : ℕ). read-pads height width n r.so_far (drop (2 + index * 5) bytes)) (sym one_more) ∙ r.same;
+          same = ap (λ (n : ℕ). read_pads height width (height * width - (index + 1)) (r.so_far ++ (c ∷ [])) (drop n bytes)) next ∙ ap (read_pads height width (height * width - (index + 1)) (r.so_far ++ (c ∷ []))) (sym (drop-drop 5 (2 + index * 5) bytes)) ∙ sym (pad_read height width _ r.so_far _ (ap packed_pad (sym part) ∙ e)) ∙ ap (λ (n : ℕ). read_pads height width n r.so_far (drop (2 + index * 5) bytes)) (sym one_more) ∙ r.same;
         }
       where
         room : 256 - index ≡ suc (256 - (index + 1))
-        room = omega (arith, pads-fit height width h w)
+        room = omega (arith, pads_fit height width h w)
 
         next : 2 + (index + 1) * 5 ≡ 2 + index * 5 + 5
         next = omega arith
@@ -107,22 +107,22 @@ module _ {bytes : List ℕ} {height width : ℕ} {cells : List ℤ} {index : ℕ
 -- ## The whole slice
 
 module _ (bytes : List ℕ) (two : 2 ≤ length bytes) {height width : ℕ} (h : height ≡ get_or bytes 0 0) (w : width ≡ get_or bytes 1 0) where
-  sized : {answer : Reading} → read-sized height width (drop 2 bytes) ≡ answer → answer ≡ read-packed bytes
-  sized e = sym e ∙ rw (h, w) (sym (two-at-least bytes two))
+  sized : {answer : Reading} → read_sized height width (drop 2 bytes) ≡ answer → answer ≡ read_packed bytes
+  sized e = sym e ∙ rw (h, w) (sym (two_at_least bytes two))
 
-  pub bad-height : is-size height ≡ false → declined-reading 5 1 1 ≡ read-packed bytes
-  bad-height out = sized (height-refused height width (drop 2 bytes) out)
+  pub bad_height : is_size height ≡ false → declined_reading 5 1 1 ≡ read_packed bytes
+  bad_height out = sized (height_refused height width (drop 2 bytes) out)
 
-  module _ (tall : is-size height ≡ true) where
-    pub bad-width : is-size width ≡ false → declined-reading 5 1 2 ≡ read-packed bytes
-    bad-width out = sized (width-refused height width (drop 2 bytes) tall out)
+  module _ (tall : is_size height ≡ true) where
+    pub bad_width : is_size width ≡ false → declined_reading 5 1 2 ≡ read_packed bytes
+    bad_width out = sized (width_refused height width (drop 2 bytes) tall out)
 
-    module _ (wide : is-size width ≡ true) where
-      pub short-slice : (length bytes - 2) / 5 < height * width → declined-pad 6 width ((length bytes - 2) / 5) ≡ read-packed bytes
-      short-slice few = rw (← length-drop 2 bytes) (sized (too_short height width (drop 2 bytes) tall wide (rw (length-drop 2 bytes) (omega arith))))
+    module _ (wide : is_size width ≡ true) where
+      pub short_slice : (length bytes - 2) / 5 < height * width → declined_pad 6 width ((length bytes - 2) / 5) ≡ read_packed bytes
+      short_slice few = rw (← length-drop 2 bytes) (sized (too_short height width (drop 2 bytes) tall wide (rw (length-drop 2 bytes) (omega arith))))
 
-      pub long-slice : height * width * 5 < length bytes - 2 → declined-reading 6 (height + 2) 1 ≡ read-packed bytes
-      long-slice more = sized (too_long height width (drop 2 bytes) tall wide (rw (length-drop 2 bytes) more))
+      pub long_slice : height * width * 5 < length bytes - 2 → declined_reading 6 (height + 2) 1 ≡ read_packed bytes
+      long_slice more = sized (too_long height width (drop 2 bytes) tall wide (rw (length-drop 2 bytes) more))
 
-      pub whole_slice : height * width ≤ (length bytes - 2) / 5 → length bytes - 2 ≤ height * width * 5 → read-pads height width (height * width) [] (drop 2 bytes) ≡ read-packed bytes
+      pub whole_slice : height * width ≤ (length bytes - 2) / 5 → length bytes - 2 ≤ height * width * 5 → read_pads height width (height * width) [] (drop 2 bytes) ≡ read_packed bytes
       whole_slice enough no_more = sized (whole height width (drop 2 bytes) tall wide (length-drop 2 bytes ∙ (omega arith)))

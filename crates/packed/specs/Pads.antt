@@ -4,11 +4,11 @@ use Rattle.model.specs.Packed.{PackedPad, cell, refused}
 use Rattle.packed.specs.declared.Pad.{Pad}
 use Rattle.packed.specs.declared.Pad.TheVariants.{Cell, Refused}
 
-abbrev pub pad-says : Pad → PackedPad
-pad-says (Cell z) = cell z
-pad-says (Refused number) = refused number
+abbrev pub pad_says : Pad → PackedPad
+pad_says (Cell z) = cell z
+pad_says (Refused number) = refused number
 
 -- the documents' number: 0 for a cell
-abbrev pub pad-number : Pad → ℕ
-pad-number (Cell z) = 0
-pad-number (Refused number) = number
+abbrev pub pad_number : Pad → ℕ
+pad_number (Cell z) = 0
+pad_number (Refused number) = number

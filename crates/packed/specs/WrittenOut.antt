@@ -4,27 +4,27 @@ use Rattle.std.specs.Prelude.{ℕ, ◌*◌, ◌≤◌, ◌≡◌, List, length, 
 use Rattle.std.proofs.Common.{sym, ap, ◌∙◌}
 use Rattle.model.specs.GridFile as model
 use Rattle.model.specs.Writing as writer
-use Rattle.model.specs.Packed.{read-packed}
-use Rattle.reading.specs.WrittenBack.{pads-read}
-use Rattle.reading.specs.SlicesAndFiles.{WrittenAndRead, slice_written, slice-to-any}
+use Rattle.model.specs.Packed.{read_packed}
+use Rattle.reading.specs.WrittenBack.{pads_read}
+use Rattle.reading.specs.SlicesAndFiles.{WrittenAndRead, slice_written, slice_to_any}
 use Rattle.gridfile.specs.declared.Reading.{Reading}
 use Rattle.gridfile.specs.declared.Writing.{Writing}
-use Rattle.gridfile.specs.Answers.{reading-says, writing-says}
+use Rattle.gridfile.specs.Answers.{reading_says, writing_says}
 
 module _
-    (slice buffer : List ℕ) (r : Reading) (read-slice : reading-says r ≡ read-packed slice) (accepted : r.number ≡ 0) (room : 2822 ≤ length buffer)
-    (w : Writing) (after : List ℕ) (wrote : writing-says w after ≡ writer.write r.height r.width (take (r.height * r.width) r.cells) buffer)
+    (slice buffer : List ℕ) (r : Reading) (read_slice : reading_says r ≡ read_packed slice) (accepted : r.number ≡ 0) (room : 2822 ≤ length buffer)
+    (w : Writing) (after : List ℕ) (wrote : writing_says w after ≡ writer.write r.height r.width (take (r.height * r.width) r.cells) buffer)
   where
-    of-the-slice : writing-says w after ≡ slice_written slice buffer
-    of-the-slice = wrote ∙ ap (λ (s : model.Reading). writer.write s.height s.width (pads-read s) buffer) read-slice
+    of_the_slice : writing_says w after ≡ slice_written slice buffer
+    of_the_slice = wrote ∙ ap (λ (s : model.Reading). writer.write s.height s.width (pads_read s) buffer) read_slice
 
     both_ways : WrittenAndRead slice buffer
-    both_ways = slice-to-any slice (ap (λ (s : model.Reading). s.number) (sym read-slice) ∙ accepted) buffer room
+    both_ways = slice_to_any slice (ap (λ (s : model.Reading). s.number) (sym read_slice) ∙ accepted) buffer room
 
     -- the grid is written
-    pub is-written : w.number ≡ 0
-    is-written = ap (λ (s : writer.Writing). s.number) of-the-slice ∙ both_ways.is-written
+    pub is_written : w.number ≡ 0
+    is_written = ap (λ (s : writer.Writing). s.number) of_the_slice ∙ both_ways.is_written
 
     -- and reading what was written answers what reading the slice did
-    pub same_answer : (again : Reading) → reading-says again ≡ model.read (take w.length after) → reading-says again ≡ reading-says r
-    same_answer again e = e ∙ ap (λ (s : writer.Writing). model.read (take s.length s.buffer)) of-the-slice ∙ both_ways.same-grid ∙ sym read-slice
+    pub same_answer : (again : Reading) → reading_says again ≡ model.read (take w.length after) → reading_says again ≡ reading_says r
+    same_answer again e = e ∙ ap (λ (s : writer.Writing). model.read (take s.length s.buffer)) of_the_slice ∙ both_ways.same_grid ∙ sym read_slice

@@ -1,11 +1,11 @@
 // Reading packed decimal, as controller memories hold it: one byte H, one byte W, then five bytes for each pad, two digits to a byte. The
 // answer is that of a grid file: H, W and 256 cells, or one numbered refusal with its line and field. The whole answer is said by
-// `read-packed` of the crate `model`, specs/Packed.antt there.
+// `read_packed` of the crate `model`, specs/Packed.antt there.
 ghost use Rattle.std.specs.Prelude.{◌≡◌, true, [], ◌+◌, ◌*◌, ◌≤◌, length, drop};
-ghost use Rattle.model.specs.Bounds.{is-size};
-ghost use Rattle.model.specs.Packed.{all-FF, packed-pad, declined-pad, read-pads, read-packed};
-ghost use Rattle.gridfile.specs.Answers.{reading-says};
-ghost use Rattle.packed.specs.Pads.{pad-says, pad-number};
+ghost use Rattle.model.specs.Bounds.{is_size};
+ghost use Rattle.model.specs.Packed.{all_FF, packed_pad, declined_pad, read_pads, read_packed};
+ghost use Rattle.gridfile.specs.Answers.{reading_says};
+ghost use Rattle.packed.specs.Pads.{pad_says, pad_number};
 
 use gridfile::Reading;
 
@@ -30,7 +30,7 @@ fn wide(byte: u8) -> usize
 
 // Whether every byte is that of a blank pad.
 fn all_blank(five: &[u8]) -> bool
-    ensures { result ≡ all-FF five.now }
+    ensures { result ≡ all_FF five.now }
 {
     let mut i = 0;
     while i < five.len() {
@@ -45,7 +45,7 @@ fn all_blank(five: &[u8]) -> bool
 // What the five bytes of a pad give: of each byte the high half is the first digit.
 fn pad_of(five: &[u8]) -> Pad
     requires { length five.now ≤ 5 }
-    ensures { pad-says result ≡ packed-pad five.now }
+    ensures { pad_says result ≡ packed_pad five.now }
 {
     if all_blank(five) {
         return Pad::Cell(grid::BLANK);
@@ -73,7 +73,7 @@ fn pad_of(five: &[u8]) -> Pad
 
 // The number of a pad's refusal, 0 for a cell.
 fn pad_number(pad: Pad) -> u8
-    ensures { result ≡ pad-number pad }
+    ensures { result ≡ pad_number pad }
 {
     match pad {
         Pad::Cell(_) => 0,
@@ -83,16 +83,16 @@ fn pad_number(pad: Pad) -> u8
 
 // A refusal at a pad: the rows begin with line 2, and fields are counted from 1.
 fn declined_pad(number: u8, width: usize, index: usize) -> Reading
-    requires { (is-size width ≡ true) × (index ≤ 256) }
-    ensures { reading-says result ≡ declined-pad number width index }
+    requires { (is_size width ≡ true) × (index ≤ 256) }
+    ensures { reading_says result ≡ declined_pad number width index }
 {
     gridfile::declined(number, 2 + index / width, 1 + index % width)
 }
 
 // The pads of a slice whose length is that of its sizes, in index order.
 fn read_pads(bytes: &[u8], height: usize, width: usize) -> Reading
-    requires { (is-size height ≡ true) × (is-size width ≡ true) × (length bytes.now ≡ 2 + height * width * 5) }
-    ensures { reading-says result ≡ read-pads height width (height * width) [] (drop 2 bytes.now) }
+    requires { (is_size height ≡ true) × (is_size width ≡ true) × (length bytes.now ≡ 2 + height * width * 5) }
+    ensures { reading_says result ≡ read_pads height width (height * width) [] (drop 2 bytes.now) }
 {
     let mut cells = gridfile::no_cells();
     let pads = height * width;
@@ -119,7 +119,7 @@ fn read_pads(bytes: &[u8], height: usize, width: usize) -> Reading
 
 // The whole slice: two bytes at least, then the sizes, then the whole length, then the pads.
 pub fn read_packed(bytes: &[u8]) -> Reading
-    ensures { reading-says result ≡ read-packed bytes.now }
+    ensures { reading_says result ≡ read_packed bytes.now }
 {
     if bytes.len() < 2 {
         return gridfile::declined(6, 1, 1);

@@ -10,18 +10,18 @@ use native.Mathlib.Omega.{arith}
 use lib.ListN.{length, get_or, set}
 use lib.Dec.{eqb, ltb}
 use borrow.Author.Tests.{lt-ltb, le-ltb}
-use Rattle.model.specs.Bounds.{is-size}
-use Rattle.model.specs.RefusalLaws.{size-of-test}
-use Rattle.model.specs.Decimal.{digit-byte}
-use Rattle.model.specs.Printed.{line_at, right-line, down-line, code-of-pad, code-digits-from, code-digits}
+use Rattle.model.specs.Bounds.{is_size}
+use Rattle.model.specs.RefusalLaws.{size_of_test}
+use Rattle.model.specs.Decimal.{digit_byte}
+use Rattle.model.specs.Printed.{line_at, right_line, down_line, code_of_pad, code_digits_from, code_digits}
 use Rattle.text.specs.Put.{Put}
 use Rattle.text.specs.PutLaws.{put_both, put_one, put_same}
 
 -- ## A place of a record
 
-pub at-most-1 : (width : ℕ) (layout : List ℕ) (row column : ℕ) → line_at width layout row column ≤ 1
+pub at_most_1 : (width : ℕ) (layout : List ℕ) (row column : ℕ) → line_at width layout row column ≤ 1
 unfolding line_at
-at-most-1 width layout row column = go (eqb (get_or layout (row * (2 * width - 1) + column) 0) 1)
+at_most_1 width layout row column = go (eqb (get_or layout (row * (2 * width - 1) + column) 0) 1)
   where
     go : (t : Bool) → (if t then 1 else 0) ≤ 1
     go true = omega arith
@@ -30,71 +30,71 @@ at-most-1 width layout row column = go (eqb (get_or layout (row * (2 * width - 1
 -- ## The lines of a pad
 
 module _ (height width : ℕ) (layout : List ℕ) (y x : ℕ) where
-  pub right_there : x + 1 < width → line_at width layout (2 * y) (2 * x + 1) ≡ right-line width layout y x
-  unfolding right-line
+  pub right_there : x + 1 < width → line_at width layout (2 * y) (2 * x + 1) ≡ right_line width layout y x
+  unfolding right_line
   right_there h = rw (lt-ltb _ _ h)
 
-  pub no-right : width ≤ x + 1 → 0 ≡ right-line width layout y x
-  unfolding right-line
-  no-right h = rw (le-ltb _ _ h)
+  pub no_right : width ≤ x + 1 → 0 ≡ right_line width layout y x
+  unfolding right_line
+  no_right h = rw (le-ltb _ _ h)
 
-  pub down-there : y + 1 < height → line_at width layout (2 * y + 1) (2 * x) ≡ down-line height width layout y x
-  unfolding down-line
-  down-there h = rw (lt-ltb _ _ h)
+  pub down_there : y + 1 < height → line_at width layout (2 * y + 1) (2 * x) ≡ down_line height width layout y x
+  unfolding down_line
+  down_there h = rw (lt-ltb _ _ h)
 
-  pub no-down : height ≤ y + 1 → 0 ≡ down-line height width layout y x
-  unfolding down-line
-  no-down h = rw (le-ltb _ _ h)
+  pub no_down : height ≤ y + 1 → 0 ≡ down_line height width layout y x
+  unfolding down_line
+  no_down h = rw (le-ltb _ _ h)
 
   either : (t : Bool) (n : ℕ) → n ≤ 1 → (if t then n else 0) ≤ 1
   either true n h = h
   either false n h = omega arith
 
-  pub right-at-most-1 : right-line width layout y x ≤ 1
-  unfolding right-line
-  right-at-most-1 = either (ltb (x + 1) width) _ (at-most-1 width layout (2 * y) (2 * x + 1))
+  pub right_at_most_1 : right_line width layout y x ≤ 1
+  unfolding right_line
+  right_at_most_1 = either (ltb (x + 1) width) _ (at_most_1 width layout (2 * y) (2 * x + 1))
 
-  pub down-at-most-1 : down-line height width layout y x ≤ 1
-  unfolding down-line
-  down-at-most-1 = either (ltb (y + 1) height) _ (at-most-1 width layout (2 * y + 1) (2 * x))
+  pub down_at_most_1 : down_line height width layout y x ≤ 1
+  unfolding down_line
+  down_at_most_1 = either (ltb (y + 1) height) _ (at_most_1 width layout (2 * y + 1) (2 * x))
 
-  pub code-at-most-3 : code-of-pad height width layout y x ≤ 3
-  unfolding code-of-pad
-  code-at-most-3 = omega (arith, right-at-most-1, down-at-most-1)
+  pub code_at_most_3 : code_of_pad height width layout y x ≤ 3
+  unfolding code_of_pad
+  code_at_most_3 = omega (arith, right_at_most_1, down_at_most_1)
 
 -- ## The codes in index order
 
 module _ (height width : ℕ) (layout : List ℕ) where
-  pub code-after : (more index : ℕ) → code-digits-from height width layout (suc more) index ≡ code-digits-from height width layout more index ++ (digit-byte (code-of-pad height width layout ((index + more) / width) ((index + more) % width)) ∷ [])
-  unfolding code-digits-from
-  code-after zero index = rw add-zero refl
-  code-after (suc more) index = ap (λ (l : List ℕ). digit-byte (code-of-pad height width layout (index / width) (index % width)) ∷ l) (code-after more (index + 1) ∙ ap (λ (n : ℕ). code-digits-from height width layout more (index + 1) ++ (digit-byte (code-of-pad height width layout (n / width) (n % width)) ∷ [])) next)
+  pub code_after : (more index : ℕ) → code_digits_from height width layout (suc more) index ≡ code_digits_from height width layout more index ++ (digit_byte (code_of_pad height width layout ((index + more) / width) ((index + more) % width)) ∷ [])
+  unfolding code_digits_from
+  code_after zero index = rw add-zero refl
+  code_after (suc more) index = ap (λ (l : List ℕ). digit_byte (code_of_pad height width layout (index / width) (index % width)) ∷ l) (code_after more (index + 1) ∙ ap (λ (n : ℕ). code_digits_from height width layout more (index + 1) ++ (digit_byte (code_of_pad height width layout (n / width) (n % width)) ∷ [])) next)
     where
       next : index + 1 + more ≡ index + suc more
       next = omega arith
 
-  pub codes-length : (more index : ℕ) → length (code-digits-from height width layout more index) ≡ more
-  unfolding code-digits-from
-  codes-length zero index = refl
-  codes-length (suc more) index = ap suc (codes-length more (index + 1))
+  pub codes_length : (more index : ℕ) → length (code_digits_from height width layout more index) ≡ more
+  unfolding code_digits_from
+  codes_length zero index = refl
+  codes_length (suc more) index = ap suc (codes_length more (index + 1))
 
-module _ (height width : ℕ) (h : is-size height ≡ true) (w : is-size width ≡ true) where
-  pub some-columns : 0 < width
-  some-columns = omega (arith, (size-of-test width w).0)
+module _ (height width : ℕ) (h : is_size height ≡ true) (w : is_size width ≡ true) where
+  pub some_columns : 0 < width
+  some_columns = omega (arith, (size_of_test width w).0)
 
-  pub all-pads : height * width ≤ 256
-  all-pads = mul-le-mul (size-of-test height h).1 (size-of-test width w).1
+  pub all_pads : height * width ≤ 256
+  all_pads = mul-le-mul (size_of_test height h).1 (size_of_test width w).1
 
 -- ## The loop of `put_codes`
 
-module _ (height width : ℕ) (layout first out : List ℕ) (at index : ℕ) (p : Put first out at (code-digits-from height width layout index 0) (at + index)) where
-  pub code_put : (code : ℕ) → code ≡ code-of-pad height width layout (index / width) (index % width) → Put first (set out (at + index) (48 + code)) at (code-digits-from height width layout (index + 1) 0) (at + (index + 1))
-  unfolding digit-byte
-  code_put code e = rw (add-one index, code-after height width layout index 0, zero-add, ← e, add-suc, ← (add-one (at + index))) (put_both p (put_one out (at + index) (48 + code)))
+module _ (height width : ℕ) (layout first out : List ℕ) (at index : ℕ) (p : Put first out at (code_digits_from height width layout index 0) (at + index)) where
+  pub code_put : (code : ℕ) → code ≡ code_of_pad height width layout (index / width) (index % width) → Put first (set out (at + index) (48 + code)) at (code_digits_from height width layout (index + 1) 0) (at + (index + 1))
+  unfolding digit_byte
+  code_put code e = rw (add-one index, code_after height width layout index 0, zero-add, ← e, add-suc, ← (add-one (at + index))) (put_both p (put_one out (at + index) (48 + code)))
 
-  pub all-put : index ≤ height * width → height * width ≤ index → Put first out at (code-digits height width layout) (at + index)
-  unfolding code-digits
-  all-put a b = put_same (ap (λ (n : ℕ). code-digits-from height width layout n 0) there) p
+  pub all_put : index ≤ height * width → height * width ≤ index → Put first out at (code_digits height width layout) (at + index)
+  unfolding code_digits
+  all_put a b = put_same (ap (λ (n : ℕ). code_digits_from height width layout n 0) there) p
     where
       there : index ≡ height * width
       there = omega arith

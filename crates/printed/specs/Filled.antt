@@ -3,11 +3,11 @@ use Rattle.std.specs.Prelude.{◌≡◌, List, [], ◌∷◌, ◌++◌, ℕ, ◌
 use Rattle.std.proofs.Common.{ap, ◌∙◌, arith, length-append, Fits}
 use Rattle.std.proofs.lemmas.List.{length-replicate}
 use Rattle.std.specs.Int.{w8, w64}
-use Rattle.model.specs.Lists.{drop-replicate}
+use Rattle.model.specs.Lists.{drop_replicate}
 use Rattle.model.specs.Decimal.{decimal}
-use Rattle.model.specs.DecimalLaws.{decimal-length}
+use Rattle.model.specs.DecimalLaws.{decimal_length}
 use Rattle.text.specs.Put.{Put}
-use Rattle.text.specs.PutLaws.{put_both, put-length, put_same, put_front, put_next}
+use Rattle.text.specs.PutLaws.{put_both, put_length, put_same, put_front, put_next}
 use Rattle.printed.specs.Written.{zeros, Written}
 
 -- ## An array that is filled part by part
@@ -16,9 +16,9 @@ use Rattle.printed.specs.Written.{zeros, Written}
 pub put_written : (size : ℕ) {bytes text : List ℕ} {long : ℕ} → Put (zeros size) bytes 0 text long → length text ≤ size → Written size text bytes long
 put_written size {bytes} {text} p h =
     record {
-      all-bytes = put_front p (rw length-replicate h) ∙ ap (λ (l : List ℕ). text ++ l) (drop-replicate 0 (length text) size);
-      its-length = put_next p;
-      fits = rw (put-length p, length-replicate, put_next p) h;
+      all_bytes = put_front p (rw length-replicate h) ∙ ap (λ (l : List ℕ). text ++ l) (drop_replicate 0 (length text) size);
+      its_length = put_next p;
+      fits = rw (put_length p, length-replicate, put_next p) h;
     }
 
 -- the array begins with the text, which has at most so many bytes, and goes on with zeros
@@ -29,25 +29,25 @@ pub record Filled (size most : ℕ) (text array : List ℕ) (next : ℕ) : Type 
 pub filled_more : {size most more : ℕ} {text array second part : List ℕ} {next last : ℕ} → Filled size most text array next → Put array second next part last → length part ≤ more → Filled size (most + more) (text ++ part) second last
 filled_more {text = text} {part = part} f p h = record { put = put_both f.put p; short = rw length-append (omega (arith, f.short)) }
 
-pub filled-room : {size most : ℕ} {text array : List ℕ} {next : ℕ} → Filled size most text array next → (more : ℕ) → most + more ≤ size → next + more ≤ length array
-filled-room {size} f more h = rw (put-length f.put, length-replicate, f.put.place) (omega (arith, f.short))
+pub filled_room : {size most : ℕ} {text array : List ℕ} {next : ℕ} → Filled size most text array next → (more : ℕ) → most + more ≤ size → next + more ≤ length array
+filled_room {size} f more h = rw (put_length f.put, length-replicate, f.put.place) (omega (arith, f.short))
 
-pub filled-written : {size most : ℕ} {text array : List ℕ} {next : ℕ} (other : List ℕ) → text ≡ other → most ≤ size → Filled size most text array next → Written size other array next
-filled-written {size} other e h f = put_written size (put_same e f.put) (rw (← e) (omega (arith, f.short)))
+pub filled_written : {size most : ℕ} {text array : List ℕ} {next : ℕ} (other : List ℕ) → text ≡ other → most ≤ size → Filled size most text array next → Written size other array next
+filled_written {size} other e h f = put_written size (put_same e f.put) (rw (← e) (omega (arith, f.short)))
 
-pub filled-first : (size most : ℕ) {text array : List ℕ} {next : ℕ} → Put (zeros size) array 0 text next → length text ≤ most → Filled size most text array next
-filled-first size most p h = record { put = p; short = h }
+pub filled_first : (size most : ℕ) {text array : List ℕ} {next : ℕ} → Put (zeros size) array 0 text next → length text ≤ most → Filled size most text array next
+filled_first size most p h = record { put = p; short = h }
 
 -- ## How long the parts are
 
-pub digits-20 : (number : ℕ) → Fits w64 number → length (decimal number) ≤ 20
-digits-20 number h = decimal-length 19 number (omega arith)
+pub digits_20 : (number : ℕ) → Fits w64 number → length (decimal number) ≤ 20
+digits_20 number h = decimal_length 19 number (omega arith)
 
 pub digits_3 : (number : ℕ) → Fits w8 number → length (decimal number) ≤ 3
-digits_3 number h = decimal-length 2 number (omega arith)
+digits_3 number h = decimal_length 2 number (omega arith)
 
-pub field-21 : (number byte : ℕ) → Fits w64 number → length (decimal number ++ (byte ∷ [])) ≤ 21
-field-21 number byte h = rw length-append (omega (arith, digits-20 number h))
+pub field_21 : (number byte : ℕ) → Fits w64 number → length (decimal number ++ (byte ∷ [])) ≤ 21
+field_21 number byte h = rw length-append (omega (arith, digits_20 number h))
 
-pub field-4 : (number byte : ℕ) → Fits w8 number → length (decimal number ++ (byte ∷ [])) ≤ 4
-field-4 number byte h = rw length-append (omega (arith, digits_3 number h))
+pub field_4 : (number byte : ℕ) → Fits w8 number → length (decimal number ++ (byte ∷ [])) ≤ 4
+field_4 number byte h = rw length-append (omega (arith, digits_3 number h))

@@ -2,14 +2,14 @@
 // `routes_to` says of a run; each into an array that the longest such line fits. What the lines say is in the crate `model`,
 // specs/Printed.antt and specs/RoutesTo.antt there.
 ghost use Rattle.std.specs.Prelude.{◌≡◌, true, ◌+◌, ◌*◌, ◌-◌, ◌/◌, ◌≤◌, ◌<◌, length};
-ghost use Rattle.rules.specs.Grid.{first, field-side};
-ghost use Rattle.model.specs.Bounds.{is-size};
-ghost use Rattle.model.specs.Printed.{code-digits, summary-line, refusal-line};
-ghost use Rattle.model.specs.RoutesTo.{progress-line};
-ghost use Rattle.grid.specs.PadsAt.{pads-of, place_of, IfEdge};
+ghost use Rattle.rules.specs.Grid.{first, field_side};
+ghost use Rattle.model.specs.Bounds.{is_size};
+ghost use Rattle.model.specs.Printed.{code_digits, summary_line, refusal_line};
+ghost use Rattle.model.specs.RoutesTo.{progress_line};
+ghost use Rattle.grid.specs.PadsAt.{pads_of, place_of, IfEdge};
 ghost use Rattle.text.specs.Put.{Put};
-ghost use Rattle.printed.specs.Coded.{line-place, line-added, Codes, CodesOf};
-ghost use Rattle.printed.specs.Written.{zeros, Written, layout-text};
+ghost use Rattle.printed.specs.Coded.{line_place, line_added, Codes, CodesOf};
+ghost use Rattle.printed.specs.Written.{zeros, Written, layout_text};
 
 use grid::{Edge, Pads};
 
@@ -36,8 +36,8 @@ pub struct LayoutLine {
 
 // The pads of the line at a place of a layout, by the place's number; none where there is no line.
 fn line_at(layout: &[u8], width: usize, i: usize) -> Pads
-    requires { (is-size width ≡ true) × (i / field-side width < 31) }
-    ensures { result ≡ pads-of width (line-place width layout.now i) }
+    requires { (is_size width ≡ true) × (i / field_side width < 31) }
+    ensures { result ≡ pads_of width (line_place width layout.now i) }
 {
     if layout.len() <= i {
         return Pads::NoEdge;
@@ -52,7 +52,7 @@ fn line_at(layout: &[u8], width: usize, i: usize) -> Pads
 // Adds a line to the code of its first pad: 1 for a line to the right, 2 for one downward.
 fn add_line(codes: &mut [u8; 256], pads: Pads)
     requires { IfEdge (place_of pads) (λ e. first e < 256) × Codes codes.old }
-    ensures { codes.new ≡ line-added (place_of pads) codes.old }
+    ensures { codes.new ≡ line_added (place_of pads) codes.old }
 {
     match pads {
         Pads::Beside(first, _) => {
@@ -73,7 +73,7 @@ fn no_codes() -> [u8; 256]
 
 // The codes of the pads by their indexes, right + 2 * down: each line of the layout is added to the code of its first pad.
 fn codes_of(height: usize, width: usize, layout: &[u8]) -> [u8; 256]
-    requires { (is-size height ≡ true) × (is-size width ≡ true) }
+    requires { (is_size height ≡ true) × (is_size width ≡ true) }
     ensures { CodesOf height width layout.now result }
 {
     let places = (2 * height - 1) * (2 * width - 1);
@@ -88,8 +88,8 @@ fn codes_of(height: usize, width: usize, layout: &[u8]) -> [u8; 256]
 
 // The codes of the pads in index order, one digit each, from a place on; the place after them.
 fn put_codes(out: &mut [u8], at: usize, height: usize, width: usize, layout: &[u8]) -> usize
-    requires { (is-size height ≡ true) × (is-size width ≡ true) × (at + height * width ≤ length out.old) }
-    ensures { Put out.old out.new at (code-digits height width layout.now) result }
+    requires { (is_size height ≡ true) × (is_size width ≡ true) × (at + height * width ≤ length out.old) }
+    ensures { Put out.old out.new at (code_digits height width layout.now) result }
 {
     let codes = codes_of(height, width, layout);
     let mut index = 0;
@@ -102,7 +102,7 @@ fn put_codes(out: &mut [u8], at: usize, height: usize, width: usize, layout: &[u
 
 // Layouts, visited, fewest, outcome.
 pub fn summary_line(layouts: u64, visited: u64, fewest: u64, outcome: u8) -> HeadLine
-    ensures { Written 67 (summary-line layouts visited fewest outcome) result.bytes result.length }
+    ensures { Written 67 (summary_line layouts visited fewest outcome) result.bytes result.length }
 {
     let mut bytes = [0; 67];
     let first = text::put_field(&mut bytes, 0, layouts, COMMA);
@@ -114,7 +114,7 @@ pub fn summary_line(layouts: u64, visited: u64, fewest: u64, outcome: u8) -> Hea
 
 // The word, number, line, field.
 pub fn refusal_line(number: u8, line: u64, field: u64) -> HeadLine
-    ensures { Written 67 (refusal-line number line field) result.bytes result.length }
+    ensures { Written 67 (refusal_line number line field) result.bytes result.length }
 {
     let mut bytes = [0; 67];
     let first = text::put_word(&mut bytes, 0, b"refused,");
@@ -126,7 +126,7 @@ pub fn refusal_line(number: u8, line: u64, field: u64) -> HeadLine
 
 // What is said of a run: the boards that it has visited, and the layouts found.
 pub fn progress_line(visited: u64, layouts: u64) -> HeadLine
-    ensures { Written 67 (progress-line visited layouts) result.bytes result.length }
+    ensures { Written 67 (progress_line visited layouts) result.bytes result.length }
 {
     let mut bytes = [0; 67];
     let first = text::put_word(&mut bytes, 0, b"visited ");
@@ -138,7 +138,7 @@ pub fn progress_line(visited: u64, layouts: u64) -> HeadLine
 
 // A layout's number from 1, its lines, its codes; nothing where H or W is out of bounds.
 pub fn layout_line(height: usize, width: usize, number: u64, layout: &[u8]) -> LayoutLine
-    ensures { Written 299 (layout-text height width number layout.now) result.bytes result.length }
+    ensures { Written 299 (layout_text height width number layout.now) result.bytes result.length }
 {
     let mut bytes = [0; 299];
     if !grid::is_size(height) {

@@ -6,12 +6,12 @@ use Rattle.std.proofs.Common.{ap, ◌∙◌}
 use Rattle.rules.specs.Grid.{Grid}
 use Rattle.rules.specs.Drawing.{Drawing, Listed}
 use Rattle.rules.specs.Tests.{conflict}
-use Rattle.model.specs.Board.{State, isUndecided, fresh}
+use Rattle.model.specs.Board.{State, is_undecided, fresh}
 use Rattle.propagation.specs.Objects.{AllHold}
 use Rattle.propagation.specs.Agreement.{Agrees}
 use Rattle.rules.specs.ProperGrid.{Proper}
-use Rattle.propagation.specs.Decisions.{Decision, After, AgreesWith, was-clear, decided-stay, rests-after, sound-after}
-use Rattle.propagation.specs.Preparing.{HolesShut, fresh-rests, agrees-with-fresh, fresh-shuts-holes}
+use Rattle.propagation.specs.Decisions.{Decision, After, AgreesWith, was_clear, decided_stay, rests_after, sound_after}
+use Rattle.propagation.specs.Preparing.{HolesShut, fresh_rests, agrees_with_fresh, fresh_shuts_holes}
 
 -- THE DECISIONS STANDING on a state: none on the fresh one, and each decision adds one
 abbrev pub Stands : Grid → State → List Decision → Type 0
@@ -19,15 +19,15 @@ Stands g S decisions = After g (fresh g) S decisions
 
 module _ (g : Grid) (proper : Proper g) {S : State} {decisions : List Decision} (stands : Stands g S decisions) where
   pub at_rest : S.flag ≡ false → AllHold g S
-  at_rest = rests-after g proper (fresh-rests g proper) stands
+  at_rest = rests_after g proper (fresh_rests g proper) stands
 
-  pub holes-shut : S.flag ≡ false → HolesShut g S
-  holes-shut clear v is-hole p m =
-      let none-there = fresh-shuts-holes g proper (was-clear g proper stands clear) v is-hole p m in
-      decided-stay g proper stands p.0 (ap isUndecided none-there) ∙ none-there
+  pub holes_shut : S.flag ≡ false → HolesShut g S
+  holes_shut clear v hole_is p m =
+      let none_there = fresh_shuts_holes g proper (was_clear g proper stands clear) v hole_is p m in
+      decided_stay g proper stands p.0 (ap is_undecided none_there) ∙ none_there
 
-  pub decisions-sound : (D : Drawing) → Listed g D → AgreesWith D decisions → (S.flag ≡ false) × Agrees D S
-  decisions-sound D listed agrees = sound-after g proper (fresh-rests g proper) stands D listed (agrees-with-fresh g proper D listed) agrees
+  pub decisions_sound : (D : Drawing) → Listed g D → AgreesWith D decisions → (S.flag ≡ false) × Agrees D S
+  decisions_sound D listed agrees = sound_after g proper (fresh_rests g proper) stands D listed (agrees_with_fresh g proper D listed) agrees
 
-  pub flag-means-none : S.flag ≡ true → (D : Drawing) → Listed g D → AgreesWith D decisions → ⊥
-  flag-means-none set D listed agrees = conflict set (decisions-sound D listed agrees).0
+  pub flag_means_none : S.flag ≡ true → (D : Drawing) → Listed g D → AgreesWith D decisions → ⊥
+  flag_means_none set D listed agrees = conflict set (decisions_sound D listed agrees).0

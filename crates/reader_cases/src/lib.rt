@@ -4,7 +4,7 @@
 // the pads among them.
 ghost use Rattle.std.specs.Prelude.{◌≤◌, ◌<◌, length};
 ghost use Rattle.reading.specs.ReadingLaws.{SoundReading};
-ghost use Rattle.gridfile.specs.Answers.{reading-says};
+ghost use Rattle.gridfile.specs.Answers.{reading_says};
 
 use gridfile::Reading;
 use libc::STDOUT_FILENO;
@@ -50,7 +50,7 @@ fn print_past(cells: &[i64], pads: usize) {
 
 // What the reader that is asked gives for a slice.
 fn ask(bytes: &[u8], reader: Reader) -> Reading
-    ensures { SoundReading (reading-says result) }
+    ensures { SoundReading (reading_says result) }
 {
     match reader {
         Reader::File => gridfile::read(bytes),

@@ -7,79 +7,79 @@ use Rattle.std.proofs.Common.{sym, ◌∙◌, inl, inr, add-zero, arith, length-
 use Rattle.std.proofs.Math.Bool.{true, false}
 use mathlib.Core.List.{List, [], ◌∷◌, ◌++◌, append-nil}
 use Rattle.std.proofs.Math.Seq.{append_snoc}
-use Rattle.rules.specs.Grid.{largest-code, blank-cell}
+use Rattle.rules.specs.Grid.{largest_code, blank_cell}
 use Rattle.rules.specs.Tests.{both, neither}
 use Rattle.model.specs.GridFile.{blank}
-use Rattle.model.specs.Packed.{half-bytes, all-FF, some-above-9, digits_value, PackedPad, cell, refused, packed-pad, packed-number, packed-cell}
+use Rattle.model.specs.Packed.{half_bytes, all_FF, some_above_9, digits_value, PackedPad, cell, refused, packed_pad, packed_number, packed_cell}
 
 -- ## Which test gave the answer
 
-abbrev pub packed-value : List ℕ → ℕ
-packed-value five = digits_value 0 (half-bytes five)
+abbrev pub packed_value : List ℕ → ℕ
+packed_value five = digits_value 0 (half_bytes five)
 
 pub data PadTold (five : List ℕ) (answer : PackedPad) : Type 0 where
-  told-blank : all-FF five ≡ true → answer ≡ cell blank → PadTold five answer
-  told-17 : all-FF five ≡ false → some-above-9 (half-bytes five) ≡ true → answer ≡ refused 17 → PadTold five answer
-  told-3 : all-FF five ≡ false → some-above-9 (half-bytes five) ≡ false → largest-code < packed-value five → answer ≡ refused 3 → PadTold five answer
-  told-code : all-FF five ≡ false → some-above-9 (half-bytes five) ≡ false → packed-value five ≤ largest-code → answer ≡ cell (pos (packed-value five)) → PadTold five answer
+  told_blank : all_FF five ≡ true → answer ≡ cell blank → PadTold five answer
+  told_17 : all_FF five ≡ false → some_above_9 (half_bytes five) ≡ true → answer ≡ refused 17 → PadTold five answer
+  told_3 : all_FF five ≡ false → some_above_9 (half_bytes five) ≡ false → largest_code < packed_value five → answer ≡ refused 3 → PadTold five answer
+  told_code : all_FF five ≡ false → some_above_9 (half_bytes five) ≡ false → packed_value five ≤ largest_code → answer ≡ cell (pos (packed_value five)) → PadTold five answer
 
-pub pad-told : (five : List ℕ) → PadTold five (packed-pad five)
-unfolding packed-pad
-pad-told five = go (all-FF five) (some-above-9 (half-bytes five)) (ltb largest-code (packed-value five)) refl refl refl
+pub pad_told : (five : List ℕ) → PadTold five (packed_pad five)
+unfolding packed_pad
+pad_told five = go (all_FF five) (some_above_9 (half_bytes five)) (ltb largest_code (packed_value five)) refl refl refl
   where
-    go : (f a l : Bool) → all-FF five ≡ f → some-above-9 (half-bytes five) ≡ a → ltb largest-code (packed-value five) ≡ l
-        → PadTold five (if f then cell blank else if a then refused 17 else if l then refused 3 else cell (pos (packed-value five)))
-    go true a l f' a' l' = told-blank f' refl
-    go false true l f' a' l' = told-17 f' a' refl
-    go false false true f' a' l' = told-3 f' a' (ltb-true _ _ l') refl
-    go false false false f' a' l' = told-code f' a' (ltb-false _ _ l') refl
+    go : (f a l : Bool) → all_FF five ≡ f → some_above_9 (half_bytes five) ≡ a → ltb largest_code (packed_value five) ≡ l
+        → PadTold five (if f then cell blank else if a then refused 17 else if l then refused 3 else cell (pos (packed_value five)))
+    go true a l f' a' l' = told_blank f' refl
+    go false true l f' a' l' = told_17 f' a' refl
+    go false false true f' a' l' = told_3 f' a' (ltb-true _ _ l') refl
+    go false false false f' a' l' = told_code f' a' (ltb-false _ _ l') refl
 
 -- a cell that a slice can hold: blank, or a code in range, and no hole
 abbrev pub Packable : ℤ → Type 0
-Packable z = (z ≡ blank-cell) ⊎ ((code : ℕ) × (z ≡ pos code) × (code ≤ largest-code))
+Packable z = (z ≡ blank_cell) ⊎ ((code : ℕ) × (z ≡ pos code) × (code ≤ largest_code))
 
-pub packable : (five : List ℕ) (z : ℤ) → packed-pad five ≡ cell z → Packable z
+pub packable : (five : List ℕ) (z : ℤ) → packed_pad five ≡ cell z → Packable z
 unfolding blank
-packable five z e = go (pad-told five)
+packable five z e = go (pad_told five)
   where
-    go : PadTold five (packed-pad five) → Packable z
-    go (told-blank f is) = inl (cc)
-    go (told-17 f a is) = let no : ◌≡◌ {A = ℕ} 0 1 = cc in absurd (omega arith)
-    go (told-3 f a l is) = let no : ◌≡◌ {A = ℕ} 0 1 = cc in absurd (omega arith)
-    go (told-code f a l is) = inr (packed-value five, cc, l)
+    go : PadTold five (packed_pad five) → Packable z
+    go (told_blank f is) = inl (cc)
+    go (told_17 f a is) = let no : ◌≡◌ {A = ℕ} 0 1 = cc in absurd (omega arith)
+    go (told_3 f a l is) = let no : ◌≡◌ {A = ℕ} 0 1 = cc in absurd (omega arith)
+    go (told_code f a l is) = inr (packed_value five, cc, l)
 
 -- a refusal is 17 or 3
-pub refused-with : (five : List ℕ) (number : ℕ) → packed-pad five ≡ refused number → (number ≡ 17) ⊎ (number ≡ 3)
-refused-with five number e = go (pad-told five)
+pub refused_with : (five : List ℕ) (number : ℕ) → packed_pad five ≡ refused number → (number ≡ 17) ⊎ (number ≡ 3)
+refused_with five number e = go (pad_told five)
   where
-    go : PadTold five (packed-pad five) → (number ≡ 17) ⊎ (number ≡ 3)
-    go (told-blank f is) = let no : ◌≡◌ {A = ℕ} 0 1 = cc in absurd (omega arith)
-    go (told-17 f a is) = inl (cc)
-    go (told-3 f a l is) = inr (cc)
-    go (told-code f a l is) = let no : ◌≡◌ {A = ℕ} 0 1 = cc in absurd (omega arith)
+    go : PadTold five (packed_pad five) → (number ≡ 17) ⊎ (number ≡ 3)
+    go (told_blank f is) = let no : ◌≡◌ {A = ℕ} 0 1 = cc in absurd (omega arith)
+    go (told_17 f a is) = inl (cc)
+    go (told_3 f a l is) = inr (cc)
+    go (told_code f a l is) = let no : ◌≡◌ {A = ℕ} 0 1 = cc in absurd (omega arith)
 
 -- ## From a cell to its bytes and back
 
 -- half bytes, digits and their value, of bytes one behind the other
 module _ (second : List ℕ) where
-  halves-append : (first : List ℕ) → half-bytes (first ++ second) ≡ half-bytes first ++ half-bytes second
-  unfolding half-bytes
-  halves-append [] = refl
-  halves-append (byte ∷ first) = ap (λ (l : List ℕ). byte / 16 ∷ byte % 16 ∷ l) (halves-append first)
+  halves_append : (first : List ℕ) → half_bytes (first ++ second) ≡ half_bytes first ++ half_bytes second
+  unfolding half_bytes
+  halves_append [] = refl
+  halves_append (byte ∷ first) = ap (λ (l : List ℕ). byte / 16 ∷ byte % 16 ∷ l) (halves_append first)
 
-  above-append : (first : List ℕ) → some-above-9 (first ++ second) ≡ some-above-9 first || some-above-9 second
-  unfolding some-above-9
-  above-append [] = refl
-  above-append (half ∷ first) = rw (above-append first) (go (ltb 9 half))
+  above_append : (first : List ℕ) → some_above_9 (first ++ second) ≡ some_above_9 first || some_above_9 second
+  unfolding some_above_9
+  above_append [] = refl
+  above_append (half ∷ first) = rw (above_append first) (go (ltb 9 half))
     where
-      go : (b : Bool) → b || (some-above-9 first || some-above-9 second) ≡ (b || some-above-9 first) || some-above-9 second
+      go : (b : Bool) → b || (some_above_9 first || some_above_9 second) ≡ (b || some_above_9 first) || some_above_9 second
       go true = refl
       go false = refl
 
-  value-append : (first : List ℕ) (value : ℕ) → digits_value value (first ++ second) ≡ digits_value (digits_value value first) second
+  value_append : (first : List ℕ) (value : ℕ) → digits_value value (first ++ second) ≡ digits_value (digits_value value first) second
   unfolding digits_value
-  value-append [] value = refl
-  value-append (digit ∷ first) value = value-append first (value * 10 + digit)
+  value_append [] value = refl
+  value_append (digit ∷ first) value = value_append first (value * 10 + digit)
 
 -- the byte of the last two digits of a number, its halves, and what they add to the digits before them
 abbrev two_digits : ℕ → ℕ
@@ -98,27 +98,27 @@ module _ (number : ℕ) where
       tens : number / 100 ≡ number / 10 / 10
       tens = omega arith
 
-number-length : (more number : ℕ) → length (packed-number more number) ≡ more
-unfolding packed-number
-number-length zero number = refl
-number-length (suc more) number = length-append (packed-number more (number / 100)) (two_digits number ∷ []) ∙ rw (number-length more (number / 100)) (omega arith)
+number_length : (more number : ℕ) → length (packed_number more number) ≡ more
+unfolding packed_number
+number_length zero number = refl
+number_length (suc more) number = length-append (packed_number more (number / 100)) (two_digits number ∷ []) ∙ rw (number_length more (number / 100)) (omega arith)
 
-number_digits : (more number : ℕ) → some-above-9 (half-bytes (packed-number more number)) ≡ false
-unfolding packed-number half-bytes some-above-9
+number_digits : (more number : ℕ) → some_above_9 (half_bytes (packed_number more number)) ≡ false
+unfolding packed_number half_bytes some_above_9
 number_digits zero number = refl
-number_digits (suc more) number = rw (halves-append (two_digits number ∷ []) (packed-number more (number / 100)), above-append _ (half-bytes (packed-number more (number / 100))), number_digits more (number / 100), high_half number, low_half number, le-ltb 9 (number / 10 % 10) (omega arith), le-ltb 9 (number % 10) (omega arith)) refl
+number_digits (suc more) number = rw (halves_append (two_digits number ∷ []) (packed_number more (number / 100)), above_append _ (half_bytes (packed_number more (number / 100))), number_digits more (number / 100), high_half number, low_half number, le-ltb 9 (number / 10 % 10) (omega arith), le-ltb 9 (number % 10) (omega arith)) refl
 
-number-back : (more number : ℕ) → number < 100 ^ more → packed-value (packed-number more number) ≡ number
-unfolding packed-number half-bytes digits_value
-number-back zero number h = omega arith
-number-back (suc more) number h =
-    rw (halves-append (two_digits number ∷ []) (packed-number more (number / 100)), value-append _ (half-bytes (packed-number more (number / 100))) 0, number-back more (number / 100) (omega arith), high_half number, low_half number) (both_halves number)
+number_back : (more number : ℕ) → number < 100 ^ more → packed_value (packed_number more number) ≡ number
+unfolding packed_number half_bytes digits_value
+number_back zero number h = omega arith
+number_back (suc more) number h =
+    rw (halves_append (two_digits number ∷ []) (packed_number more (number / 100)), value_append _ (half_bytes (packed_number more (number / 100))) 0, number_back more (number / 100) (omega arith), high_half number, low_half number) (both_halves number)
 
 -- digits are not FF
-not-FF : (five : List ℕ) → some-above-9 (half-bytes five) ≡ false → 1 ≤ length five → all-FF five ≡ false
-unfolding all-FF half-bytes some-above-9
-not-FF [] a some = absurd (omega arith)
-not-FF (byte ∷ bytes) a some = rw (ne_eqb byte 255 no) refl
+not_FF : (five : List ℕ) → some_above_9 (half_bytes five) ≡ false → 1 ≤ length five → all_FF five ≡ false
+unfolding all_FF half_bytes some_above_9
+not_FF [] a some = absurd (omega arith)
+not_FF (byte ∷ bytes) a some = rw (ne_eqb byte 255 no) refl
   where
     high : byte / 16 ≤ 9
     high = ltb-false 9 (byte / 16) (neither (ltb 9 (byte / 16)) _ a).0
@@ -126,39 +126,39 @@ not-FF (byte ∷ bytes) a some = rw (ne_eqb byte 255 no) refl
     no : byte ≡ 255 → ⊥
     no e = omega (arith, high)
 
-all-FF-five : (bytes : List ℕ) → all-FF bytes ≡ true → replicate (length bytes) 255 ≡ bytes
-unfolding all-FF
-all-FF-five [] f = refl
-all-FF-five (byte ∷ bytes) f = let (first, rest) = both (eqb byte 255) (all-FF bytes) f in rw (eqb-true byte 255 first) (ap (λ (l : List ℕ). 255 ∷ l) (all-FF-five bytes rest))
+all_FF_five : (bytes : List ℕ) → all_FF bytes ≡ true → replicate (length bytes) 255 ≡ bytes
+unfolding all_FF
+all_FF_five [] f = refl
+all_FF_five (byte ∷ bytes) f = let (first, rest) = both (eqb byte 255) (all_FF bytes) f in rw (eqb-true byte 255 first) (ap (λ (l : List ℕ). 255 ∷ l) (all_FF_five bytes rest))
 
 -- five bytes to a pad
-pub cell-length : (z : ℤ) → length (packed-cell z) ≡ 5
-unfolding packed-cell
-cell-length (pos code) = number-length 5 code
-cell-length (negsuc below) = refl
+pub cell_length : (z : ℤ) → length (packed_cell z) ≡ 5
+unfolding packed_cell
+cell_length (pos code) = number_length 5 code
+cell_length (negsuc below) = refl
 
 -- packing a cell and reading it gives the cell
-pub pad-packed : (z : ℤ) → Packable z → packed-pad (packed-cell z) ≡ cell z
-unfolding packed-pad packed-cell blank all-FF
-pad-packed z (inl e) = rw e refl
-pad-packed z (inr (code, e, below)) = rw (e, not-FF (packed-number 5 code) (number_digits 5 code) (rw (number-length 5 code) (omega arith)), number_digits 5 code, number-back 5 code (omega arith), le-ltb largest-code code below) refl
+pub pad_packed : (z : ℤ) → Packable z → packed_pad (packed_cell z) ≡ cell z
+unfolding packed_pad packed_cell blank all_FF
+pad_packed z (inl e) = rw e refl
+pad_packed z (inr (code, e, below)) = rw (e, not_FF (packed_number 5 code) (number_digits 5 code) (rw (number_length 5 code) (omega arith)), number_digits 5 code, number_back 5 code (omega arith), le-ltb largest_code code below) refl
 
 -- the bytes of digits are those of their value
-digits-packed : (bytes : List ℕ) (more value : ℕ) → some-above-9 (half-bytes bytes) ≡ false → packed-number (more + length bytes) (digits_value value (half-bytes bytes)) ≡ packed-number more value ++ bytes
-unfolding half-bytes some-above-9 digits_value packed-number
-digits-packed [] more value a = rw (add-zero more, append-nil) refl
-digits-packed (byte ∷ bytes) more value a =
-    ap (λ (n : ℕ). packed-number n (digits_value next (half-bytes bytes))) one_more
-    ∙ digits-packed bytes (suc more) next second.1
-    ∙ rw (before, last) (append_snoc (packed-number more value) byte bytes)
+digits_packed : (bytes : List ℕ) (more value : ℕ) → some_above_9 (half_bytes bytes) ≡ false → packed_number (more + length bytes) (digits_value value (half_bytes bytes)) ≡ packed_number more value ++ bytes
+unfolding half_bytes some_above_9 digits_value packed_number
+digits_packed [] more value a = rw (add-zero more, append-nil) refl
+digits_packed (byte ∷ bytes) more value a =
+    ap (λ (n : ℕ). packed_number n (digits_value next (half_bytes bytes))) one_more
+    ∙ digits_packed bytes (suc more) next second.1
+    ∙ rw (before, last) (append_snoc (packed_number more value) byte bytes)
   where
     next : ℕ
     next = (value * 10 + byte / 16) * 10 + byte % 16
 
-    first : (ltb 9 (byte / 16) ≡ false) × (ltb 9 (byte % 16) || some-above-9 (half-bytes bytes) ≡ false)
+    first : (ltb 9 (byte / 16) ≡ false) × (ltb 9 (byte % 16) || some_above_9 (half_bytes bytes) ≡ false)
     first = neither _ _ a
 
-    second : (ltb 9 (byte % 16) ≡ false) × (some-above-9 (half-bytes bytes) ≡ false)
+    second : (ltb 9 (byte % 16) ≡ false) × (some_above_9 (half_bytes bytes) ≡ false)
     second = neither _ _ first.1
 
     one_more : more + suc (length bytes) ≡ suc more + length bytes
@@ -180,15 +180,15 @@ digits-packed (byte ∷ bytes) more value a =
     last = rw (tens, high, low) (omega arith)
 
 -- reading five bytes and packing the cell gives the bytes
-pub pad-there : (five : List ℕ) (z : ℤ) → length five ≡ 5 → packed-pad five ≡ cell z → packed-cell z ≡ five
-unfolding packed-cell packed-number blank
-pad-there five z long e = go (pad-told five)
+pub pad_there : (five : List ℕ) (z : ℤ) → length five ≡ 5 → packed_pad five ≡ cell z → packed_cell z ≡ five
+unfolding packed_cell packed_number blank
+pad_there five z long e = go (pad_told five)
   where
     all : 5 ≡ 0 + length five
     all = omega arith
 
-    go : PadTold five (packed-pad five) → packed-cell z ≡ five
-    go (told-blank f is) = let blank-there : z ≡ blank-cell = cc in rw blank-there (ap (λ (n : ℕ). replicate n 255) (sym long) ∙ all-FF-five five f)
-    go (told-17 f a is) = let no : ◌≡◌ {A = ℕ} 0 1 = cc in absurd (omega arith)
-    go (told-3 f a l is) = let no : ◌≡◌ {A = ℕ} 0 1 = cc in absurd (omega arith)
-    go (told-code f a l is) = let code-there : z ≡ pos (packed-value five) = cc in rw code-there (ap (λ (n : ℕ). packed-number n (packed-value five)) all ∙ digits-packed five 0 0 a)
+    go : PadTold five (packed_pad five) → packed_cell z ≡ five
+    go (told_blank f is) = let blank_there : z ≡ blank_cell = cc in rw blank_there (ap (λ (n : ℕ). replicate n 255) (sym long) ∙ all_FF_five five f)
+    go (told_17 f a is) = let no : ◌≡◌ {A = ℕ} 0 1 = cc in absurd (omega arith)
+    go (told_3 f a l is) = let no : ◌≡◌ {A = ℕ} 0 1 = cc in absurd (omega arith)
+    go (told_code f a l is) = let code_there : z ≡ pos (packed_value five) = cc in rw code_there (ap (λ (n : ℕ). packed_number n (packed_value five)) all ∙ digits_packed five 0 0 a)

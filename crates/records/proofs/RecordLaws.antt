@@ -10,41 +10,41 @@ use lib.ListN.{length, get_or, take, drop}
 use lib.Seq.{drop-cons, drop-length}
 use lib.Dec.{ltb, leb}
 use borrow.Author.Tests.{ltb-true, ltb-false, lt-ltb, le-ltb, le-leb, lt-leb, eq-eqb, ne_eqb}
-use Rattle.model.specs.Bounds.{is-size}
-use Rattle.model.specs.RefusalLaws.{size-of-test}
-use Rattle.model.specs.Records.{record-length, has-record, record-at, shorter}
-use Rattle.model.specs.HasRecord.{what-a-record-has}
-use Rattle.rules.specs.Record.{record-lines}
-use Rattle.rules.specs.Places.{some-places, few-places}
+use Rattle.model.specs.Bounds.{is_size}
+use Rattle.model.specs.RefusalLaws.{size_of_test}
+use Rattle.model.specs.Records.{record_length, has_record, record_at, shorter}
+use Rattle.model.specs.HasRecord.{what_a_record_has}
+use Rattle.rules.specs.Record.{record_lines}
+use Rattle.rules.specs.Places.{some_places, few_places}
 
 -- ## The length of a record
 
-module _ (height width : ℕ) (h : is-size height ≡ true) (w : is-size width ≡ true) where
-  pub longest-record : (2 * height - 1) * (2 * width - 1) ≤ 961
-  longest-record = few-places height width (size-of-test height h).1 (size-of-test width w).1
+module _ (height width : ℕ) (h : is_size height ≡ true) (w : is_size width ≡ true) where
+  pub longest_record : (2 * height - 1) * (2 * width - 1) ≤ 961
+  longest_record = few_places height width (size_of_test height h).1 (size_of_test width w).1
 
-  pub some_bytes : 0 < record-length height width
-  unfolding record-length
-  some_bytes = some-places height width (size-of-test height h).0 (size-of-test width w).0
+  pub some_bytes : 0 < record_length height width
+  unfolding record_length
+  some_bytes = some_places height width (size_of_test height h).0 (size_of_test width w).0
 
 -- ## Whether there is a record k
 
 module _ (height width count k room : ℕ) where
-  pub no-height : is-size height ≡ false → false ≡ has-record height width count k room
-  unfolding has-record
-  no-height h = simp h
+  pub no_height : is_size height ≡ false → false ≡ has_record height width count k room
+  unfolding has_record
+  no_height h = simp h
 
-  pub no-width : is-size height ≡ true → is-size width ≡ false → false ≡ has-record height width count k room
-  unfolding has-record
-  no-width h w = simp (h, w)
+  pub no_width : is_size height ≡ true → is_size width ≡ false → false ≡ has_record height width count k room
+  unfolding has_record
+  no_width h w = simp (h, w)
 
-  pub not-counted : is-size height ≡ true → is-size width ≡ true → count ≤ k → false ≡ has-record height width count k room
-  unfolding has-record
-  not-counted h w c = simp (h, w, le-ltb _ _ c)
+  pub not_counted : is_size height ≡ true → is_size width ≡ true → count ≤ k → false ≡ has_record height width count k room
+  unfolding has_record
+  not_counted h w c = simp (h, w, le-ltb _ _ c)
 
-  pub by-room : is-size height ≡ true → is-size width ≡ true → k < count → (long : ℕ) → long ≡ record-length height width → ltb k (room / long) ≡ has-record height width count k room
-  unfolding has-record
-  by-room h w c long e = simp (h, w, lt-ltb _ _ c, ← e) (go (ltb k (room / long)) refl)
+  pub by_room : is_size height ≡ true → is_size width ≡ true → k < count → (long : ℕ) → long ≡ record_length height width → ltb k (room / long) ≡ has_record height width count k room
+  unfolding has_record
+  by_room h w c long e = simp (h, w, lt-ltb _ _ c, ← e) (go (ltb k (room / long)) refl)
     where
       some : 0 < long
       some = rw e (some_bytes height width h w)
@@ -57,20 +57,20 @@ module _ (height width count k room : ℕ) where
           more l = omega (arith, lt-div-mul-add {a = room} {b = long} some, mul-le-mul_right long l)
 
   -- a record that is there ends in time
-  pub in-room : has-record height width count k room ≡ true → (long : ℕ) → long ≡ record-length height width → k * long + long ≤ room
-  unfolding record-length
-  in-room e long l = rw l (what-a-record-has height width count k room e).inside
+  pub in_room : has_record height width count k room ≡ true → (long : ℕ) → long ≡ record_length height width → k * long + long ≤ room
+  unfolding record_length
+  in_room e long l = rw l (what_a_record_has height width count k room e).inside
 
 -- ## Record k
 
 module _ (height width count k : ℕ) (buffer : List ℕ) where
-  pub no_record : has-record height width count k (length buffer) ≡ false → [] ≡ record-at height width count k buffer
-  unfolding record-at
+  pub no_record : has_record height width count k (length buffer) ≡ false → [] ≡ record_at height width count k buffer
+  unfolding record_at
   no_record e = simp e
 
-  pub that-part : has-record height width count k (length buffer) ≡ true → (long : ℕ) → long ≡ record-length height width → take (k * long + long - k * long) (drop (k * long) buffer) ≡ record-at height width count k buffer
-  unfolding record-at
-  that-part e long l = simp (e, ← l, add-sub_cancel_left)
+  pub that_part : has_record height width count k (length buffer) ≡ true → (long : ℕ) → long ≡ record_length height width → take (k * long + long - k * long) (drop (k * long) buffer) ≡ record_at height width count k buffer
+  unfolding record_at
+  that_part e long l = simp (e, ← l, add-sub_cancel_left)
 
 -- ## Lines, counted from the end
 
@@ -81,20 +81,20 @@ module _ (layout : List ℕ) (i : ℕ) (some : 0 < i) (inside : i ≤ length lay
       back : suc (i - 1) ≡ i
       back = omega arith
 
-  pub one_more : get_or layout (i - 1) 0 ≡ 1 → record-lines (drop i layout) + 1 ≡ record-lines (drop (i - 1) layout)
-  unfolding record-lines
+  pub one_more : get_or layout (i - 1) 0 ≡ 1 → record_lines (drop i layout) + 1 ≡ record_lines (drop (i - 1) layout)
+  unfolding record_lines
   one_more e = rw (last_byte, eq-eqb _ _ e) (omega arith)
 
-  pub no_more : (get_or layout (i - 1) 0 ≡ 1 → ⊥) → record-lines (drop i layout) ≡ record-lines (drop (i - 1) layout)
-  unfolding record-lines
+  pub no_more : (get_or layout (i - 1) 0 ≡ 1 → ⊥) → record_lines (drop i layout) ≡ record_lines (drop (i - 1) layout)
+  unfolding record_lines
   no_more e = rw (last_byte, ne_eqb _ _ e) (omega arith)
 
-pub none-counted : (layout : List ℕ) → 0 ≡ record-lines (drop (length layout) layout)
-unfolding record-lines
-none-counted layout = rw drop-length refl
+pub none_counted : (layout : List ℕ) → 0 ≡ record_lines (drop (length layout) layout)
+unfolding record_lines
+none_counted layout = rw drop-length refl
 
-pub all-counted : (layout : List ℕ) (i : ℕ) → i ≤ 0 → record-lines (drop i layout) ≡ record-lines layout
-all-counted layout i h = ap (λ (n : ℕ). record-lines (drop n layout)) at_first
+pub all_counted : (layout : List ℕ) (i : ℕ) → i ≤ 0 → record_lines (drop i layout) ≡ record_lines layout
+all_counted layout i h = ap (λ (n : ℕ). record_lines (drop n layout)) at_first
   where
     at_first : i ≡ 0
     at_first = omega arith
@@ -106,11 +106,11 @@ module _ (first second : List ℕ) where
   unfolding shorter
   lengths_differ e = simp (ne_eqb _ _ e)
 
-  module _ (same : length first ≡ length second) (a b : ℕ) (p : a ≡ record-lines first) (q : b ≡ record-lines second) where
-    pub second-shorter : b < a → second ≡ shorter first second
+  module _ (same : length first ≡ length second) (a b : ℕ) (p : a ≡ record_lines first) (q : b ≡ record_lines second) where
+    pub second_shorter : b < a → second ≡ shorter first second
     unfolding shorter
-    second-shorter h = simp (eq-eqb _ _ same, ← p, ← q, lt-ltb _ _ h)
+    second_shorter h = simp (eq-eqb _ _ same, ← p, ← q, lt-ltb _ _ h)
 
-    pub first-shorter : a ≤ b → first ≡ shorter first second
+    pub first_shorter : a ≤ b → first ≡ shorter first second
     unfolding shorter
-    first-shorter h = simp (eq-eqb _ _ same, ← p, ← q, le-ltb _ _ h)
+    first_shorter h = simp (eq-eqb _ _ same, ← p, ← q, le-ltb _ _ h)

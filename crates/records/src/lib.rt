@@ -1,23 +1,23 @@
 // The record calls: layout k as a part of the lent answer buffer, the lines of a record, and the shorter of two lent records.
 // Each result equals the definition of the same name in the crate `model`, specs/Records.antt there, for every input.
 ghost use Rattle.std.specs.Prelude.{◌≡◌, true, ◌+◌, ◌*◌, ◌-◌, ◌<◌};
-ghost use Rattle.model.specs.Bounds.{is-size};
-ghost use Rattle.model.specs.Records.{record-length, has-record, record-at, shorter};
-ghost use Rattle.rules.specs.Record.{record-lines};
+ghost use Rattle.model.specs.Bounds.{is_size};
+ghost use Rattle.model.specs.Records.{record_length, has_record, record_at, shorter};
+ghost use Rattle.rules.specs.Record.{record_lines};
 
 use grid::Edge;
 
 // The bytes of a record: the field of 2H-1 by 2W-1 places.
 fn record_length(height: usize, width: usize) -> usize
-    requires { (is-size height ≡ true) × (is-size width ≡ true) }
-    ensures { result ≡ record-length height width }
+    requires { (is_size height ≡ true) × (is_size width ≡ true) }
+    ensures { result ≡ record_length height width }
 {
     (2 * height - 1) * (2 * width - 1)
 }
 
 // Whether a buffer of so many bytes has a record k: H and W are sizes, k is below the count, and the record ends in time.
 fn has_record(height: usize, width: usize, count: usize, k: usize, room: usize) -> bool
-    ensures { result ≡ has-record height width count k room }
+    ensures { result ≡ has_record height width count k room }
 {
     if !grid::is_size(height) {
         return false;
@@ -33,7 +33,7 @@ fn has_record(height: usize, width: usize, count: usize, k: usize, room: usize) 
 
 // Record k of the buffer, as that part of it; an empty part where there is no record k.
 pub fn record_at(height: usize, width: usize, count: usize, k: usize, buffer: &[u8]) -> &[u8]
-    ensures { result.now ≡ record-at height width count k buffer.now }
+    ensures { result.now ≡ record_at height width count k buffer.now }
 {
     if !has_record(height, width, count, k, buffer.len()) {
         return &buffer[0..0];
@@ -46,7 +46,7 @@ pub fn record_at(height: usize, width: usize, count: usize, k: usize, buffer: &[
 
 // The number of lines of a record: its bytes 1.
 pub fn lines(layout: &[u8]) -> usize
-    ensures { result ≡ record-lines layout.now }
+    ensures { result ≡ record_lines layout.now }
 {
     let mut found: usize = 0;
     let mut i = layout.len();

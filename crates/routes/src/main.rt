@@ -1,8 +1,8 @@
 // The router: reads a grid file from standard input, of which the first 4,096 bytes suffice, and prints the list of its wirings, or why the
-// file is refused. What is printed is made, and proved, in the crate `listing`; here it is only read and written. By `list-whole` of that
+// file is refused. What is printed is made, and proved, in the crate `listing`; here it is only read and written. By `list_whole` of that
 // crate (specs/Whole.antt) the bytes written are the text of the crate `model` for the bytes of standard input.
 ghost use Rattle.std.specs.Prelude.{◌≡◌, ◌≤◌, length};
-ghost use Rattle.model.specs.Routes.{routes-limit, routes-room};
+ghost use Rattle.model.specs.Routes.{routes_limit, routes_room};
 
 use libc::{STDIN_FILENO, STDOUT_FILENO};
 
@@ -11,7 +11,7 @@ const LIMIT: u64 = 1000000;
 
 // The whole text for a file of at most 4,096 bytes, with an answer buffer of 61,504 bytes lent: the head, then the lines.
 fn print_list(file: &[u8], limit: u64, buffer: &mut [u8])
-    requires { (length file.now ≤ 4096) × (limit ≡ routes-limit) × (length buffer.old ≡ routes-room) }
+    requires { (length file.now ≤ 4096) × (limit ≡ routes_limit) × (length buffer.old ≡ routes_room) }
 {
     let head = listing::head(file, limit, buffer);
     let bytes = head.bytes;

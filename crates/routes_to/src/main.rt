@@ -1,17 +1,17 @@
 // The router with a limit of its own: takes the limit of visited boards as its argument, reads a grid file from standard input, of which the first 4,096
 // bytes suffice, and prints the list of its wirings, or why the file is refused, as `routes` does. It searches with growing limits and says on
 // standard error after each run how far it has come. An argument that is no limit is refused with a line that says so. What is printed is
-// made, and proved, in the crates `growing` and `listing`; here it is only read and written. By `limit-prints` and `no-limit-prints` of the
+// made, and proved, in the crates `growing` and `listing`; here it is only read and written. By `limit_prints` and `no_limit_prints` of the
 // crate `growing` (specs/Whole.antt) the bytes written are the text of the crate `model` for the argument and the bytes of standard input.
 ghost use Rattle.std.specs.Prelude.{◌≡◌, ◌≤◌, length};
-ghost use Rattle.model.specs.RoutesTo.{routes-to-room};
+ghost use Rattle.model.specs.RoutesTo.{routes_to_room};
 
 use growing::Limit;
 use libc::{STDIN_FILENO, STDOUT_FILENO};
 
 // The whole text for a file of at most 4,096 bytes, with an answer buffer of 3,936,256 bytes lent: the head, then the lines.
 fn print_list(file: &[u8], limit: u64, buffer: &mut [u8])
-    requires { (length file.now ≤ 4096) × (length buffer.old ≡ routes-to-room) }
+    requires { (length file.now ≤ 4096) × (length buffer.old ≡ routes_to_room) }
 {
     let head = growing::head(file, limit, buffer);
     let bytes = head.bytes;

@@ -39,11 +39,11 @@ pub record OneLine (L : Relation) (v : ℕ) : Type 0 where
 
 pub record TwoLines (L : Relation) (v : ℕ) : Type 0 where
   pub to : ℕ
-  pub also-to : ℕ
-  pub apart : to ≢ also-to
+  pub also_to : ℕ
+  pub apart : to ≢ also_to
   pub line : L v to
-  pub also-line : L v also-to
-  pub only : (u : ℕ) → L v u → (u ≡ to) ⊎ (u ≡ also-to)
+  pub also_line : L v also_to
+  pub only : (u : ℕ) → L v u → (u ≡ to) ⊎ (u ≡ also_to)
 
 -- JOINED: two pads in one chain of lines
 pub data Joined (L : Relation) : ℕ → ℕ → Type 0 where
@@ -61,11 +61,11 @@ pub record Loop (L : Relation) (Family : ℕ → Type 0) : Type 0 where
 -- THE ORDINARY RULES for the lines between pads: a clue pad has one line, a blank one none or two, a hole none; no closed loop; each
 -- chain joins pads of equal code. (They are asked of every index; an index past the pads is blank and has no line, so nothing is asked there.)
 pub record Wired (cell : ℕ → Cell) (L : Relation) : Type 1 where
-  pub clue-one : (v code : ℕ) → cell v ≡ clue code → OneLine L v
-  pub blank-none-or-two : (v : ℕ) → cell v ≡ blank → NoLine L v ⊎ TwoLines L v
-  pub hole-none : (v : ℕ) → cell v ≡ hole → NoLine L v
+  pub clue_one : (v code : ℕ) → cell v ≡ clue code → OneLine L v
+  pub blank_none_or_two : (v : ℕ) → cell v ≡ blank → NoLine L v ⊎ TwoLines L v
+  pub hole_none : (v : ℕ) → cell v ≡ hole → NoLine L v
   pub no_loop : (Family : ℕ → Type 0) → Loop L Family → ⊥
-  pub equal-codes : (u v c d : ℕ) → cell u ≡ clue c → cell v ≡ clue d → Joined L u v → c ≡ d
+  pub equal_codes : (u v c d : ℕ) → cell u ≡ clue c → cell v ≡ clue d → Joined L u v → c ≡ d
 
 -- ORDINARY: lines on the board, wired by these rules
 pub record Ordinary (g : Grid) (D : Drawing) : Type 1 where
@@ -78,23 +78,23 @@ num true = 1
 num false = 0
 
 -- the lines in the unit square of pad v: above, on the left, on the right, below
-abbrev pub square-lines : Grid → Drawing → ℕ → ℕ
-square-lines g D v = num (D.right v) + num (D.down v) + num (D.down (v + 1)) + num (D.right (v + g.width))
+abbrev pub square_lines : Grid → Drawing → ℕ → ℕ
+square_lines g D v = num (D.right v) + num (D.down v) + num (D.down (v + 1)) + num (D.right (v + g.width))
 
 -- the two sides of a pad; the corner rule is the same on both
 pub data Side : Type 0 where
-  on-left : Side
-  on-right : Side
+  on_left : Side
+  on_right : Side
 
 -- pad p has a line to that side
 abbrev pub LineBeside : Side → Drawing → ℕ → Type 0
-LineBeside on-right D p = D.right p ≡ true
-LineBeside on-left D p = (u : ℕ) × (u + 1 ≡ p) × (D.right u ≡ true)
+LineBeside on_right D p = D.right p ≡ true
+LineBeside on_left D p = (u : ℕ) × (u + 1 ≡ p) × (D.right u ≡ true)
 
 -- pad q stands diagonally below pad p, on that side
 abbrev pub DiagonallyBelow : Side → ℕ → ℕ → ℕ → Type 0
-DiagonallyBelow on-right width p q = q ≡ p + width + 1
-DiagonallyBelow on-left width p q = q + 1 ≡ p + width
+DiagonallyBelow on_right width p q = q ≡ p + width + 1
+DiagonallyBelow on_left width p q = q + 1 ≡ p + width
 
 -- pad p has the two lines right+down, or left+down
 abbrev pub Corner : Side → Drawing → ℕ → Type 0
@@ -110,7 +110,7 @@ NotBlank g v = g.cell v ≢ blank
 -- side, a pad that is not blank (a clue or a hole) or has the same two lines
 pub record Listed (g : Grid) (D : Drawing) : Type 1 where
   pub ordinary : Ordinary g D
-  pub squares : (v : ℕ) → UnitSquare g v → square-lines g D v ≤ 2
+  pub squares : (v : ℕ) → UnitSquare g v → square_lines g D v ≤ 2
   pub corners : (side : Side) (p q : ℕ) → DiagonallyBelow side g.width p q → Corner side D p → NotBlank g q ⊎ Corner side D q
 
 -- JOINS THE SAME PADS PAIR BY PAIR: two clue pads are joined in the one drawing exactly where they are joined in the other
@@ -122,5 +122,5 @@ unfoldable pub count : (ℕ → Bool) → ℕ → ℕ
 count f zero = 0
 count f (suc n) = count f n + num (f n)
 
-unfoldable pub number-of-lines : Grid → Drawing → ℕ
-number-of-lines g D = count D.right (pads g) + count D.down (pads g)
+unfoldable pub number_of_lines : Grid → Drawing → ℕ
+number_of_lines g D = count D.right (pads g) + count D.down (pads g)

@@ -5,11 +5,11 @@ use Rattle.std.specs.Prelude.{ℕ, zero, suc, ◌+◌, ◌-◌, ◌≤◌, ◌<�
 use Rattle.std.proofs.Common.{sym, ◌∙◌, ap, inl, inr, ⊎_elim, arith}
 use Rattle.std.proofs.Math.Logic.{ite, if_pos, if_neg}
 use Rattle.std.proofs.Math.Decide.{ℕ_discrete, dec_lt}
-use Rattle.rules.specs.Chains.{line-back}
+use Rattle.rules.specs.Chains.{line_back}
 use Rattle.rules.specs.Grid.{right, down, Grid, pads, OnBoard}
 use Rattle.rules.specs.Drawing.{Drawing, Placed, Relation, Line, rightward, leftward, downward, upward, Loop}
 use Rattle.rules.specs.Record.{tabulate}
-use Rattle.rules.specs.RecordLaws.{length-tabulate, get_d_tabulate}
+use Rattle.rules.specs.RecordLaws.{length_tabulate, get_d_tabulate}
 
 -- A CLOSED LIST of pads
 pub record ClosedList (L : Relation) (list : List ℕ) : Type 0 where
@@ -24,9 +24,9 @@ OnList list v = (i : ℕ) × (i < length list) × (get_or list i 0 ≡ v)
 
 -- FROM THE LIST TO THE FAMILY: each pad has lines to the one before and the one after
 module _ {L : Relation} (symmetric : (a b : ℕ) → L a b → L b a) (list : List ℕ) (closed : ClosedList L list) where
-  two-of : (i : ℕ) → i < length list
+  two_of : (i : ℕ) → i < length list
       → (a : ℕ) × (b : ℕ) × (a ≢ b) × OnList list a × OnList list b × L (get_or list i 0) a × L (get_or list i 0) b
-  two-of zero inside = let n = closed.three in (
+  two_of zero inside = let n = closed.three in (
     get_or list 1 0,
     get_or list (length list - 1) 0,
     closed.different 1 (length list - 1) (omega arith) (omega arith),
@@ -35,7 +35,7 @@ module _ {L : Relation} (symmetric : (a b : ℕ) → L a b → L b a) (list : Li
     closed.next 0 (omega arith),
     symmetric _ _ closed.last,
   )
-  two-of (suc i) inside =
+  two_of (suc i) inside =
       let n = closed.three in
       let one : i + 1 ≡ suc i = omega arith in
       let before : L (get_or list (suc i) 0) (get_or list i 0) = symmetric _ _ (rw one at (closed.next i (omega arith))) in
@@ -60,9 +60,9 @@ module _ {L : Relation} (symmetric : (a b : ℕ) → L a b → L b a) (list : Li
         )
       ]
 
-  pub list-gives-family : Loop L (OnList list)
-  list-gives-family = record
-      { pad = get_or list 0 0; inside = (0, omega (arith, closed.three), refl); two = λ v (i, l, e). rw e at (two-of i l) }
+  pub list_gives_family : Loop L (OnList list)
+  list_gives_family = record
+      { pad = get_or list 0 0; inside = (0, omega (arith, closed.three), refl); two = λ v (i, l, e). rw e at (two_of i l) }
 
 -- FROM THE FAMILY TO THE LIST: walk along the lines of the family without turning back; the board is finite, so a pad comes again, and
 -- the walk between its first two visits is a closed list. How many lines a pad has does not matter here.
@@ -75,9 +75,9 @@ without_at : (f : ℕ → ℕ) (n i : ℕ) → ((f i ≡ n) × (without f n i �
 without_at f n i = elim (ℕ_discrete (f i) n)
     [ yes e ↦ inl (e, if_pos (ℕ_discrete (f i) n) e (f (suc n)) (f i)) | no ne ↦ inr (ne, if_neg (ℕ_discrete (f i) n) ne (f (suc n)) (f i)) ]
 
-not-all-different : (n : ℕ) (f : ℕ → ℕ) → ((i : ℕ) → i < suc n → f i < n) → ((i j : ℕ) → i < j → j < suc n → f i ≢ f j) → ⊥
-not-all-different zero f low different = omega (arith, low 0 (omega arith))
-not-all-different (suc n) f low different = not-all-different n (without f n)
+not_all_different : (n : ℕ) (f : ℕ → ℕ) → ((i : ℕ) → i < suc n → f i < n) → ((i j : ℕ) → i < j → j < suc n → f i ≢ f j) → ⊥
+not_all_different zero f low different = omega (arith, low 0 (omega arith))
+not_all_different (suc n) f low different = not_all_different n (without f n)
     (λ i l. low' i l (without_at f n i)) (λ i j l k e. different' i j l k (without_at f n i) (without_at f n j) e)
   where
     low' : (i : ℕ) → i < suc n → ((f i ≡ n) × (without f n i ≡ f (suc n))) ⊎ ((f i ≢ n) × (without f n i ≡ f i)) → without f n i < n
@@ -99,24 +99,24 @@ pub record Again (f : ℕ → ℕ) : Type 0 where
   pub same : f start ≡ f later
   pub different : (i j : ℕ) → i < j → j < later → f i ≢ f j
 
-comes-again : (f : ℕ → ℕ) (n m : ℕ) → ((i : ℕ) → i < m → f i ≢ f n) ⊎ ((i : ℕ) × (i < m) × (f i ≡ f n))
-comes-again f n zero = inl (λ i l. absurd (omega arith))
-comes-again f n (suc m) = elim (ℕ_discrete (f m) (f n)) [
+comes_again : (f : ℕ → ℕ) (n m : ℕ) → ((i : ℕ) → i < m → f i ≢ f n) ⊎ ((i : ℕ) × (i < m) × (f i ≡ f n))
+comes_again f n zero = inl (λ i l. absurd (omega arith))
+comes_again f n (suc m) = elim (ℕ_discrete (f m) (f n)) [
   | yes e ↦ inr (m, omega arith, e)
   | no ne ↦ ⊎_elim (λ none. inl (λ i l. elim (ℕ_discrete i m) [ yes q ↦ rw q ne | no nq ↦ none i (omega arith) ]))
-      (λ (i, l, e). inr (i, omega arith, e)) (comes-again f n m)
+      (λ (i, l, e). inr (i, omega arith, e)) (comes_again f n m)
 ]
 
-first-again : (f : ℕ → ℕ) (n : ℕ) → ((i j : ℕ) → i < j → j < n → f i ≢ f j) ⊎ Again f
-first-again f zero = inl (λ i j l k. absurd (omega arith))
-first-again f (suc n) = ⊎_elim
+first_again : (f : ℕ → ℕ) (n : ℕ) → ((i j : ℕ) → i < j → j < n → f i ≢ f j) ⊎ Again f
+first_again f zero = inl (λ i j l k. absurd (omega arith))
+first_again f (suc n) = ⊎_elim
     (λ different. ⊎_elim
     (λ none. inl (λ i j l k. elim (ℕ_discrete j n) [ yes q ↦ rw q (none i (omega arith)) | no nq ↦ different i j l (omega arith) ]))
-    (λ (i, l, e). inr (record { start = i; later = n; after = l; same = e; different = different })) (comes-again f n n))
-    (λ again. inr again) (first-again f n)
+    (λ (i, l, e). inr (record { start = i; later = n; after = l; same = e; different = different })) (comes_again f n n))
+    (λ again. inr again) (first_again f n)
 
 pub again : (f : ℕ → ℕ) (n : ℕ) → ((i : ℕ) → f i < n) → Again f
-again f n low = ⊎_elim (λ different. absurd (not-all-different n f (λ i l. low i) different)) (λ found. found) (first-again f (suc n))
+again f n low = ⊎_elim (λ different. absurd (not_all_different n f (λ i l. low i) different)) (λ found. found) (first_again f (suc n))
 
 -- the walk
 module _ {L : Relation} {Family : ℕ → Type 0} (loop : Loop L Family) where
@@ -128,35 +128,35 @@ module _ {L : Relation} {Family : ℕ → Type 0} (loop : Loop L Family) where
 
   -- go on to a pad that is not the one before
   on : (s : Step) → (next : Step) × (next.before ≡ s.here) × (next.here ≢ s.before)
-  on s = let (a, b, a≢b, in-a, in_b, la, lb) = loop.two s.here s.inside in
+  on s = let (a, b, a≢b, in_a, in_b, la, lb) = loop.two s.here s.inside in
       elim (ℕ_discrete a s.before) [
         | yes e ↦ (record { before = s.here; here = b; inside = in_b; line = lb }, refl, (λ q. a≢b (e ∙ sym q)))
-        | no ne ↦ (record { before = s.here; here = a; inside = in-a; line = la }, refl, ne)
+        | no ne ↦ (record { before = s.here; here = a; inside = in_a; line = la }, refl, ne)
       ]
 
   walk : ℕ → Step
-  walk zero = let (a, b, a≢b, in-a, in_b, la, lb) = loop.two loop.pad loop.inside in
-      record { before = loop.pad; here = a; inside = in-a; line = la }
+  walk zero = let (a, b, a≢b, in_a, in_b, la, lb) = loop.two loop.pad loop.inside in
+      record { before = loop.pad; here = a; inside = in_a; line = la }
   walk (suc n) = (on (walk n)).0
 
   visit : ℕ → ℕ
   visit n = (walk n).before
 
-  visit-line : (n : ℕ) → L (visit n) (visit (suc n))
+  visit_line : (n : ℕ) → L (visit n) (visit (suc n))
   unfolding visit walk
-  visit-line n = rw (on (walk n)).1 (walk n).line
+  visit_line n = rw (on (walk n)).1 (walk n).line
 
-  no-turn : (n : ℕ) → visit (suc (suc n)) ≢ visit n
+  no_turn : (n : ℕ) → visit (suc (suc n)) ≢ visit n
   unfolding visit walk
-  no-turn n e = (on (walk n)).2 (sym (on (on (walk n)).0).1 ∙ e)
+  no_turn n e = (on (walk n)).2 (sym (on (on (walk n)).0).1 ∙ e)
 
   -- on a finite board, where no pad has a line to itself
   module _ (bound : ℕ) (low : (a b : ℕ) → L a b → a < bound) (not_itself : (a : ℕ) → L a a → ⊥) where
-    pub family-gives-list : (list : List ℕ) × ClosedList L list
-    family-gives-list = (
+    pub family_gives_list : (list : List ℕ) × ClosedList L list
+    family_gives_list = (
       list,
       record {
-        three = rw size at-least-three;
+        three = rw size at_least_three;
         different = λ i j l k. different i j l (rw size at k);
         next = λ i l. at_next i (rw size at l);
         last = rw size at_last;
@@ -164,7 +164,7 @@ module _ {L : Relation} {Family : ℕ → Type 0} (loop : Loop L Family) where
     )
       where
         found : Again visit
-        found = again visit bound (λ i. low (visit i) (visit (suc i)) (visit-line i))
+        found = again visit bound (λ i. low (visit i) (visit (suc i)) (visit_line i))
 
         n : ℕ
         n = found.later - found.start
@@ -173,16 +173,16 @@ module _ {L : Relation} {Family : ℕ → Type 0} (loop : Loop L Family) where
         list = tabulate visit found.start n
 
         size : length list ≡ n
-        size = length-tabulate visit found.start n
+        size = length_tabulate visit found.start n
 
         at : (i : ℕ) → i < n → get_or list i 0 ≡ visit (found.start + i)
         at i l = get_d_tabulate visit found.start n i 0 l
 
-        at-least-three : 3 ≤ n
-        at-least-three = elim (ℕ_discrete found.later (suc found.start)) [
-          | yes e ↦ absurd (not_itself (visit found.start) (rw (sym (found.same ∙ ap visit e)) at (visit-line found.start)))
+        at_least_three : 3 ≤ n
+        at_least_three = elim (ℕ_discrete found.later (suc found.start)) [
+          | yes e ↦ absurd (not_itself (visit found.start) (rw (sym (found.same ∙ ap visit e)) at (visit_line found.start)))
           | no one ↦ elim (ℕ_discrete found.later (suc (suc found.start)))
-              [ yes e ↦ absurd (no-turn found.start (sym (found.same ∙ ap visit e))) | no two ↦ omega (arith, found.after) ]
+              [ yes e ↦ absurd (no_turn found.start (sym (found.same ∙ ap visit e))) | no two ↦ omega (arith, found.after) ]
         ]
 
         different : (i j : ℕ) → i < j → j < n → get_or list i 0 ≢ get_or list j 0
@@ -191,42 +191,42 @@ module _ {L : Relation} {Family : ℕ → Type 0} (loop : Loop L Family) where
 
         at_next : (i : ℕ) → i + 1 < n → L (get_or list i 0) (get_or list (i + 1) 0)
         at_next i l = let one : found.start + (i + 1) ≡ suc (found.start + i) = omega arith in
-            rw (at i (omega arith), at (i + 1) l, one) (visit-line (found.start + i))
+            rw (at i (omega arith), at (i + 1) l, one) (visit_line (found.start + i))
 
         at_last : L (get_or list (n - 1) 0) (get_or list 0 0)
         at_last =
-            let h = at-least-three in
+            let h = at_least_three in
             let ends : suc (found.start + (n - 1)) ≡ found.later = omega arith in
             let begins : found.start + 0 ≡ found.start = omega arith in
-            rw (at (n - 1) (omega arith), at 0 (omega arith), begins, found.same) (rw ends at (visit-line (found.start + (n - 1))))
+            rw (at (n - 1) (omega arith), at 0 (omega arith), begins, found.same) (rw ends at (visit_line (found.start + (n - 1))))
 
 -- THE LINES OF A DRAWING lead both ways (Chains.antt), never from a pad to itself, and stay on the board
-line-not-itself : (width : ℕ) (D : Drawing) → 1 ≤ width → (a : ℕ) → Line width D a a → ⊥
-line-not-itself width D wide a (rightward e h) = omega arith
-line-not-itself width D wide a (leftward e h) = omega arith
-line-not-itself width D wide a (downward e h) = omega arith
-line-not-itself width D wide a (upward e h) = omega arith
+line_not_itself : (width : ℕ) (D : Drawing) → 1 ≤ width → (a : ℕ) → Line width D a a → ⊥
+line_not_itself width D wide a (rightward e h) = omega arith
+line_not_itself width D wide a (leftward e h) = omega arith
+line_not_itself width D wide a (downward e h) = omega arith
+line_not_itself width D wide a (upward e h) = omega arith
 
-line-on-board : (g : Grid) (D : Drawing) → Placed g D → (a b : ℕ) → Line g.width D a b → a < pads g + 1
+line_on_board : (g : Grid) (D : Drawing) → Placed g D → (a b : ℕ) → Line g.width D a b → a < pads g + 1
 unfolding OnBoard
-line-on-board g D placed a b (rightward e h) = omega (arith, (placed (right a) h).0)
-line-on-board g D placed a b (leftward e h) = omega (arith, (placed (right b) h).0)
-line-on-board g D placed a b (downward e h) = let below : a + g.width < pads g = placed (down a) h in omega arith
-line-on-board g D placed a b (upward e h) = let below : b + g.width < pads g = placed (down b) h in omega arith
+line_on_board g D placed a b (rightward e h) = omega (arith, (placed (right a) h).0)
+line_on_board g D placed a b (leftward e h) = omega (arith, (placed (right b) h).0)
+line_on_board g D placed a b (downward e h) = let below : a + g.width < pads g = placed (down a) h in omega arith
+line_on_board g D placed a b (upward e h) = let below : b + g.width < pads g = placed (down b) h in omega arith
 
 -- SO ON A DRAWING OF A GRID THE TWO WAYS OF TELLING A CLOSED LOOP AGREE
-pub loop-of-list : (g : Grid) (D : Drawing) (list : List ℕ) → ClosedList (Line g.width D) list → Loop (Line g.width D) (OnList list)
-loop-of-list g D list closed = list-gives-family (line-back g.width D) list closed
+pub loop_of_list : (g : Grid) (D : Drawing) (list : List ℕ) → ClosedList (Line g.width D) list → Loop (Line g.width D) (OnList list)
+loop_of_list g D list closed = list_gives_family (line_back g.width D) list closed
 
-pub list-of-loop : (g : Grid) → 1 ≤ g.width → (D : Drawing) → Placed g D → (Family : ℕ → Type 0) → Loop (Line g.width D) Family
+pub list_of_loop : (g : Grid) → 1 ≤ g.width → (D : Drawing) → Placed g D → (Family : ℕ → Type 0) → Loop (Line g.width D) Family
     → (list : List ℕ) × ClosedList (Line g.width D) list
-list-of-loop g wide D placed Family loop =
-    family-gives-list loop (pads g + 1) (line-on-board g D placed) (line-not-itself g.width D wide)
+list_of_loop g wide D placed Family loop =
+    family_gives_list loop (pads g + 1) (line_on_board g D placed) (line_not_itself g.width D wide)
 
 -- so 'no closed loop' may be read either way
-pub no-loop-exactly : (g : Grid) → 1 ≤ g.width → (D : Drawing) → Placed g D
+pub no_loop_exactly : (g : Grid) → 1 ≤ g.width → (D : Drawing) → Placed g D
     → ((Family : ℕ → Type 0) → Loop (Line g.width D) Family → ⊥) ↔ ((list : List ℕ) → ClosedList (Line g.width D) list → ⊥)
-no-loop-exactly g wide D placed = (
-  (λ none list closed. none (OnList list) (loop-of-list g D list closed)),
-  (λ none Family loop. let (list, closed) = list-of-loop g wide D placed Family loop in none list closed),
+no_loop_exactly g wide D placed = (
+  (λ none list closed. none (OnList list) (loop_of_list g D list closed)),
+  (λ none Family loop. let (list, closed) = list_of_loop g wide D placed Family loop in none list closed),
 )

@@ -3,30 +3,30 @@
 -- in document 01's words, by doubling; what a place gives is what Grid.antt finds by its two cases. The file rests on Places.antt.
 use Rattle.std.specs.Prelude.{ℕ, ◌+◌, ◌*◌, ◌%◌, ◌/◌, ◌≤◌, ◌<◌, ◌≡◌, refl, ◌⊎◌, ◌↔◌, List, [], ◌∷◌}
 use Rattle.std.proofs.Common.{sym, ◌∙◌, ap, inl, inr, arith, suc-mul}
-use Rattle.rules.specs.Grid.{Edge, right, down, first, second, pad-index, field-side, Place, edge, no_edge, parity, place_at, row_of, column-of, Grid}
+use Rattle.rules.specs.Grid.{Edge, right, down, first, second, pad_index, field_side, Place, edge, no_edge, parity, place_at, row_of, column_of, Grid}
 use Rattle.rules.specs.Record.{tabulate}
-use Rattle.rules.specs.Places.{zero≢one, place-right, place_down, FoundAt, in-an-even-row, in-an-odd-row, found_at, edge-of-place, edge-of-pads, no-edge-back}
+use Rattle.rules.specs.Places.{zero≢one, place_right, place_down, FoundAt, in_an_even_row, in_an_odd_row, found_at, edge_of_place, edge_of_pads, no_edge_back}
 
 -- NEIGHBOURS: pad (y, x) with the pad to the right of it, or with the pad below it
 pub data Neighbours (g : Grid) (a b : ℕ) : Type 0 where
-  beside : (y x : ℕ) → y < g.height → x + 1 < g.width → a ≡ pad-index g.width y x → b ≡ pad-index g.width y (x + 1) → Neighbours g a b
-  above : (y x : ℕ) → y + 1 < g.height → x < g.width → a ≡ pad-index g.width y x → b ≡ pad-index g.width (y + 1) x → Neighbours g a b
+  beside : (y x : ℕ) → y < g.height → x + 1 < g.width → a ≡ pad_index g.width y x → b ≡ pad_index g.width y (x + 1) → Neighbours g a b
+  above : (y x : ℕ) → y + 1 < g.height → x < g.width → a ≡ pad_index g.width y x → b ≡ pad_index g.width (y + 1) x → Neighbours g a b
 
 -- JOINS: place (2y, 2x+1) joins pad (y, x) to the right, (2y+1, 2x) downward; (y, x) is the first pad, the other the second.
 pub data Joins (g : Grid) (row column a b : ℕ) : Type 0 where
-  to-the-right : (y x : ℕ) → row ≡ 2 * y → column ≡ 2 * x + 1 → y < g.height → x + 1 < g.width
-      → a ≡ pad-index g.width y x → b ≡ pad-index g.width y (x + 1) → Joins g row column a b
+  to_the_right : (y x : ℕ) → row ≡ 2 * y → column ≡ 2 * x + 1 → y < g.height → x + 1 < g.width
+      → a ≡ pad_index g.width y x → b ≡ pad_index g.width y (x + 1) → Joins g row column a b
   downward : (y x : ℕ) → row ≡ 2 * y + 1 → column ≡ 2 * x → y + 1 < g.height → x < g.width
-      → a ≡ pad-index g.width y x → b ≡ pad-index g.width (y + 1) x → Joins g row column a b
+      → a ≡ pad_index g.width y x → b ≡ pad_index g.width (y + 1) x → Joins g row column a b
 
 -- GIVES: a place of the field at which an edge is found, with its first and its second pad
 pub record Gives (g : Grid) (row column a b : ℕ) : Type 0 where
-  pub row-in-field : row < field-side g.height
-  pub column-in-field : column < field-side g.width
+  pub row_in_field : row < field_side g.height
+  pub column_in_field : column < field_side g.width
   pub found : Edge
   pub there : place_at g.width row column ≡ edge found
-  pub first-pad : first found ≡ a
-  pub second-pad : second g.width found ≡ b
+  pub first_pad : first found ≡ a
+  pub second_pad : second g.width found ≡ b
 
 -- one place of the field gives the two pads, and no other place gives them, in this order or the other
 pub record OnePlace (g : Grid) (a b : ℕ) : Type 0 where
@@ -37,16 +37,16 @@ pub record OnePlace (g : Grid) (a b : ℕ) : Type 0 where
 
 -- FOR EXAMPLE: the field of 2 rows and 3 columns of pads, place by place, with the first and the second pad of each edge. Pads 0, 1 and 2
 -- stand in its upper row, 3, 4 and 5 in its lower one.
-abbrev pads-given : ℕ → Place → List ℕ
-pads-given width (edge e) = first e ∷ second width e ∷ []
-pads-given width no_edge = []
+abbrev pads_given : ℕ → Place → List ℕ
+pads_given width (edge e) = first e ∷ second width e ∷ []
+pads_given width no_edge = []
 
-pub field-of-2-by-3 : tabulate (λ i. pads-given 3 (place_at 3 (i / 5) (i % 5))) 0 15
+pub field_of_2_by_3 : tabulate (λ i. pads_given 3 (place_at 3 (i / 5) (i % 5))) 0 15
     ≡ [] ∷ (0 ∷ 1 ∷ []) ∷ [] ∷ (1 ∷ 2 ∷ []) ∷ []
     ∷ (0 ∷ 3 ∷ []) ∷ [] ∷ (1 ∷ 4 ∷ []) ∷ [] ∷ (2 ∷ 5 ∷ [])
     ∷ [] ∷ (3 ∷ 4 ∷ []) ∷ [] ∷ (4 ∷ 5 ∷ []) ∷ [] ∷ []
 unfolding tabulate place_at parity
-field-of-2-by-3 = refl
+field_of_2_by_3 = refl
 
 module _ (g : Grid) (wide : 2 ≤ g.width) where
   abbrev w : ℕ
@@ -54,60 +54,60 @@ module _ (g : Grid) (wide : 2 ≤ g.width) where
 
   -- what is joined is given
   given : (row column a b : ℕ) → Joins g row column a b → Gives g row column a b
-  given row column a b (to-the-right y x r c below inside p q) = record {
-    row-in-field = omega arith;
-    column-in-field = omega arith;
-    found = right (pad-index w y x);
-    there = rw (r, c) (place-right w y x);
-    first-pad = sym p;
-    second-pad = omega arith;
+  given row column a b (to_the_right y x r c below inside p q) = record {
+    row_in_field = omega arith;
+    column_in_field = omega arith;
+    found = right (pad_index w y x);
+    there = rw (r, c) (place_right w y x);
+    first_pad = sym p;
+    second_pad = omega arith;
   }
   given row column a b (downward y x r c below inside p q) = record {
-    row-in-field = omega arith;
-    column-in-field = omega arith;
-    found = down (pad-index w y x);
+    row_in_field = omega arith;
+    column_in_field = omega arith;
+    found = down (pad_index w y x);
     there = rw (r, c) (place_down w y x);
-    first-pad = sym p;
-    second-pad = let next_row = suc-mul y w in omega arith;
+    first_pad = sym p;
+    second_pad = let next_row = suc-mul y w in omega arith;
   }
 
   -- what is given is joined
   joined : (row column a b : ℕ) → Gives g row column a b → Joins g row column a b
-  joined row column a b gives = go gives.found (found_at w row column gives.found gives.there) gives.first-pad gives.second-pad
+  joined row column a b gives = go gives.found (found_at w row column gives.found gives.there) gives.first_pad gives.second_pad
     where
       go : (e : Edge) → FoundAt w row column e → first e ≡ a → second w e ≡ b → Joins g row column a b
-      go e (in-an-even-row y x r c is) p q =
-          let pad : pad-index w y x ≡ a = sym (ap first is) ∙ p in
-          let next : pad-index w y x + 1 ≡ b = sym (ap (second w) is) ∙ q in
-          to-the-right y x r c (omega (arith, gives.row-in-field)) (omega (arith, gives.column-in-field)) (sym pad) (omega arith)
-      go e (in-an-odd-row y x r c is) p q =
-          let pad : pad-index w y x ≡ a = sym (ap first is) ∙ p in
-          let below : pad-index w y x + w ≡ b = sym (ap (second w) is) ∙ q in
+      go e (in_an_even_row y x r c is) p q =
+          let pad : pad_index w y x ≡ a = sym (ap first is) ∙ p in
+          let next : pad_index w y x + 1 ≡ b = sym (ap (second w) is) ∙ q in
+          to_the_right y x r c (omega (arith, gives.row_in_field)) (omega (arith, gives.column_in_field)) (sym pad) (omega arith)
+      go e (in_an_odd_row y x r c is) p q =
+          let pad : pad_index w y x ≡ a = sym (ap first is) ∙ p in
+          let below : pad_index w y x + w ≡ b = sym (ap (second w) is) ∙ q in
           let next_row = suc-mul y w in
-          downward y x r c (omega (arith, gives.row-in-field)) (omega (arith, gives.column-in-field)) (sym pad) (omega arith)
+          downward y x r c (omega (arith, gives.row_in_field)) (omega (arith, gives.column_in_field)) (sym pad) (omega arith)
 
   -- EACH EDGE PLACE GIVES EXACTLY THE FIRST AND THE SECOND PAD THAT IT JOINS
-  pub edge-place-gives-its-pads : (row column a b : ℕ) → Joins g row column a b ↔ Gives g row column a b
-  edge-place-gives-its-pads row column a b = (given row column a b, joined row column a b)
+  pub edge_place_gives_its_pads : (row column a b : ℕ) → Joins g row column a b ↔ Gives g row column a b
+  edge_place_gives_its_pads row column a b = (given row column a b, joined row column a b)
 
   -- and no others
-  pub edge-place-gives-no-others : (row column a b c d : ℕ) → Gives g row column a b → Gives g row column c d → (a ≡ c) × (b ≡ d)
-  edge-place-gives-no-others row column a b c d one other =
+  pub edge_place_gives_no_others : (row column a b c d : ℕ) → Gives g row column a b → Gives g row column c d → (a ≡ c) × (b ≡ d)
+  edge_place_gives_no_others row column a b c d one other =
       let same : one.found ≡ other.found = cc in
-      (sym one.first-pad ∙ ap first same ∙ other.first-pad, sym one.second-pad ∙ ap (second w) same ∙ other.second-pad)
+      (sym one.first_pad ∙ ap first same ∙ other.first_pad, sym one.second_pad ∙ ap (second w) same ∙ other.second_pad)
 
   -- A PLACE OF THE FIELD THAT IS NO EDGE PLACE GIVES NONE: it is found to have no edge exactly where it joins no pads
-  pub other-place-gives-none : (row column : ℕ) → row < field-side g.height → column < field-side g.width
+  pub other_place_gives_none : (row column : ℕ) → row < field_side g.height → column < field_side g.width
       → (place_at w row column ≡ no_edge) ↔ ((a b : ℕ) → Joins g row column a b → ⊥)
-  other-place-gives-none row column row_in column-in = (none, go (place_at w row column) refl)
+  other_place_gives_none row column row_in column_in = (none, go (place_at w row column) refl)
     where
       none : place_at w row column ≡ no_edge → (a b : ℕ) → Joins g row column a b → ⊥
       none at a b joins = let gives = given row column a b joins in let there = gives.there in zero≢one (cc)
 
       go : (p : Place) → place_at w row column ≡ p → ((a b : ℕ) → Joins g row column a b → ⊥) → place_at w row column ≡ no_edge
-      go no_edge at no-pads = at
-      go (edge e) at no-pads = absurd (no-pads (first e) (second w e) (joined row column (first e) (second w e)
-          (record { row-in-field = row_in; column-in-field = column-in; found = e; there = at; first-pad = refl; second-pad = refl })))
+      go no_edge at no_pads = at
+      go (edge e) at no_pads = absurd (no_pads (first e) (second w e) (joined row column (first e) (second w e)
+          (record { row_in_field = row_in; column_in_field = column_in; found = e; there = at; first_pad = refl; second_pad = refl })))
 
   -- EACH TWO NEIGHBOURING PADS HAVE EXACTLY ONE PLACE
   one_place : (row column a b : ℕ) → Joins g row column a b → OnePlace g a b
@@ -116,20 +116,20 @@ module _ (g : Grid) (wide : 2 ≤ g.width) where
       here : Gives g row column a b
       here = given row column a b joins
 
-      its-place : (r c : ℕ) (x y : ℕ) (gives : Gives g r c x y) → (row_of w gives.found ≡ r) × (column-of w gives.found ≡ c)
-      its-place r c x y gives =
-          let its = edge-of-place g wide r c gives.row-in-field gives.column-in-field gives.found gives.there in
-          (its.its-row, its.its-column)
+      its_place : (r c : ℕ) (x y : ℕ) (gives : Gives g r c x y) → (row_of w gives.found ≡ r) × (column_of w gives.found ≡ c)
+      its_place r c x y gives =
+          let its = edge_of_place g wide r c gives.row_in_field gives.column_in_field gives.found gives.there in
+          (its.its_row, its.its_column)
 
       only : (r c : ℕ) → Gives g r c a b ⊎ Gives g r c b a → (r ≡ row) × (c ≡ column)
       only r c (inl other) =
           let same : other.found ≡ here.found =
-          edge-of-pads g wide other.found here.found (other.first-pad ∙ sym here.first-pad) (other.second-pad ∙ sym here.second-pad) in (
-            sym (its-place r c a b other).0 ∙ ap (row_of w) same ∙ (its-place row column a b here).0,
-            sym (its-place r c a b other).1 ∙ ap (column-of w) same ∙ (its-place row column a b here).1,
+          edge_of_pads g wide other.found here.found (other.first_pad ∙ sym here.first_pad) (other.second_pad ∙ sym here.second_pad) in (
+            sym (its_place r c a b other).0 ∙ ap (row_of w) same ∙ (its_place row column a b here).0,
+            sym (its_place r c a b other).1 ∙ ap (column_of w) same ∙ (its_place row column a b here).1,
           )
-      only r c (inr other) = absurd (no-edge-back g wide other.found here.found (other.first-pad ∙ sym here.second-pad) (other.second-pad ∙ sym here.first-pad))
+      only r c (inr other) = absurd (no_edge_back g wide other.found here.found (other.first_pad ∙ sym here.second_pad) (other.second_pad ∙ sym here.first_pad))
 
-  pub neighbours-have-one-place : (a b : ℕ) → Neighbours g a b → OnePlace g a b
-  neighbours-have-one-place a b (beside y x below inside p q) = one_place (2 * y) (2 * x + 1) a b (to-the-right y x refl refl below inside p q)
-  neighbours-have-one-place a b (above y x below inside p q) = one_place (2 * y + 1) (2 * x) a b (downward y x refl refl below inside p q)
+  pub neighbours_have_one_place : (a b : ℕ) → Neighbours g a b → OnePlace g a b
+  neighbours_have_one_place a b (beside y x below inside p q) = one_place (2 * y) (2 * x + 1) a b (to_the_right y x refl refl below inside p q)
+  neighbours_have_one_place a b (above y x below inside p q) = one_place (2 * y + 1) (2 * x) a b (downward y x refl refl below inside p q)

@@ -9,17 +9,17 @@ use mathlib.Core.List.{List, [], ◌∷◌, ◌++◌}
 use Rattle.std.proofs.Math.Decide.{dec_lt}
 use Rattle.std.proofs.Math.Nat.{div-eq_of_lt, add-div_right, mul-add-div_right, mul-add-mod_self_right, suc-mul}
 use Rattle.std.proofs.Math.ListN.{get_or-eq_default}
-use Rattle.rules.specs.Grid.{Edge, right, down, Place, edge, no_edge, place_at, places, field-side, row_of, column-of, Grid, pads, OnBoard}
+use Rattle.rules.specs.Grid.{Edge, right, down, Place, edge, no_edge, place_at, places, field_side, row_of, column_of, Grid, pads, OnBoard}
 use Rattle.rules.specs.Drawing.{Drawing, drawn, num, Placed}
-use Rattle.rules.specs.Record.{undecided-byte, line-byte, byte_of, tabulate, byte-at-place, field, record_of, place-number, drawing-of, pad-code, codes}
-use Rattle.rules.specs.Tests.{not_so, num-small}
-use Rattle.rules.specs.Places.{zero≢one, place-of-edge, row-in-field, column-in-field, edge-of-place}
+use Rattle.rules.specs.Record.{undecided_byte, line_byte, byte_of, tabulate, byte_at_place, field, record_of, place_number, drawing_of, pad_code, codes}
+use Rattle.rules.specs.Tests.{not_so, num_small}
+use Rattle.rules.specs.Places.{zero≢one, place_of_edge, row_in_field, column_in_field, edge_of_place}
 
 -- LISTS MADE BY A FUNCTION
-pub length-tabulate : {A : Type 0} (f : ℕ → A) (start n : ℕ) → length (tabulate f start n) ≡ n
+pub length_tabulate : {A : Type 0} (f : ℕ → A) (start n : ℕ) → length (tabulate f start n) ≡ n
 unfolding tabulate
-length-tabulate f start zero = refl
-length-tabulate f start (suc n) = ap suc (length-tabulate f (start + 1) n)
+length_tabulate f start zero = refl
+length_tabulate f start (suc n) = ap suc (length_tabulate f (start + 1) n)
 
 -- from one number later on, or one number more
 pub plus_suc : (k j : ℕ) → k + 1 + j ≡ k + suc j
@@ -31,89 +31,89 @@ get_d_tabulate f start zero i default below = absurd (omega arith)
 get_d_tabulate f start (suc n) zero default below = ap f (sym (add-zero start))
 get_d_tabulate f start (suc n) (suc i) default below = get_d_tabulate f (start + 1) n i default (omega arith) ∙ ap f (plus_suc start i)
 
-pub getD-from-zero : {A : Type 0} (f : ℕ → A) (n i : ℕ) (default : A) → i < n → get_or (tabulate f 0 n) i default ≡ f i
-getD-from-zero f n i default below = get_d_tabulate f 0 n i default below ∙ ap f (zero-add i)
+pub get_or_from_zero : {A : Type 0} (f : ℕ → A) (n i : ℕ) (default : A) → i < n → get_or (tabulate f 0 n) i default ≡ f i
+get_or_from_zero f n i default below = get_d_tabulate f 0 n i default below ∙ ap f (zero-add i)
 
 -- in two parts, and counted on from a number
-pub tabulate-parts : {A : Type 0} (f : ℕ → A) (start n m : ℕ) → tabulate f start (n + m) ≡ tabulate f start n ++ tabulate f (start + n) m
+pub tabulate_parts : {A : Type 0} (f : ℕ → A) (start n m : ℕ) → tabulate f start (n + m) ≡ tabulate f start n ++ tabulate f (start + n) m
 unfolding tabulate
-tabulate-parts f start zero m = ap (tabulate f start) (zero-add m) ∙ ap (λ (k : ℕ). tabulate f k m) (sym (add-zero start))
-tabulate-parts f start (suc n) m =
+tabulate_parts f start zero m = ap (tabulate f start) (zero-add m) ∙ ap (λ (k : ℕ). tabulate f k m) (sym (add-zero start))
+tabulate_parts f start (suc n) m =
     ap (tabulate f start) (suc-add n m)
-    ∙ ap (λ l. f start ∷ l) (tabulate-parts f (start + 1) n m ∙ ap (λ (k : ℕ). tabulate f (start + 1) n ++ tabulate f k m) (plus_suc start n))
+    ∙ ap (λ l. f start ∷ l) (tabulate_parts f (start + 1) n m ∙ ap (λ (k : ℕ). tabulate f (start + 1) n ++ tabulate f k m) (plus_suc start n))
 
-pub tabulate-from : {A : Type 0} (f : ℕ → A) (by start n : ℕ) → tabulate f (by + start) n ≡ tabulate (λ i. f (by + i)) start n
+pub tabulate_from : {A : Type 0} (f : ℕ → A) (by start n : ℕ) → tabulate f (by + start) n ≡ tabulate (λ i. f (by + i)) start n
 unfolding tabulate
-tabulate-from f by start zero = refl
-tabulate-from f by start (suc n) = ap (λ l. f (by + start) ∷ l) (ap (λ (k : ℕ). tabulate f k n) (add_assoc by start 1) ∙ tabulate-from f by (start + 1) n)
+tabulate_from f by start zero = refl
+tabulate_from f by start (suc n) = ap (λ l. f (by + start) ∷ l) (ap (λ (k : ℕ). tabulate f k n) (add_assoc by start 1) ∙ tabulate_from f by (start + 1) n)
 
-pub tabulate-same : {A : Type 0} (f h : ℕ → A) (start n : ℕ) → ((i : ℕ) → start ≤ i → i < start + n → f i ≡ h i) → tabulate f start n ≡ tabulate h start n
+pub tabulate_same : {A : Type 0} (f h : ℕ → A) (start n : ℕ) → ((i : ℕ) → start ≤ i → i < start + n → f i ≡ h i) → tabulate f start n ≡ tabulate h start n
 unfolding tabulate
-tabulate-same f h start zero same = refl
-tabulate-same f h start (suc n) same = rw (same start (omega arith) (omega arith), tabulate-same f h (start + 1) n (λ i l k. same i (omega arith) (omega arith)))
+tabulate_same f h start zero same = refl
+tabulate_same f h start (suc n) same = rw (same start (omega arith) (omega arith), tabulate_same f h (start + 1) n (λ i l k. same i (omega arith) (omega arith)))
 
 -- PLACE NUMBERS count the field row by row: the row and the column of a number
-module _ (width row column : ℕ) (column-in : column < field-side width) where
-  pub row-of-number : (row * field-side width + column) / field-side width ≡ row
-  row-of-number = mul-add-div_right (omega arith) row column ∙ (let none : column / field-side width ≡ 0 = div-eq_of_lt column-in in omega arith)
+module _ (width row column : ℕ) (column_in : column < field_side width) where
+  pub row_of_number : (row * field_side width + column) / field_side width ≡ row
+  row_of_number = mul-add-div_right (omega arith) row column ∙ (let none : column / field_side width ≡ 0 = div-eq_of_lt column_in in omega arith)
 
-  pub column-of-number : (row * field-side width + column) % field-side width ≡ column
-  column-of-number = mul-add-mod_self_right row (field-side width) column ∙ mod-eq_of_lt column-in
+  pub column_of_number : (row * field_side width + column) % field_side width ≡ column
+  column_of_number = mul-add-mod_self_right row (field_side width) column ∙ mod-eq_of_lt column_in
 
-  pub number-in-field : (height : ℕ) → row < field-side height → row * field-side width + column < places height width
-  number-in-field height row_in =
-      let rows : suc row * field-side width ≤ places height width = mul-le-mul_right (field-side width) row_in in
-      let next_row = suc-mul row (field-side width) in
+  pub number_in_field : (height : ℕ) → row < field_side height → row * field_side width + column < places height width
+  number_in_field height row_in =
+      let rows : suc row * field_side width ≤ places height width = mul-le-mul_right (field_side width) row_in in
+      let next_row = suc-mul row (field_side width) in
       omega arith
 
 -- THE FIELD row by row: the byte at a row and a column
-pub field_at : (height width : ℕ) (bytes : Edge → ℕ) (row column : ℕ) → row < field-side height → column < field-side width
-    → get_or (field height width bytes) (row * field-side width + column) undecided-byte ≡ byte-at-place bytes (place_at width row column)
+pub field_at : (height width : ℕ) (bytes : Edge → ℕ) (row column : ℕ) → row < field_side height → column < field_side width
+    → get_or (field height width bytes) (row * field_side width + column) undecided_byte ≡ byte_at_place bytes (place_at width row column)
 unfolding field
-field_at height width bytes row column row_in column-in =
-    getD-from-zero (λ i. byte-at-place bytes (place_at width (i / field-side width) (i % field-side width))) (places height width)
-    (row * field-side width + column) undecided-byte (number-in-field width row column column-in height row_in)
-    ∙ (rw (row-of-number width row column column-in, column-of-number width row column column-in) refl)
+field_at height width bytes row column row_in column_in =
+    get_or_from_zero (λ i. byte_at_place bytes (place_at width (i / field_side width) (i % field_side width))) (places height width)
+    (row * field_side width + column) undecided_byte (number_in_field width row column column_in height row_in)
+    ∙ (rw (row_of_number width row column column_in, column_of_number width row column column_in) refl)
 
 -- one row of it, and so many rows from the first on
 unfoldable pub field_row : ℕ → (Edge → ℕ) → ℕ → List ℕ
-field_row width bytes row = tabulate (λ column. byte-at-place bytes (place_at width row column)) 0 (field-side width)
+field_row width bytes row = tabulate (λ column. byte_at_place bytes (place_at width row column)) 0 (field_side width)
 
-unfoldable pub field-rows : ℕ → (Edge → ℕ) → ℕ → List ℕ
-field-rows width bytes rows = tabulate (λ i. byte-at-place bytes (place_at width (i / field-side width) (i % field-side width))) 0 (rows * field-side width)
+unfoldable pub field_rows : ℕ → (Edge → ℕ) → ℕ → List ℕ
+field_rows width bytes rows = tabulate (λ i. byte_at_place bytes (place_at width (i / field_side width) (i % field_side width))) 0 (rows * field_side width)
 
 module _ (width : ℕ) (bytes : Edge → ℕ) where
   abbrev side : ℕ
-  side = field-side width
+  side = field_side width
 
-  abbrev byte-in-field : ℕ → ℕ
-  byte-in-field i = byte-at-place bytes (place_at width (i / side) (i % side))
+  abbrev byte_in_field : ℕ → ℕ
+  byte_in_field i = byte_at_place bytes (place_at width (i / side) (i % side))
 
-  pub no_rows : field-rows width bytes 0 ≡ []
-  unfolding field-rows tabulate
-  no_rows = ap (tabulate byte-in-field 0) (zero-mul side)
+  pub no_rows : field_rows width bytes 0 ≡ []
+  unfolding field_rows tabulate
+  no_rows = ap (tabulate byte_in_field 0) (zero-mul side)
 
-  pub length-rows : (rows : ℕ) → length (field-rows width bytes rows) ≡ rows * side
-  unfolding field-rows
-  length-rows rows = length-tabulate byte-in-field 0 (rows * side)
+  pub length_rows : (rows : ℕ) → length (field_rows width bytes rows) ≡ rows * side
+  unfolding field_rows
+  length_rows rows = length_tabulate byte_in_field 0 (rows * side)
 
-  pub next-rows : (rows : ℕ) → field-rows width bytes (rows + 1) ≡ field-rows width bytes rows ++ field_row width bytes rows
-  unfolding field-rows field_row
-  next-rows rows =
-      ap (tabulate byte-in-field 0) (ap (λ (n : ℕ). n * side) (add-one rows) ∙ suc-mul rows side)
-      ∙ tabulate-parts byte-in-field 0 (rows * side) side
-      ∙ ap (λ (l : List ℕ). tabulate byte-in-field 0 (rows * side) ++ l)
-      (ap (λ (n : ℕ). tabulate byte-in-field n side) (zero-add (rows * side) ∙ sym (add-zero (rows * side)))
-      ∙ tabulate-from byte-in-field (rows * side) 0 side
-      ∙ tabulate-same _ _ 0 side (λ column low high. rw (row-of-number width rows column (omega arith), column-of-number width rows column (omega arith)) refl))
+  pub next_rows : (rows : ℕ) → field_rows width bytes (rows + 1) ≡ field_rows width bytes rows ++ field_row width bytes rows
+  unfolding field_rows field_row
+  next_rows rows =
+      ap (tabulate byte_in_field 0) (ap (λ (n : ℕ). n * side) (add-one rows) ∙ suc-mul rows side)
+      ∙ tabulate_parts byte_in_field 0 (rows * side) side
+      ∙ ap (λ (l : List ℕ). tabulate byte_in_field 0 (rows * side) ++ l)
+      (ap (λ (n : ℕ). tabulate byte_in_field n side) (zero-add (rows * side) ∙ sym (add-zero (rows * side)))
+      ∙ tabulate_from byte_in_field (rows * side) 0 side
+      ∙ tabulate_same _ _ 0 side (λ column low high. rw (row_of_number width rows column (omega arith), column_of_number width rows column (omega arith)) refl))
 
-  pub all-rows : (height : ℕ) → field-rows width bytes (field-side height) ≡ field height width bytes
-  unfolding field-rows field
-  all-rows height = refl
+  pub all_rows : (height : ℕ) → field_rows width bytes (field_side height) ≡ field height width bytes
+  unfolding field_rows field
+  all_rows height = refl
 
-pub length-field : (height width : ℕ) (bytes : Edge → ℕ) → length (field height width bytes) ≡ places height width
+pub length_field : (height width : ℕ) (bytes : Edge → ℕ) → length (field height width bytes) ≡ places height width
 unfolding field
-length-field height width bytes = length-tabulate (λ i. byte-at-place bytes (place_at width (i / field-side width) (i % field-side width))) 0 (places height width)
+length_field height width bytes = length_tabulate (λ i. byte_at_place bytes (place_at width (i / field_side width) (i % field_side width))) 0 (places height width)
 
 module _ (g : Grid) (wide : 2 ≤ g.width) where
   some : 0 < g.width
@@ -121,114 +121,114 @@ module _ (g : Grid) (wide : 2 ≤ g.width) where
 
   -- at the place number of an edge of the board that edge is found, and a place number tells the edge that is found there
   module _ (e : Edge) (on : OnBoard g e) where
-    pub edge-number-in-field : place-number g.width e < places g.height g.width
-    edge-number-in-field = number-in-field g.width (row_of g.width e) (column-of g.width e) (column-in-field g wide e on) g.height (row-in-field g wide e on)
+    pub edge_number_in_field : place_number g.width e < places g.height g.width
+    edge_number_in_field = number_in_field g.width (row_of g.width e) (column_of g.width e) (column_in_field g wide e on) g.height (row_in_field g wide e on)
 
-    pub edge-at-number : place_at g.width (place-number g.width e / field-side g.width) (place-number g.width e % field-side g.width) ≡ edge e
-    edge-at-number =
+    pub edge_at_number : place_at g.width (place_number g.width e / field_side g.width) (place_number g.width e % field_side g.width) ≡ edge e
+    edge_at_number =
         rw (
-          row-of-number g.width (row_of g.width e) (column-of g.width e) (column-in-field g wide e on),
-          column-of-number g.width (row_of g.width e) (column-of g.width e) (column-in-field g wide e on),
-        ) (place-of-edge g.width e)
+          row_of_number g.width (row_of g.width e) (column_of g.width e) (column_in_field g wide e on),
+          column_of_number g.width (row_of g.width e) (column_of g.width e) (column_in_field g wide e on),
+        ) (place_of_edge g.width e)
 
-  pub number-of-edge : (i : ℕ) → i < places g.height g.width → (e : Edge) → place_at g.width (i / field-side g.width) (i % field-side g.width) ≡ edge e
-      → OnBoard g e × (place-number g.width e ≡ i)
-  number-of-edge i inside e held =
-      let side : 0 < field-side g.width = omega arith in
-      let its = edge-of-place g wide (i / field-side g.width) (i % field-side g.width) ((div-lt_iff_lt-mul side).1 inside) (mod-lt i side) e held in
-      (its.on-board, rw (its.its-row, its.its-column) (div-add-mod' i (field-side g.width)))
+  pub number_of_edge : (i : ℕ) → i < places g.height g.width → (e : Edge) → place_at g.width (i / field_side g.width) (i % field_side g.width) ≡ edge e
+      → OnBoard g e × (place_number g.width e ≡ i)
+  number_of_edge i inside e held =
+      let side : 0 < field_side g.width = omega arith in
+      let its = edge_of_place g wide (i / field_side g.width) (i % field_side g.width) ((div-lt_iff_lt-mul side).1 inside) (mod-lt i side) e held in
+      (its.on_board, rw (its.its_row, its.its_column) (div-add-mod' i (field_side g.width)))
 
   -- the byte of each edge of the board stands at its place
-  pub field-edge : (bytes : Edge → ℕ) (e : Edge) → OnBoard g e → get_or (field g.height g.width bytes) (place-number g.width e) undecided-byte ≡ bytes e
-  field-edge bytes e on =
-      field_at g.height g.width bytes (row_of g.width e) (column-of g.width e) (row-in-field g wide e on) (column-in-field g wide e on)
-      ∙ ap (byte-at-place bytes) (place-of-edge g.width e)
+  pub field_edge : (bytes : Edge → ℕ) (e : Edge) → OnBoard g e → get_or (field g.height g.width bytes) (place_number g.width e) undecided_byte ≡ bytes e
+  field_edge bytes e on =
+      field_at g.height g.width bytes (row_of g.width e) (column_of g.width e) (row_in_field g wide e on) (column_in_field g wide e on)
+      ∙ ap (byte_at_place bytes) (place_of_edge g.width e)
 
   -- and the field shows nothing else: bytes that agree on the board give one record
-  pub field-same : (bytes others : Edge → ℕ) → ((e : Edge) → OnBoard g e → bytes e ≡ others e) → field g.height g.width bytes ≡ field g.height g.width others
+  pub field_same : (bytes others : Edge → ℕ) → ((e : Edge) → OnBoard g e → bytes e ≡ others e) → field g.height g.width bytes ≡ field g.height g.width others
   unfolding field
-  field-same bytes others same = tabulate-same _ _ 0 (places g.height g.width) (λ i low high. at i high)
+  field_same bytes others same = tabulate_same _ _ 0 (places g.height g.width) (λ i low high. at i high)
     where
-      by_place : (p : Place) → ((e : Edge) → p ≡ edge e → OnBoard g e) → byte-at-place bytes p ≡ byte-at-place others p
+      by_place : (p : Place) → ((e : Edge) → p ≡ edge e → OnBoard g e) → byte_at_place bytes p ≡ byte_at_place others p
       by_place no_edge on = refl
       by_place (edge e) on = same e (on e refl)
 
       at : (i : ℕ) → i < 0 + places g.height g.width
-          → byte-at-place bytes (place_at g.width (i / field-side g.width) (i % field-side g.width)) ≡ byte-at-place others (place_at g.width (i / field-side g.width) (i % field-side g.width))
-      at i high = by_place (place_at g.width (i / field-side g.width) (i % field-side g.width)) (λ e held. (number-of-edge i (omega arith) e held).0)
+          → byte_at_place bytes (place_at g.width (i / field_side g.width) (i % field_side g.width)) ≡ byte_at_place others (place_at g.width (i / field_side g.width) (i % field_side g.width))
+      at i high = by_place (place_at g.width (i / field_side g.width) (i % field_side g.width)) (λ e held. (number_of_edge i (omega arith) e held).0)
 
   -- nothing stands past the field
-  pub past-field : (bytes : Edge → ℕ) (i : ℕ) → places g.height g.width ≤ i → get_or (field g.height g.width bytes) i undecided-byte ≡ undecided-byte
-  past-field bytes i past = get_or-eq_default (field g.height g.width bytes) undecided-byte (rw (length-field g.height g.width bytes) past)
+  pub past_field : (bytes : Edge → ℕ) (i : ℕ) → places g.height g.width ≤ i → get_or (field g.height g.width bytes) i undecided_byte ≡ undecided_byte
+  past_field bytes i past = get_or-eq_default (field g.height g.width bytes) undecided_byte (rw (length_field g.height g.width bytes) past)
 
-  past_row : (row column : ℕ) → field-side g.height ≤ row → places g.height g.width ≤ row * field-side g.width + column
-  past_row row column past = let rows : places g.height g.width ≤ row * field-side g.width = mul-le-mul_right (field-side g.width) past in omega arith
+  past_row : (row column : ℕ) → field_side g.height ≤ row → places g.height g.width ≤ row * field_side g.width + column
+  past_row row column past = let rows : places g.height g.width ≤ row * field_side g.width = mul-le-mul_right (field_side g.width) past in omega arith
 
-  pub off-line : (D : Drawing) → Placed g D → (e : Edge) → (OnBoard g e → ⊥) → drawn D e ≡ false
-  off-line D placed e off = not_so (drawn D e) (λ h. off (placed e h))
+  pub off_line : (D : Drawing) → Placed g D → (e : Edge) → (OnBoard g e → ⊥) → drawn D e ≡ false
+  off_line D placed e off = not_so (drawn D e) (λ h. off (placed e h))
 
-  pub is-line-byte : (b : Bool) → eqb (byte_of b) line-byte ≡ b
-  is-line-byte true = refl
-  is-line-byte false = refl
+  pub is_line_byte : (b : Bool) → eqb (byte_of b) line_byte ≡ b
+  is_line_byte true = refl
+  is_line_byte false = refl
 
   -- RECORD AND DRAWING: a record shows the drawing that it was made of
-  pub record-shows : (D : Drawing) → Placed g D → (e : Edge) → drawn (drawing-of g.width (record_of g D)) e ≡ drawn D e
-  unfolding drawing-of record_of OnBoard
-  record-shows D placed (right v) =
+  pub record_shows : (D : Drawing) → Placed g D → (e : Edge) → drawn (drawing_of g.width (record_of g D)) e ≡ drawn D e
+  unfolding drawing_of record_of OnBoard
+  record_shows D placed (right v) =
       elim (dec_lt (v % g.width + 1) g.width) [
-        | no last ↦ rw (le-ltb (v % g.width + 1) g.width (omega arith)) (sym (off-line D placed (right v) (λ on. last on.1)))
+        | no last ↦ rw (le-ltb (v % g.width + 1) g.width (omega arith)) (sym (off_line D placed (right v) (λ on. last on.1)))
         | yes inside ↦
             rw (lt-ltb (v % g.width + 1) g.width inside) (elim (dec_lt v (pads g)) [
-              | yes below ↦ rw (field-edge (λ e. byte_of (drawn D e)) (right v) (below, inside)) (is-line-byte (D.right v))
+              | yes below ↦ rw (field_edge (λ e. byte_of (drawn D e)) (right v) (below, inside)) (is_line_byte (D.right v))
               | no past ↦
                   let rows : g.height ≤ v / g.width = (le-div_iff_mul-le some).1 (omega arith) in
-                  rw (past-field (λ e. byte_of (drawn D e)) (place-number g.width (right v)) (past_row (2 * (v / g.width)) (2 * (v % g.width) + 1) (omega arith)))
-                  (sym (off-line D placed (right v) (λ on. past on.0)))
+                  rw (past_field (λ e. byte_of (drawn D e)) (place_number g.width (right v)) (past_row (2 * (v / g.width)) (2 * (v % g.width) + 1) (omega arith)))
+                  (sym (off_line D placed (right v) (λ on. past on.0)))
             ])
       ]
-  record-shows D placed (down v) = elim (dec_lt (v + g.width) (pads g)) [
-    | yes below ↦ (rw (field-edge (λ e. byte_of (drawn D e)) (down v) below) (is-line-byte (D.down v)))
+  record_shows D placed (down v) = elim (dec_lt (v + g.width) (pads g)) [
+    | yes below ↦ (rw (field_edge (λ e. byte_of (drawn D e)) (down v) below) (is_line_byte (D.down v)))
     | no past ↦ (let rows : g.height ≤ (v + g.width) / g.width = (le-div_iff_mul-le some).1 (omega arith) in
         let next : (v + g.width) / g.width ≡ v / g.width + 1 = add-div_right v some in
-        rw (past-field (λ e. byte_of (drawn D e)) (place-number g.width (down v)) (past_row (2 * (v / g.width) + 1) (2 * (v % g.width)) (omega arith)))
-        (sym (off-line D placed (down v) (λ on. past on))))
+        rw (past_field (λ e. byte_of (drawn D e)) (place_number g.width (down v)) (past_row (2 * (v / g.width) + 1) (2 * (v % g.width)) (omega arith)))
+        (sym (off_line D placed (down v) (λ on. past on))))
   ]
 
   -- equal records mean the same drawing, and drawings that agree on the board have one record
-  pub record-determines : (D E : Drawing) → Placed g D → Placed g E → record_of g D ≡ record_of g E → (e : Edge) → drawn D e ≡ drawn E e
-  record-determines D E placed-D placed-E same e =
-      sym (record-shows D placed-D e) ∙ ap (λ r. drawn (drawing-of g.width r) e) same ∙ record-shows E placed-E e
+  pub record_determines : (D E : Drawing) → Placed g D → Placed g E → record_of g D ≡ record_of g E → (e : Edge) → drawn D e ≡ drawn E e
+  record_determines D E placed_d placed_e same e =
+      sym (record_shows D placed_d e) ∙ ap (λ r. drawn (drawing_of g.width r) e) same ∙ record_shows E placed_e e
 
-  pub drawing-determines : (D E : Drawing) → ((e : Edge) → OnBoard g e → drawn D e ≡ drawn E e) → record_of g D ≡ record_of g E
+  pub drawing_determines : (D E : Drawing) → ((e : Edge) → OnBoard g e → drawn D e ≡ drawn E e) → record_of g D ≡ record_of g E
   unfolding record_of
-  drawing-determines D E same = field-same (λ e. byte_of (drawn D e)) (λ e. byte_of (drawn E e)) (λ e on. ap byte_of (same e on))
+  drawing_determines D E same = field_same (λ e. byte_of (drawn D e)) (λ e. byte_of (drawn E e)) (λ e on. ap byte_of (same e on))
 
   -- PAD CODES: equal codes at every pad mean the same drawing
-  pub codes-determine : (D E : Drawing) → Placed g D → Placed g E → codes g D ≡ codes g E → (e : Edge) → drawn D e ≡ drawn E e
+  pub codes_determine : (D E : Drawing) → Placed g D → Placed g E → codes g D ≡ codes g E → (e : Edge) → drawn D e ≡ drawn E e
   unfolding OnBoard codes
-  codes-determine D E placed-D placed-E same e = go e
+  codes_determine D E placed_d placed_e same e = go e
     where
-      num-same : (a b : Bool) → num a ≡ num b → a ≡ b
-      num-same true true h = refl
-      num-same true false h = zero≢one (sym h)
-      num-same false true h = zero≢one h
-      num-same false false h = refl
+      num_same : (a b : Bool) → num a ≡ num b → a ≡ b
+      num_same true true h = refl
+      num_same true false h = zero≢one (sym h)
+      num_same false true h = zero≢one h
+      num_same false false h = refl
 
-      at-pad : (v : ℕ) → v < pads g → (D.right v ≡ E.right v) × (D.down v ≡ E.down v)
-      at-pad v below =
-          let one_code : pad-code D v ≡ pad-code E v =
-          sym (getD-from-zero (pad-code D) (pads g) v 0 below) ∙ ap (λ l. get_or l v 0) same ∙ getD-from-zero (pad-code E) (pads g) v 0 below in
-          let a = num-small (D.right v) in
-          let b = num-small (E.right v) in
-          (num-same _ _ (omega arith), num-same _ _ (omega arith))
+      at_pad : (v : ℕ) → v < pads g → (D.right v ≡ E.right v) × (D.down v ≡ E.down v)
+      at_pad v below =
+          let one_code : pad_code D v ≡ pad_code E v =
+          sym (get_or_from_zero (pad_code D) (pads g) v 0 below) ∙ ap (λ l. get_or l v 0) same ∙ get_or_from_zero (pad_code E) (pads g) v 0 below in
+          let a = num_small (D.right v) in
+          let b = num_small (E.right v) in
+          (num_same _ _ (omega arith), num_same _ _ (omega arith))
 
-      both-off : (x : Edge) → (OnBoard g x → ⊥) → drawn D x ≡ drawn E x
-      both-off x off = off-line D placed-D x off ∙ sym (off-line E placed-E x off)
+      both_off : (x : Edge) → (OnBoard g x → ⊥) → drawn D x ≡ drawn E x
+      both_off x off = off_line D placed_d x off ∙ sym (off_line E placed_e x off)
 
       go : (x : Edge) → drawn D x ≡ drawn E x
-      go (right v) = elim (dec_lt v (pads g)) [ yes below ↦ (at-pad v below).0 | no past ↦ both-off (right v) (λ on. past on.0) ]
-      go (down v) = elim (dec_lt v (pads g)) [ yes below ↦ (at-pad v below).1 | no past ↦ both-off (down v) (λ on. past (omega arith)) ]
+      go (right v) = elim (dec_lt v (pads g)) [ yes below ↦ (at_pad v below).0 | no past ↦ both_off (right v) (λ on. past on.0) ]
+      go (down v) = elim (dec_lt v (pads g)) [ yes below ↦ (at_pad v below).1 | no past ↦ both_off (down v) (λ on. past (omega arith)) ]
 
   pub codes_same : (D E : Drawing) → ((e : Edge) → drawn D e ≡ drawn E e) → codes g D ≡ codes g E
   unfolding codes
-  codes_same D E same = tabulate-same (pad-code D) (pad-code E) 0 (pads g) (λ v low high. rw (same (right v), same (down v)) refl)
+  codes_same D E same = tabulate_same (pad_code D) (pad_code E) 0 (pads g) (λ v low high. rw (same (right v), same (down v)) refl)

@@ -8,43 +8,43 @@ use Rattle.rules.specs.ProperGrid.{Proper}
 use Rattle.rules.specs.Record.{OrdinaryRecord, ListedRecord}
 use Rattle.rules.specs.Tests.{conflict}
 use Rattle.model.specs.Choice.{if◌then◌else◌}
-use Rattle.model.specs.Judge.{is-ordinary-record, has-listed-shape, verdict}
-use Rattle.ruletest.specs.RuleTest.{ordinary-exactly, listed-exactly}
+use Rattle.model.specs.Judge.{is_ordinary_record, has_listed_shape, verdict}
+use Rattle.ruletest.specs.RuleTest.{ordinary_exactly, listed_exactly}
 
 module _ (g : Grid) (proper : Proper g) (bytes : List ℕ) where
   -- by the two tests
   record Told (ordinary shape : Bool) : Type 0 where
     is : verdict g bytes ≡ (if ordinary then (if shape then 2 else 1) else 0)
 
-  told : Told (is-ordinary-record g bytes) (has-listed-shape g bytes)
+  told : Told (is_ordinary_record g bytes) (has_listed_shape g bytes)
   told = record { is = unfold verdict in refl }
 
-  pub verdict-small : verdict g bytes ≤ 2
-  verdict-small = go (is-ordinary-record g bytes) (has-listed-shape g bytes) told
+  pub verdict_small : verdict g bytes ≤ 2
+  verdict_small = go (is_ordinary_record g bytes) (has_listed_shape g bytes) told
     where
       go : (o s : Bool) → Told o s → verdict g bytes ≤ 2
       go false s t = omega (arith, t.is)
       go true false t = omega (arith, t.is)
       go true true t = omega (arith, t.is)
 
-  some-test : (1 ≤ verdict g bytes) ↔ (is-ordinary-record g bytes ≡ true)
-  some-test = go (is-ordinary-record g bytes) (has-listed-shape g bytes) told
+  some_test : (1 ≤ verdict g bytes) ↔ (is_ordinary_record g bytes ≡ true)
+  some_test = go (is_ordinary_record g bytes) (has_listed_shape g bytes) told
     where
       go : (o s : Bool) → Told o s → (1 ≤ verdict g bytes) ↔ (o ≡ true)
       go false s t = ((λ h. absurd (omega (arith, t.is))), λ h. conflict h refl)
       go true false t = ((λ h. refl), λ h. omega (arith, t.is))
       go true true t = ((λ h. refl), λ h. omega (arith, t.is))
 
-  both-tests : (verdict g bytes ≡ 2) ↔ (is-ordinary-record g bytes && has-listed-shape g bytes ≡ true)
-  both-tests = go (is-ordinary-record g bytes) (has-listed-shape g bytes) told
+  both_tests : (verdict g bytes ≡ 2) ↔ (is_ordinary_record g bytes && has_listed_shape g bytes ≡ true)
+  both_tests = go (is_ordinary_record g bytes) (has_listed_shape g bytes) told
     where
       go : (o s : Bool) → Told o s → (verdict g bytes ≡ 2) ↔ (o && s ≡ true)
       go false s t = ((λ h. absurd (omega (arith, t.is))), λ h. conflict h refl)
       go true false t = ((λ h. absurd (omega (arith, t.is))), λ h. conflict h refl)
       go true true t = ((λ h. refl), λ h. omega (arith, t.is))
 
-  pub ordinary-verdict : (1 ≤ verdict g bytes) ↔ OrdinaryRecord g bytes
-  ordinary-verdict = ((λ h. (ordinary-exactly g proper bytes).0 (some-test.0 h)), λ r. some-test.1 ((ordinary-exactly g proper bytes).1 r))
+  pub ordinary_verdict : (1 ≤ verdict g bytes) ↔ OrdinaryRecord g bytes
+  ordinary_verdict = ((λ h. (ordinary_exactly g proper bytes).0 (some_test.0 h)), λ r. some_test.1 ((ordinary_exactly g proper bytes).1 r))
 
-  pub listed-verdict : (verdict g bytes ≡ 2) ↔ ListedRecord g bytes
-  listed-verdict = ((λ h. (listed-exactly g proper bytes).0 (both-tests.0 h)), λ r. both-tests.1 ((listed-exactly g proper bytes).1 r))
+  pub listed_verdict : (verdict g bytes ≡ 2) ↔ ListedRecord g bytes
+  listed_verdict = ((λ h. (listed_exactly g proper bytes).0 (both_tests.0 h)), λ r. both_tests.1 ((listed_exactly g proper bytes).1 r))

@@ -6,15 +6,15 @@ use mathlib.Core.List.Memᴰ
 use mathlib.Core.List.{List, [], ◌∷◌, ◌++◌, Memᴰ, map}
 use Rattle.rules.specs.Grid.{Grid}
 use Rattle.rules.specs.Drawing.{Drawing, Placed}
-use Rattle.rules.specs.Record.{record_of, drawing-of, codes, Before, Ascending, lower, later}
-use Rattle.rules.specs.RecordLaws.{record-shows, codes_same}
+use Rattle.rules.specs.Record.{record_of, drawing_of, codes, Before, Ascending, lower, later}
+use Rattle.rules.specs.RecordLaws.{record_shows, codes_same}
 use Rattle.model.specs.Runs.{Event, visit, layout}
 
 -- the records of the layout events
-unfoldable pub layouts-of : List Event → List (List ℕ)
-layouts-of [] = []
-layouts-of (visit ∷ events) = layouts-of events
-layouts-of (layout bytes ∷ events) = bytes ∷ layouts-of events
+unfoldable pub layouts_of : List Event → List (List ℕ)
+layouts_of [] = []
+layouts_of (visit ∷ events) = layouts_of events
+layouts_of (layout bytes ∷ events) = bytes ∷ layouts_of events
 
 -- the first list is a beginning of the second
 pub record Beginning (first whole : List (List ℕ)) : Type 0 where
@@ -22,41 +22,41 @@ pub record Beginning (first whole : List (List ℕ)) : Type 0 where
   pub parted : whole ≡ first ++ rest
 
 -- the number of visit events
-unfoldable pub visits-of : List Event → ℕ
-visits-of [] = 0
-visits-of (visit ∷ events) = suc (visits-of events)
-visits-of (layout bytes ∷ events) = visits-of events
+unfoldable pub visits_of : List Event → ℕ
+visits_of [] = 0
+visits_of (visit ∷ events) = suc (visits_of events)
+visits_of (layout bytes ∷ events) = visits_of events
 
-pub layouts-append : (a b : List Event) → layouts-of (a ++ b) ≡ layouts-of a ++ layouts-of b
-unfolding layouts-of
-layouts-append [] b = refl
-layouts-append (visit ∷ a) b = layouts-append a b
-layouts-append (layout bytes ∷ a) b = ap (λ rest. bytes ∷ rest) (layouts-append a b)
+pub layouts_append : (a b : List Event) → layouts_of (a ++ b) ≡ layouts_of a ++ layouts_of b
+unfolding layouts_of
+layouts_append [] b = refl
+layouts_append (visit ∷ a) b = layouts_append a b
+layouts_append (layout bytes ∷ a) b = ap (λ rest. bytes ∷ rest) (layouts_append a b)
 
 -- the codes of the drawing that a record shows
-abbrev pub shown-codes : Grid → List ℕ → List ℕ
-shown-codes g bytes = codes g (drawing-of g.width bytes)
+abbrev pub shown_codes : Grid → List ℕ → List ℕ
+shown_codes g bytes = codes g (drawing_of g.width bytes)
 
-pub codes-shown : (g : Grid) → 2 ≤ g.width → (D : Drawing) → Placed g D → shown-codes g (record_of g D) ≡ codes g D
-codes-shown g wide D placed = codes_same g wide (drawing-of g.width (record_of g D)) D (record-shows g wide D placed)
+pub codes_shown : (g : Grid) → 2 ≤ g.width → (D : Drawing) → Placed g D → shown_codes g (record_of g D) ≡ codes g D
+codes_shown g wide D placed = codes_same g wide (drawing_of g.width (record_of g D)) D (record_shows g wide D placed)
 
 -- members of a mapped list
-pub map-mem : {A B : Type 0} (f : A → B) (l : List A) (y : B) → Memᴰ y (map f l) → (x : A) × Memᴰ x l × (y ≡ f x)
-map-mem f [] y m = absurd (Memᴰ.not-nil m)
-map-mem f (x ∷ l) y m = ⊎_elim (λ e. (x, Memᴰ.head refl, e)) (λ n. let (z, k, e) = map-mem f l y n in (z, Memᴰ.tail k, e)) (Memᴰ.cases_cons m)
+pub map_mem : {A B : Type 0} (f : A → B) (l : List A) (y : B) → Memᴰ y (map f l) → (x : A) × Memᴰ x l × (y ≡ f x)
+map_mem f [] y m = absurd (Memᴰ.not-nil m)
+map_mem f (x ∷ l) y m = ⊎_elim (λ e. (x, Memᴰ.head refl, e)) (λ n. let (z, k, e) = map_mem f l y n in (z, Memᴰ.tail k, e)) (Memᴰ.cases_cons m)
 
-pub mem-map : {A B : Type 0} (f : A → B) (l : List A) (z : A) → Memᴰ z l → Memᴰ (f z) (map f l)
-mem-map f [] z m = absurd (Memᴰ.not-nil m)
-mem-map f (y ∷ l) z m = ⊎_elim (λ e. Memᴰ.head (ap f e)) (λ n. Memᴰ.tail (mem-map f l z n)) (Memᴰ.cases_cons m)
+pub mem_map : {A B : Type 0} (f : A → B) (l : List A) (z : A) → Memᴰ z l → Memᴰ (f z) (map f l)
+mem_map f [] z m = absurd (Memᴰ.not-nil m)
+mem_map f (y ∷ l) z m = ⊎_elim (λ e. Memᴰ.head (ap f e)) (λ n. Memᴰ.tail (mem_map f l z n)) (Memᴰ.cases_cons m)
 
 -- two ascending lists, the first before the second, are one
-pub ascending-append : (f : List ℕ → List ℕ) (r s : List (List ℕ)) → Ascending (map f r) → Ascending (map f s)
+pub ascending_append : (f : List ℕ → List ℕ) (r s : List (List ℕ)) → Ascending (map f r) → Ascending (map f s)
     → ((x y : List ℕ) → Memᴰ x r → Memᴰ y s → Before (f x) (f y)) → Ascending (map f (r ++ s))
 unfolding Ascending
-ascending-append f [] s p q h = q
-ascending-append f (x ∷ r) s p q h = (
-  (λ y m. let (z, k, e) = map-mem f (r ++ s) y m in rw e (⊎_elim (λ n. p.0 (f z) (mem-map f r z n)) (λ n. h x z (Memᴰ.head refl) n) (Memᴰ.append_cases r k))),
-  ascending-append f r s p.1 q (λ a b m n. h a b (Memᴰ.tail m) n),
+ascending_append f [] s p q h = q
+ascending_append f (x ∷ r) s p q h = (
+  (λ y m. let (z, k, e) = map_mem f (r ++ s) y m in rw e (⊎_elim (λ n. p.0 (f z) (mem_map f r z n)) (λ n. h x z (Memᴰ.head refl) n) (Memᴰ.append_cases r k))),
+  ascending_append f r s p.1 q (λ a b m n. h a b (Memᴰ.tail m) n),
 )
 
 -- EACH ONCE: no member stands again further on
@@ -64,12 +64,12 @@ unfoldable pub Distinct : List (List ℕ) → Type 0
 Distinct [] = Unit {0}
 Distinct (x ∷ l) = (Memᴰ x l → ⊥) × Distinct l
 
-pub not-before-itself : (k : List ℕ) → Before k k → ⊥
-not-before-itself [] b = elim b [ ]
-not-before-itself (a ∷ k) (lower h) = omega arith
-not-before-itself (a ∷ k) (later b) = not-before-itself k b
+pub not_before_itself : (k : List ℕ) → Before k k → ⊥
+not_before_itself [] b = elim b [ ]
+not_before_itself (a ∷ k) (lower h) = omega arith
+not_before_itself (a ∷ k) (later b) = not_before_itself k b
 
-pub ascending-distinct : (f : List ℕ → List ℕ) (l : List (List ℕ)) → Ascending (map f l) → Distinct l
+pub ascending_distinct : (f : List ℕ → List ℕ) (l : List (List ℕ)) → Ascending (map f l) → Distinct l
 unfolding Ascending Distinct
-ascending-distinct f [] a = tt
-ascending-distinct f (x ∷ l) a = ((λ m. not-before-itself (f x) (a.0 (f x) (mem-map f l x m))), ascending-distinct f l a.1)
+ascending_distinct f [] a = tt
+ascending_distinct f (x ∷ l) a = ((λ m. not_before_itself (f x) (a.0 (f x) (mem_map f l x m))), ascending_distinct f l a.1)

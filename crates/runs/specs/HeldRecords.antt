@@ -11,22 +11,22 @@ use mathlib.Core.List.{List, [], Memᴰ}
 use native.Mathlib.Omega.{arith}
 use Rattle.std.proofs.Math.Decide.{ℕ_discrete}
 use Rattle.std.proofs.Math.ListN.{length}
-use Rattle.rules.specs.Grid.{Grid, grid-of, places, Accepted}
+use Rattle.rules.specs.Grid.{Grid, grid_of, places, Accepted}
 use Rattle.rules.specs.Drawing.{drawn}
 use Rattle.rules.specs.Record.{tabulate, byte_of, record_of}
-use Rattle.rules.specs.RecordLaws.{length-field}
-use Rattle.model.specs.RefusalLaws.{test-of-size}
-use Rattle.model.specs.Records.{record-at}
-use Rattle.model.specs.HasRecord.{records-there}
+use Rattle.rules.specs.RecordLaws.{length_field}
+use Rattle.model.specs.RefusalLaws.{test_of_size}
+use Rattle.model.specs.Records.{record_at}
+use Rattle.model.specs.HasRecord.{records_there}
 use Rattle.model.specs.Runs.{Event, Run, scan, Solved, listed_by}
-use Rattle.runs.specs.Events.{layouts-of}
-use Rattle.runs.specs.ExactLists.{Exact, exact-run, call-is-run}
+use Rattle.runs.specs.Events.{layouts_of}
+use Rattle.runs.specs.ExactLists.{Exact, exact_run, call_is_run}
 
 -- the bytes are one of the layouts that a call has left in the buffer
 pub record Holds (height width : ℕ) (left_by : Solved) (bytes : List ℕ) : Type 0 where
   pub k : ℕ
   pub below : k < left_by.layouts
-  pub there : record-at height width left_by.layouts k left_by.buffer ≡ bytes
+  pub there : record_at height width left_by.layouts k left_by.buffer ≡ bytes
 
 -- what is in a list of values is the value at some index, and the value at each index is in it
 module _ {A : Type 0} (f : ℕ → A) where
@@ -45,33 +45,33 @@ module _ {A : Type 0} (f : ℕ → A) where
 
 -- A CALL for an accepted grid, with any limit and any buffer
 module _ (events : Grid → List Event) (height width : ℕ) (cells : List ℤ) (accepted : Accepted height width cells)
-    (whole : Exact (grid-of height width cells) (layouts-of (events (grid-of height width cells)))) (limit : ℕ) (buffer : List ℕ) where
+    (whole : Exact (grid_of height width cells) (layouts_of (events (grid_of height width cells)))) (limit : ℕ) (buffer : List ℕ) where
   abbrev run : Run
-  run = scan limit (places height width) 0 (length buffer) (events (grid-of height width cells))
+  run = scan limit (places height width) 0 (length buffer) (events (grid_of height width cells))
 
   abbrev left_by : Solved
   left_by = listed_by events height width cells limit buffer
 
   -- each of its records is as long as the field has places
-  pub records-long : (r : List ℕ) → Memᴰ r run.records → length r ≡ places height width
-  unfolding record_of grid-of
-  records-long r m = let l = (exact-run height width cells accepted (events (grid-of height width cells)) whole limit (length buffer)).nothing-added r m in
-      ap length l.shown ∙ length-field height width (λ e. byte_of (drawn l.drawing e))
+  pub records_long : (r : List ℕ) → Memᴰ r run.records → length r ≡ places height width
+  unfolding record_of grid_of
+  records_long r m = let l = (exact_run height width cells accepted (events (grid_of height width cells)) whole limit (length buffer)).nothing_added r m in
+      ap length l.shown ∙ length_field height width (λ e. byte_of (drawn l.drawing e))
 
   -- record k of its buffer
   abbrev left : ℕ → List ℕ
-  left k = record-at height width left_by.layouts k left_by.buffer
+  left k = record_at height width left_by.layouts k left_by.buffer
 
   -- the records of its buffer, one by one, are those of its run
-  pub records-left : tabulate (λ k. record-at height width left_by.layouts k left_by.buffer) 0 left_by.layouts ≡ run.records
-  records-left = rw (call-is-run events height width cells accepted limit buffer)
-      (records-there height width (length run.records) (test-of-size height accepted.height-in-range) (test-of-size width accepted.width-in-range)
-      run.records records-long [] _ 0 (omega arith) (omega arith))
+  pub records_left : tabulate (λ k. record_at height width left_by.layouts k left_by.buffer) 0 left_by.layouts ≡ run.records
+  records_left = rw (call_is_run events height width cells accepted limit buffer)
+      (records_there height width (length run.records) (test_of_size height accepted.height_in_range) (test_of_size width accepted.width_in_range)
+      run.records records_long [] _ 0 (omega arith) (omega arith))
 
   -- so it holds exactly these
-  pub held-exactly : (bytes : List ℕ) → Holds height width left_by bytes ↔ Memᴰ bytes run.records
-  held-exactly bytes = (
-    (λ h. subst (Memᴰ bytes) records-left (Memᴰ.cast (sym h.there) (value_in left 0 left_by.layouts h.k (omega arith) (omega (arith, h.below))))),
-    λ m. let (k, below, there) = index_of left 0 left_by.layouts bytes (subst (Memᴰ bytes) (sym records-left) m) in
+  pub held_exactly : (bytes : List ℕ) → Holds height width left_by bytes ↔ Memᴰ bytes run.records
+  held_exactly bytes = (
+    (λ h. subst (Memᴰ bytes) records_left (Memᴰ.cast (sym h.there) (value_in left 0 left_by.layouts h.k (omega arith) (omega (arith, h.below))))),
+    λ m. let (k, below, there) = index_of left 0 left_by.layouts bytes (subst (Memᴰ bytes) (sym records_left) m) in
         record { k = k; below = omega arith; there = there },
   )

@@ -1,5 +1,5 @@
 -- A run with a limit and room: how far it scans the events, and what it reports. The laws hold for every list of events; nothing here
--- speaks of boards. `run-says` at the end collects them.
+-- speaks of boards. `run_says` at the end collects them.
 use Prim.Native.Nat.{ℕ, suc, ◌+◌, ◌*◌, ◌-◌, ◌≤◌, ◌<◌}
 use Rattle.std.specs.Prelude.{◌≡◌, ◌↔◌, ◌≢◌, ◌⊎◌, Bool, leb}
 use Rattle.std.proofs.Math.Path.{refl, ap}
@@ -10,16 +10,16 @@ use native.Mathlib.Omega.{arith}
 use borrow.Author.Tests.{le-ltb, leb-false, leb-true, lt-ltb, ltb-false, ltb-true}
 use Rattle.std.proofs.Math.Dec.{ltb}
 use Rattle.std.proofs.Math.ListN.{length}
-use Rattle.rules.specs.Record.{record-lines}
+use Rattle.rules.specs.Record.{record_lines}
 use Rattle.rules.specs.RecordLaws.{plus_suc}
-use Rattle.model.specs.Runs.{Event, Run, with-record, scan, no-fewest, least, fewest, visit, layout}
-use Rattle.runs.specs.Events.{layouts-of, visits-of}
+use Rattle.model.specs.Runs.{Event, Run, with_record, scan, no_fewest, least, fewest, visit, layout}
+use Rattle.runs.specs.Events.{layouts_of, visits_of}
 
 module _ (limit size : ℕ) where
   -- the run gets through these events: no visit passes the limit, and each layout finds room
   pub record Passes (visited room : ℕ) (events : List Event) : Type 0 where
-    pub within-limit : visited + visits-of events ≤ limit
-    pub within-room : length (layouts-of events) * size ≤ room
+    pub within_limit : visited + visits_of events ≤ limit
+    pub within_room : length (layouts_of events) * size ≤ room
 
   -- SPENT: after events that it gets through, the next visit would pass the limit
   pub record Spent (visited room : ℕ) (events : List Event) : Type 0 where
@@ -27,7 +27,7 @@ module _ (limit size : ℕ) where
     pub rest : List Event
     pub parted : events ≡ done ++ (visit ∷ rest)
     pub passes : Passes visited room done
-    pub at-limit : visited + visits-of done ≡ limit
+    pub at_limit : visited + visits_of done ≡ limit
 
   -- FULL: after events that it gets through, a layout is due and less than a record of room is left
   pub record Full (visited room : ℕ) (events : List Event) : Type 0 where
@@ -36,107 +36,107 @@ module _ (limit size : ℕ) where
     pub rest : List Event
     pub parted : events ≡ done ++ (layout due ∷ rest)
     pub passes : Passes visited room done
-    pub no_room : room < suc (length (layouts-of done)) * size
+    pub no_room : room < suc (length (layouts_of done)) * size
 
   -- the three ways to stop, each with what is reported
   pub data Stop (visited room : ℕ) (events : List Event) (run : Run) : Type 0 where
-    complete : run.outcome ≡ 0 → Passes visited room events → run.visited ≡ visited + visits-of events → run.records ≡ layouts-of events → Stop visited room events run
-    spent : run.outcome ≡ 1 → (s : Spent visited room events) → run.visited ≡ limit → run.records ≡ layouts-of s.done → Stop visited room events run
-    full : run.outcome ≡ 2 → (s : Full visited room events) → run.visited ≡ visited + visits-of s.done → run.records ≡ layouts-of s.done → Stop visited room events run
+    complete : run.outcome ≡ 0 → Passes visited room events → run.visited ≡ visited + visits_of events → run.records ≡ layouts_of events → Stop visited room events run
+    spent : run.outcome ≡ 1 → (s : Spent visited room events) → run.visited ≡ limit → run.records ≡ layouts_of s.done → Stop visited room events run
+    full : run.outcome ≡ 2 → (s : Full visited room events) → run.visited ≡ visited + visits_of s.done → run.records ≡ layouts_of s.done → Stop visited room events run
 
-  after-visit : (visited room : ℕ) (events : List Event) (run : Run) → visited < limit → Stop (visited + 1) room events run → Stop visited room (visit ∷ events) run
-  unfolding layouts-of visits-of
-  after-visit visited room events run below (complete o p v r) =
-      complete o (record { within-limit = (let k = p.within-limit in omega arith); within-room = p.within-room }) (v ∙ plus_suc visited (visits-of events)) r
-  after-visit visited room events run below (spent o s v r) = spent o (record {
+  after_visit : (visited room : ℕ) (events : List Event) (run : Run) → visited < limit → Stop (visited + 1) room events run → Stop visited room (visit ∷ events) run
+  unfolding layouts_of visits_of
+  after_visit visited room events run below (complete o p v r) =
+      complete o (record { within_limit = (let k = p.within_limit in omega arith); within_room = p.within_room }) (v ∙ plus_suc visited (visits_of events)) r
+  after_visit visited room events run below (spent o s v r) = spent o (record {
     done = visit ∷ s.done;
     rest = s.rest;
     parted = ap (λ l. visit ∷ l) s.parted;
-    passes = record { within-limit = (let k = s.passes.within-limit in omega arith); within-room = s.passes.within-room };
-    at-limit = (let k = s.at-limit in omega arith);
+    passes = record { within_limit = (let k = s.passes.within_limit in omega arith); within_room = s.passes.within_room };
+    at_limit = (let k = s.at_limit in omega arith);
   }) v r
-  after-visit visited room events run below (full o s v r) = full o (record {
+  after_visit visited room events run below (full o s v r) = full o (record {
     done = visit ∷ s.done;
     due = s.due;
     rest = s.rest;
     parted = ap (λ l. visit ∷ l) s.parted;
-    passes = record { within-limit = (let k = s.passes.within-limit in omega arith); within-room = s.passes.within-room };
+    passes = record { within_limit = (let k = s.passes.within_limit in omega arith); within_room = s.passes.within_room };
     no_room = s.no_room;
-  }) (v ∙ plus_suc visited (visits-of s.done)) r
+  }) (v ∙ plus_suc visited (visits_of s.done)) r
 
-  after-layout : (visited room : ℕ) (bytes : List ℕ) (events : List Event) (run : Run) → size ≤ room → Stop visited (room - size) events run
-      → Stop visited room (layout bytes ∷ events) (with-record bytes run)
-  unfolding layouts-of visits-of
-  after-layout visited room bytes events run fits (complete o p v r) =
-      complete o (record { within-limit = p.within-limit; within-room = (let k = p.within-room in omega arith) }) v (ap (λ l. bytes ∷ l) r)
-  after-layout visited room bytes events run fits (spent o s v r) = spent o (record {
+  after_layout : (visited room : ℕ) (bytes : List ℕ) (events : List Event) (run : Run) → size ≤ room → Stop visited (room - size) events run
+      → Stop visited room (layout bytes ∷ events) (with_record bytes run)
+  unfolding layouts_of visits_of
+  after_layout visited room bytes events run fits (complete o p v r) =
+      complete o (record { within_limit = p.within_limit; within_room = (let k = p.within_room in omega arith) }) v (ap (λ l. bytes ∷ l) r)
+  after_layout visited room bytes events run fits (spent o s v r) = spent o (record {
     done = layout bytes ∷ s.done;
     rest = s.rest;
     parted = ap (λ l. layout bytes ∷ l) s.parted;
-    passes = record { within-limit = s.passes.within-limit; within-room = (let k = s.passes.within-room in omega arith) };
-    at-limit = s.at-limit;
+    passes = record { within_limit = s.passes.within_limit; within_room = (let k = s.passes.within_room in omega arith) };
+    at_limit = s.at_limit;
   }) v (ap (λ l. bytes ∷ l) r)
-  after-layout visited room bytes events run fits (full o s v r) = full o (record {
+  after_layout visited room bytes events run fits (full o s v r) = full o (record {
     done = layout bytes ∷ s.done;
     due = s.due;
     rest = s.rest;
     parted = ap (λ l. layout bytes ∷ l) s.parted;
-    passes = record { within-limit = s.passes.within-limit; within-room = (let k = s.passes.within-room in omega arith) };
+    passes = record { within_limit = s.passes.within_limit; within_room = (let k = s.passes.within_room in omega arith) };
     no_room = (let k = s.no_room in omega arith);
   }) v (ap (λ l. bytes ∷ l) r)
 
   -- nothing is scanned yet
   nothing_yet : (visited room : ℕ) → visited ≤ limit → Passes visited room []
-  unfolding layouts-of visits-of
-  nothing_yet visited room low = record { within-limit = omega arith; within-room = omega arith }
+  unfolding layouts_of visits_of
+  nothing_yet visited room low = record { within_limit = omega arith; within_room = omega arith }
 
   -- EVERY RUN STOPS in one of the three ways
   pub stops : (events : List Event) (visited room : ℕ) → visited ≤ limit → Stop visited room events (scan limit size visited room events)
-  unfolding scan layouts-of visits-of
+  unfolding scan layouts_of visits_of
   stops [] visited room low = complete refl (nothing_yet visited room low) (sym (add-zero visited)) refl
   stops (visit ∷ events) visited room low = go (ltb visited limit) refl (λ below. stops events (visited + 1) room below)
     where
       go : (b : Bool) → ltb visited limit ≡ b → (visited + 1 ≤ limit → Stop (visited + 1) room events (scan limit size (visited + 1) room events))
           → Stop visited room (visit ∷ events) (scan limit size visited room (visit ∷ events))
       go true h rest = let below : visited < limit = ltb-true visited limit h in
-          rw (h, scan) (after-visit visited room events (scan limit size (visited + 1) room events) below (rest (omega arith)))
+          rw (h, scan) (after_visit visited room events (scan limit size (visited + 1) room events) below (rest (omega arith)))
       go false h rest = let past : limit ≤ visited = ltb-false visited limit h in
-          rw (h, scan) (spent refl (record { done = []; rest = events; parted = refl; passes = nothing_yet visited room low; at-limit = omega arith }) (omega arith) refl)
+          rw (h, scan) (spent refl (record { done = []; rest = events; parted = refl; passes = nothing_yet visited room low; at_limit = omega arith }) (omega arith) refl)
   stops (layout bytes ∷ events) visited room low = go (ltb room size) refl (stops events visited (room - size) low)
     where
       go : (b : Bool) → ltb room size ≡ b → Stop visited (room - size) events (scan limit size visited (room - size) events)
           → Stop visited room (layout bytes ∷ events) (scan limit size visited room (layout bytes ∷ events))
       go false h rest = let fits : size ≤ room = ltb-false room size h in
-          rw (h, scan) (after-layout visited room bytes events (scan limit size visited (room - size) events) fits rest)
+          rw (h, scan) (after_layout visited room bytes events (scan limit size visited (room - size) events) fits rest)
       go true h rest = let short : room < size = ltb-true room size h in
           rw (h, scan) (full refl (record { done = []; due = bytes; rest = events; parted = refl; passes = nothing_yet visited room low; no_room = omega arith }) (sym (add-zero visited)) refl)
 
   -- so there is room for its records
-  pub records-fit : (events : List Event) (room : ℕ) → length (scan limit size 0 room events).records * size ≤ room
-  records-fit events room = go (stops events 0 room (omega arith))
+  pub records_fit : (events : List Event) (room : ℕ) → length (scan limit size 0 room events).records * size ≤ room
+  records_fit events room = go (stops events 0 room (omega arith))
     where
       go : Stop 0 room events (scan limit size 0 room events) → length (scan limit size 0 room events).records * size ≤ room
-      go (complete o p v r) = rw r p.within-room
-      go (spent o s v r) = rw r s.passes.within-room
-      go (full o s v r) = rw r s.passes.within-room
+      go (complete o p v r) = rw r p.within_room
+      go (spent o s v r) = rw r s.passes.within_room
+      go (full o s v r) = rw r s.passes.within_room
 
   -- a run gets through what passes, and its outcome is that of what follows
-  through-events : (done rest : List Event) (visited room : ℕ) → Passes visited room done
-      → (scan limit size visited room (done ++ rest)).outcome ≡ (scan limit size (visited + visits-of done) (room - length (layouts-of done) * size) rest).outcome
-  unfolding scan layouts-of visits-of
-  through-events [] rest visited room p =
+  through_events : (done rest : List Event) (visited room : ℕ) → Passes visited room done
+      → (scan limit size visited room (done ++ rest)).outcome ≡ (scan limit size (visited + visits_of done) (room - length (layouts_of done) * size) rest).outcome
+  unfolding scan layouts_of visits_of
+  through_events [] rest visited room p =
       ap (λ n. (scan limit size n room rest).outcome) (sym (add-zero visited)) ∙ ap (λ n. (scan limit size (visited + 0) n rest).outcome) (untouched room)
     where
       untouched : (r : ℕ) → r ≡ r - 0 * size
       untouched r = omega arith
-  through-events (visit ∷ done) rest visited room p =
-      rw (lt-ltb visited limit (let k = p.within-limit in omega arith), scan) (through-events done rest (visited + 1) room
-      (record { within-limit = (let k = p.within-limit in omega arith); within-room = p.within-room })
-      ∙ ap (λ n. (scan limit size n (room - length (layouts-of done) * size) rest).outcome) (plus_suc visited (visits-of done)))
-  through-events (layout bytes ∷ done) rest visited room p =
-      rw (le-ltb room size (let k = p.within-room in omega arith), scan) (through-events done rest visited (room - size)
-      (record { within-limit = p.within-limit; within-room = (let k = p.within-room in omega arith) })
-      ∙ ap (λ n. (scan limit size (visited + visits-of done) n rest).outcome) (less room (length (layouts-of done))))
+  through_events (visit ∷ done) rest visited room p =
+      rw (lt-ltb visited limit (let k = p.within_limit in omega arith), scan) (through_events done rest (visited + 1) room
+      (record { within_limit = (let k = p.within_limit in omega arith); within_room = p.within_room })
+      ∙ ap (λ n. (scan limit size n (room - length (layouts_of done) * size) rest).outcome) (plus_suc visited (visits_of done)))
+  through_events (layout bytes ∷ done) rest visited room p =
+      rw (le-ltb room size (let k = p.within_room in omega arith), scan) (through_events done rest visited (room - size)
+      (record { within_limit = p.within_limit; within_room = (let k = p.within_room in omega arith) })
+      ∙ ap (λ n. (scan limit size (visited + visits_of done) n rest).outcome) (less room (length (layouts_of done))))
     where
       less : (r n : ℕ) → r - size - n * size ≡ r - suc n * size
       less r n = omega arith
@@ -147,135 +147,135 @@ module _ (limit size : ℕ) where
     pub done : List Event
     pub rest : List Event
     pub beginning : events ≡ done ++ rest
-    pub records-are : run.records ≡ layouts-of done
-    pub visited-is : run.visited ≡ visits-of done
+    pub records_are : run.records ≡ layouts_of done
+    pub visited_is : run.visited ≡ visits_of done
     -- outcome 0 exactly where it gets through all of them; then the beginning is the whole
-    pub complete-where : (run.outcome ≡ 0) ↔ Passes 0 room events
-    pub complete-whole : run.outcome ≡ 0 → done ≡ events
+    pub complete_where : (run.outcome ≡ 0) ↔ Passes 0 room events
+    pub complete_whole : run.outcome ≡ 0 → done ≡ events
     -- outcome 1 exactly where the next visit would pass the limit; visited equals the limit
-    pub spent-where : (run.outcome ≡ 1) ↔ Spent 0 room events
-    pub spent-visited : run.outcome ≡ 1 → run.visited ≡ limit
+    pub spent_where : (run.outcome ≡ 1) ↔ Spent 0 room events
+    pub spent_visited : run.outcome ≡ 1 → run.visited ≡ limit
     -- outcome 2 exactly where a layout is due and less than a record of room is left
-    pub full-where : (run.outcome ≡ 2) ↔ Full 0 room events
+    pub full_where : (run.outcome ≡ 2) ↔ Full 0 room events
 
-  complete-outcome : (events : List Event) (room : ℕ) → Passes 0 room events → (scan limit size 0 room events).outcome ≡ 0
-  complete-outcome events room p =
-      ap (λ l. (scan limit size 0 room l).outcome) (sym (append-nil events)) ∙ through-events events [] 0 room p ∙ (unfold scan in refl)
+  complete_outcome : (events : List Event) (room : ℕ) → Passes 0 room events → (scan limit size 0 room events).outcome ≡ 0
+  complete_outcome events room p =
+      ap (λ l. (scan limit size 0 room l).outcome) (sym (append-nil events)) ∙ through_events events [] 0 room p ∙ (unfold scan in refl)
 
-  spent-outcome : (events : List Event) (room : ℕ) → Spent 0 room events → (scan limit size 0 room events).outcome ≡ 1
-  spent-outcome events room s =
-      ap (λ l. (scan limit size 0 room l).outcome) s.parted ∙ through-events s.done (visit ∷ s.rest) 0 room s.passes ∙ stop
+  spent_outcome : (events : List Event) (room : ℕ) → Spent 0 room events → (scan limit size 0 room events).outcome ≡ 1
+  spent_outcome events room s =
+      ap (λ l. (scan limit size 0 room l).outcome) s.parted ∙ through_events s.done (visit ∷ s.rest) 0 room s.passes ∙ stop
     where
-      stop : (scan limit size (0 + visits-of s.done) (room - length (layouts-of s.done) * size) (visit ∷ s.rest)).outcome ≡ 1
-      stop = unfold scan in (rw (le-ltb (0 + visits-of s.done) limit (let k = s.at-limit in omega arith), scan) refl)
+      stop : (scan limit size (0 + visits_of s.done) (room - length (layouts_of s.done) * size) (visit ∷ s.rest)).outcome ≡ 1
+      stop = unfold scan in (rw (le-ltb (0 + visits_of s.done) limit (let k = s.at_limit in omega arith), scan) refl)
 
-  full-outcome : (events : List Event) (room : ℕ) → Full 0 room events → (scan limit size 0 room events).outcome ≡ 2
-  full-outcome events room s =
-      ap (λ l. (scan limit size 0 room l).outcome) s.parted ∙ through-events s.done (layout s.due ∷ s.rest) 0 room s.passes ∙ stop
+  full_outcome : (events : List Event) (room : ℕ) → Full 0 room events → (scan limit size 0 room events).outcome ≡ 2
+  full_outcome events room s =
+      ap (λ l. (scan limit size 0 room l).outcome) s.parted ∙ through_events s.done (layout s.due ∷ s.rest) 0 room s.passes ∙ stop
     where
-      stop : (scan limit size (0 + visits-of s.done) (room - length (layouts-of s.done) * size) (layout s.due ∷ s.rest)).outcome ≡ 2
-      stop = unfold scan in (rw (lt-ltb (room - length (layouts-of s.done) * size) size (let k = s.no_room in let j = s.passes.within-room in omega arith), scan) refl)
+      stop : (scan limit size (0 + visits_of s.done) (room - length (layouts_of s.done) * size) (layout s.due ∷ s.rest)).outcome ≡ 2
+      stop = unfold scan in (rw (lt-ltb (room - length (layouts_of s.done) * size) size (let k = s.no_room in let j = s.passes.within_room in omega arith), scan) refl)
 
-  pub run-says : (events : List Event) (room : ℕ) → RunSays room events (scan limit size 0 room events)
-  run-says events room = go (stops events 0 room (omega arith))
+  pub run_says : (events : List Event) (room : ℕ) → RunSays room events (scan limit size 0 room events)
+  run_says events room = go (stops events 0 room (omega arith))
     where
       run : Run
       run = scan limit size 0 room events
 
-      is-not : {A : Type 0} {a b : ℕ} → run.outcome ≡ a → run.outcome ≡ b → a ≢ b → A
-      is-not h k n = absurd (n (sym h ∙ k))
+      is_not : {A : Type 0} {a b : ℕ} → run.outcome ≡ a → run.outcome ≡ b → a ≢ b → A
+      is_not h k n = absurd (n (sym h ∙ k))
 
       go : Stop 0 room events run → RunSays room events run
       go (complete o p v r) = record {
         done = events;
         rest = [];
         beginning = sym (append-nil events);
-        records-are = r;
-        visited-is = v ∙ zero-add (visits-of events);
-        complete-where = ((λ h. p), (λ h. o));
-        complete-whole = λ h. refl;
-        spent-where = ((λ h. is-not o h (omega arith)), spent-outcome events room);
-        spent-visited = λ h. is-not o h (omega arith);
-        full-where = ((λ h. is-not o h (omega arith)), full-outcome events room);
+        records_are = r;
+        visited_is = v ∙ zero-add (visits_of events);
+        complete_where = ((λ h. p), (λ h. o));
+        complete_whole = λ h. refl;
+        spent_where = ((λ h. is_not o h (omega arith)), spent_outcome events room);
+        spent_visited = λ h. is_not o h (omega arith);
+        full_where = ((λ h. is_not o h (omega arith)), full_outcome events room);
       }
       go (spent o s v r) = record {
         done = s.done;
         rest = visit ∷ s.rest;
         beginning = s.parted;
-        records-are = r;
-        visited-is = v ∙ sym s.at-limit ∙ zero-add (visits-of s.done);
-        complete-where = ((λ h. is-not o h (omega arith)), complete-outcome events room);
-        complete-whole = λ h. is-not o h (omega arith);
-        spent-where = ((λ h. s), (λ h. o));
-        spent-visited = λ h. v;
-        full-where = ((λ h. is-not o h (omega arith)), full-outcome events room);
+        records_are = r;
+        visited_is = v ∙ sym s.at_limit ∙ zero-add (visits_of s.done);
+        complete_where = ((λ h. is_not o h (omega arith)), complete_outcome events room);
+        complete_whole = λ h. is_not o h (omega arith);
+        spent_where = ((λ h. s), (λ h. o));
+        spent_visited = λ h. v;
+        full_where = ((λ h. is_not o h (omega arith)), full_outcome events room);
       }
       go (full o s v r) = record {
         done = s.done;
         rest = layout s.due ∷ s.rest;
         beginning = s.parted;
-        records-are = r;
-        visited-is = v ∙ zero-add (visits-of s.done);
-        complete-where = ((λ h. is-not o h (omega arith)), complete-outcome events room);
-        complete-whole = λ h. is-not o h (omega arith);
-        spent-where = ((λ h. is-not o h (omega arith)), spent-outcome events room);
-        spent-visited = λ h. is-not o h (omega arith);
-        full-where = ((λ h. s), (λ h. o));
+        records_are = r;
+        visited_is = v ∙ zero-add (visits_of s.done);
+        complete_where = ((λ h. is_not o h (omega arith)), complete_outcome events room);
+        complete_whole = λ h. is_not o h (omega arith);
+        spent_where = ((λ h. is_not o h (omega arith)), spent_outcome events room);
+        spent_visited = λ h. is_not o h (omega arith);
+        full_where = ((λ h. s), (λ h. o));
       }
 
 -- FEWEST: no more than the lines of any of the records; and the lines of one of them, or 481
-least-is : (a b : ℕ) → ((least a b ≡ a) × (a ≤ b)) ⊎ ((least a b ≡ b) × (b ≤ a))
-least-is a b = go (leb a b) refl
+least_is : (a b : ℕ) → ((least a b ≡ a) × (a ≤ b)) ⊎ ((least a b ≡ b) × (b ≤ a))
+least_is a b = go (leb a b) refl
   where
     go : (t : Bool) → leb a b ≡ t → ((least a b ≡ a) × (a ≤ b)) ⊎ ((least a b ≡ b) × (b ≤ a))
     go true h = inl ((rw (h, least) refl), leb-true a b h)
     go false h = inr ((rw (h, least) refl), (let k = leb-false a b h in omega arith))
 
-fewest-first : (r : List ℕ) (records : List (List ℕ)) → fewest (r ∷ records) ≡ least (record-lines r) (fewest records)
+fewest_first : (r : List ℕ) (records : List (List ℕ)) → fewest (r ∷ records) ≡ least (record_lines r) (fewest records)
 unfolding fewest
-fewest-first r records = refl
+fewest_first r records = refl
 
-fewest-below : (records : List (List ℕ)) (r : List ℕ) → Memᴰ r records → fewest records ≤ record-lines r
-fewest-below [] r m = absurd (mathlib.Core.List.Memᴰ.not-nil m)
-fewest-below (x ∷ l) r m = rw (fewest-first x l) (⊎_elim
-    (λ e. let j = ap record-lines e in ⊎_elim (λ (h, k). omega (arith, h, k, j)) (λ (h, k). omega (arith, h, k, j)) (least-is (record-lines x) (fewest l)))
-    (λ n. let j = fewest-below l r n in ⊎_elim (λ (h, k). omega (arith, h, k, j)) (λ (h, k). omega (arith, h, k, j)) (least-is (record-lines x) (fewest l)))
+fewest_below : (records : List (List ℕ)) (r : List ℕ) → Memᴰ r records → fewest records ≤ record_lines r
+fewest_below [] r m = absurd (mathlib.Core.List.Memᴰ.not-nil m)
+fewest_below (x ∷ l) r m = rw (fewest_first x l) (⊎_elim
+    (λ e. let j = ap record_lines e in ⊎_elim (λ (h, k). omega (arith, h, k, j)) (λ (h, k). omega (arith, h, k, j)) (least_is (record_lines x) (fewest l)))
+    (λ n. let j = fewest_below l r n in ⊎_elim (λ (h, k). omega (arith, h, k, j)) (λ (h, k). omega (arith, h, k, j)) (least_is (record_lines x) (fewest l)))
     (mathlib.Core.List.Memᴰ.cases_cons m))
 
 -- more records have no more
-pub fewest-append : (records more : List (List ℕ)) → fewest (records ++ more) ≤ fewest records
-fewest-append [] [] = omega arith
-fewest-append [] (x ∷ l) = let j = fewest-append [] l in rw (fewest-first x l) (⊎_elim (λ (h, k). omega (arith, h, k, j)) (λ (h, k). omega (arith, h, k, j)) (least-is (record-lines x) (fewest l)))
-fewest-append (x ∷ l) more = let j = fewest-append l more in rw (fewest-first x l, fewest-first x (l ++ more))
-    (⊎_elim (λ (h, k). ⊎_elim (λ (m, n). omega (arith, h, k, j, m, n)) (λ (m, n). omega (arith, h, k, j, m, n)) (least-is (record-lines x) (fewest l)))
-    (λ (h, k). ⊎_elim (λ (m, n). omega (arith, h, k, j, m, n)) (λ (m, n). omega (arith, h, k, j, m, n)) (least-is (record-lines x) (fewest l)))
-    (least-is (record-lines x) (fewest (l ++ more))))
+pub fewest_append : (records more : List (List ℕ)) → fewest (records ++ more) ≤ fewest records
+fewest_append [] [] = omega arith
+fewest_append [] (x ∷ l) = let j = fewest_append [] l in rw (fewest_first x l) (⊎_elim (λ (h, k). omega (arith, h, k, j)) (λ (h, k). omega (arith, h, k, j)) (least_is (record_lines x) (fewest l)))
+fewest_append (x ∷ l) more = let j = fewest_append l more in rw (fewest_first x l, fewest_first x (l ++ more))
+    (⊎_elim (λ (h, k). ⊎_elim (λ (m, n). omega (arith, h, k, j, m, n)) (λ (m, n). omega (arith, h, k, j, m, n)) (least_is (record_lines x) (fewest l)))
+    (λ (h, k). ⊎_elim (λ (m, n). omega (arith, h, k, j, m, n)) (λ (m, n). omega (arith, h, k, j, m, n)) (least_is (record_lines x) (fewest l)))
+    (least_is (record_lines x) (fewest (l ++ more))))
 
-fewest-reached : (records : List (List ℕ)) → (fewest records ≡ no-fewest) ⊎ ((r : List ℕ) × Memᴰ r records × (fewest records ≡ record-lines r))
-fewest-reached [] = inl (unfold fewest in refl)
-fewest-reached (x ∷ l) = rw (fewest-first x l) (⊎_elim
+fewest_reached : (records : List (List ℕ)) → (fewest records ≡ no_fewest) ⊎ ((r : List ℕ) × Memᴰ r records × (fewest records ≡ record_lines r))
+fewest_reached [] = inl (unfold fewest in refl)
+fewest_reached (x ∷ l) = rw (fewest_first x l) (⊎_elim
     (λ (h, k). inr (x, mathlib.Core.List.Memᴰ.head refl, h))
-    (λ (h, k). rw h (⊎_elim (λ e. inl e) (λ (r, m, e). inr (r, mathlib.Core.List.Memᴰ.tail m, e)) (fewest-reached l)))
-    (least-is (record-lines x) (fewest l)))
+    (λ (h, k). rw h (⊎_elim (λ e. inl e) (λ (r, m, e). inr (r, mathlib.Core.List.Memᴰ.tail m, e)) (fewest_reached l)))
+    (least_is (record_lines x) (fewest l)))
 
 -- n is the fewest lines of these records, 481 for none
 pub record FewestOf (records : List (List ℕ)) (n : ℕ) : Type 0 where
-  pub none : records ≡ [] → n ≡ no-fewest
-  pub no-fewer : (r : List ℕ) → Memᴰ r records → n ≤ record-lines r
-  pub reached : (records ≡ []) ⊎ ((r : List ℕ) × Memᴰ r records × (n ≡ record-lines r))
+  pub none : records ≡ [] → n ≡ no_fewest
+  pub no_fewer : (r : List ℕ) → Memᴰ r records → n ≤ record_lines r
+  pub reached : (records ≡ []) ⊎ ((r : List ℕ) × Memᴰ r records × (n ≡ record_lines r))
 
-pub fewest-of : (records : List (List ℕ)) → ((r : List ℕ) → Memᴰ r records → record-lines r ≤ 480) → FewestOf records (fewest records)
-fewest-of records small = record {
+pub fewest_of : (records : List (List ℕ)) → ((r : List ℕ) → Memᴰ r records → record_lines r ≤ 480) → FewestOf records (fewest records)
+fewest_of records small = record {
   none = λ e. ap fewest e ∙ (unfold fewest in refl);
-  no-fewer = fewest-below records;
-  reached = go records refl small (fewest-reached records);
+  no_fewer = fewest_below records;
+  reached = go records refl small (fewest_reached records);
 }
   where
-    go : (l : List (List ℕ)) → records ≡ l → ((r : List ℕ) → Memᴰ r records → record-lines r ≤ 480)
-        → (fewest records ≡ no-fewest) ⊎ ((r : List ℕ) × Memᴰ r records × (fewest records ≡ record-lines r))
-        → (records ≡ []) ⊎ ((r : List ℕ) × Memᴰ r records × (fewest records ≡ record-lines r))
+    go : (l : List (List ℕ)) → records ≡ l → ((r : List ℕ) → Memᴰ r records → record_lines r ≤ 480)
+        → (fewest records ≡ no_fewest) ⊎ ((r : List ℕ) × Memᴰ r records × (fewest records ≡ record_lines r))
+        → (records ≡ []) ⊎ ((r : List ℕ) × Memᴰ r records × (fewest records ≡ record_lines r))
     go [] e small f = inl e
     go (x ∷ l) e small (inr f) = inr f
     go (x ∷ l) e small (inl h) =
         let m : Memᴰ x records = rw e (mathlib.Core.List.Memᴰ.head refl) in
-        absurd (let k = small x m in let j = fewest-below records x m in omega arith)
+        absurd (let k = small x m in let j = fewest_below records x m in omega arith)

@@ -4,10 +4,10 @@ ghost use Rattle.std.specs.Prelude.{◌≡◌, [], ◌∷◌, ◌+◌, ◌*◌, 
 ghost use Rattle.rules.specs.Grid.{places};
 ghost use Rattle.rules.specs.Drawing.{num};
 ghost use Rattle.model.specs.Runs.{layout};
-ghost use Rattle.boardview.specs.View.{grid-in, Kinds, has-bit, clue-bit};
-ghost use Rattle.boardview.specs.ShownRecord.{edges-only, record-shown};
+ghost use Rattle.boardview.specs.View.{grid_in, Kinds, has_bit, clue_bit};
+ghost use Rattle.boardview.specs.ShownRecord.{edges_only, record_shown};
 ghost use Rattle.runs.specs.Layouts.{Added};
-ghost use Rattle.searchview.specs.Shown.{EdgesReady, is-tried, last_row, NextPad};
+ghost use Rattle.searchview.specs.Shown.{EdgesReady, is_tried, last_row, NextPad};
 
 use grid::Edge;
 
@@ -19,7 +19,7 @@ const LINE: u8 = Edge::LINE.0;
 // The first pad of the last row.
 pub fn first_of_last_row(kind: &[u8; 1024]) -> usize
     requires { Kinds kind.now }
-    ensures { result ≡ last_row (grid-in kind.now) }
+    ensures { result ≡ last_row (grid_in kind.now) }
 {
     (boardparts::height(kind) - 1) * boardparts::width(kind)
 }
@@ -27,7 +27,7 @@ pub fn first_of_last_row(kind: &[u8; 1024]) -> usize
 // 1 for a clue, 0 for a blank pad and for a hole.
 fn clue_at(kind: &[u8; 1024], v: usize) -> u8
     requires { (v < 1024) × (length kind.now ≡ 1024) }
-    ensures { (result ≡ num (has-bit kind.now v clue-bit)) × (result ≤ 1) }
+    ensures { (result ≡ num (has_bit kind.now v clue_bit)) × (result ≤ 1) }
 {
     boardparts::one_if(boardparts::has(kind, v, boardparts::CLUE))
 }
@@ -42,8 +42,8 @@ fn line_at(edges: &[u8; 1024], s: usize) -> u8
 
 // Whether right and down are tried at a pad: where clue + lines is 0 or 2.
 pub fn tried(edges: &[u8; 1024], kind: &[u8; 1024], v: usize, right: bool, down: bool) -> bool
-    requires { (v < 256) × Kinds kind.now × EdgesReady (grid-in kind.now) edges.now }
-    ensures { result ≡ is-tried (grid-in kind.now) v (edges-only edges.now) right down }
+    requires { (v < 256) × Kinds kind.now × EdgesReady (grid_in kind.now) edges.now }
+    ensures { result ≡ is_tried (grid_in kind.now) v (edges_only edges.now) right down }
 {
     let left = line_at(edges, 30 + 2 * v);
     let up = line_at(edges, 33 + 2 * v - 2 * boardparts::width(kind));
@@ -81,9 +81,9 @@ pub fn add_layout(
     layouts: &mut usize,
     fewest: &mut usize,
 ) -> u8
-    requires { Kinds kind.now × EdgesReady (grid-in kind.now) edges.now
-        × (layouts.old * places (grid-in kind.now).height (grid-in kind.now).width ≤ length buffer.old) }
-    ensures { Added (places (grid-in kind.now).height (grid-in kind.now).width) (layout (record-shown (grid-in kind.now) edges.now) ∷ [])
+    requires { Kinds kind.now × EdgesReady (grid_in kind.now) edges.now
+        × (layouts.old * places (grid_in kind.now).height (grid_in kind.now).width ≤ length buffer.old) }
+    ensures { Added (places (grid_in kind.now).height (grid_in kind.now).width) (layout (record_shown (grid_in kind.now) edges.now) ∷ [])
         layouts.old fewest.old buffer.old
         result layouts.new fewest.new buffer.new }
 {

@@ -3,22 +3,22 @@
 use Rattle.std.specs.Prelude.{ℕ, ◌≤◌, ◌≡◌, Bool, false}
 use Rattle.std.proofs.Common.{ap, ◌∙◌}
 use Rattle.rules.specs.Grid.{right, down, Grid}
-use Rattle.model.specs.Board.{State, isUndecided, line-or-none, decide, enough}
-use Rattle.propagation.specs.Edges.{line-or-none-decided}
-use Rattle.propagation.specs.Kept.{calls-keep}
+use Rattle.model.specs.Board.{State, is_undecided, line_or_none, decide, enough}
+use Rattle.propagation.specs.Edges.{line_or_none_decided}
+use Rattle.propagation.specs.Kept.{calls_keep}
 use Rattle.propagation.specs.Squares.{geometry}
 
-module _ (g : Grid) (wide : 2 ≤ g.width) (v : ℕ) (go_right go-down : Bool) (S : State) where
-  abbrev after-right : State
-  after-right = decide g (enough g) (right v) (line-or-none go_right) S
+module _ (g : Grid) (wide : 2 ≤ g.width) (v : ℕ) (go_right go_down : Bool) (S : State) where
+  abbrev after_right : State
+  after_right = decide g (enough g) (right v) (line_or_none go_right) S
 
   abbrev after_both : State
-  after_both = decide g (enough g) (down v) (line-or-none go-down) after-right
+  after_both = decide g (enough g) (down v) (line_or_none go_down) after_right
 
-  pub right-decided : after_both.flag ≡ false → isUndecided (after_both.edge (right v)) ≡ false
-  right-decided clear =
-      let calls = calls-keep g (geometry g wide) (enough g) in
-      let later = calls.decide-onward (down v) (line-or-none go-down) after-right (line-or-none-decided go-down) in
-      let set = calls.decide-sets (right v) (line-or-none go_right) S (line-or-none-decided go_right) (later.was-clear clear) in
-      let was : isUndecided (after-right.edge (right v)) ≡ false = ap isUndecided set ∙ line-or-none-decided go_right in
-      ap isUndecided (later.decided-stay (right v) was) ∙ was
+  pub right_decided : after_both.flag ≡ false → is_undecided (after_both.edge (right v)) ≡ false
+  right_decided clear =
+      let calls = calls_keep g (geometry g wide) (enough g) in
+      let later = calls.decide_onward (down v) (line_or_none go_down) after_right (line_or_none_decided go_down) in
+      let set = calls.decide_sets (right v) (line_or_none go_right) S (line_or_none_decided go_right) (later.was_clear clear) in
+      let was : is_undecided (after_right.edge (right v)) ≡ false = ap is_undecided set ∙ line_or_none_decided go_right in
+      ap is_undecided (later.decided_stay (right v) was) ∙ was

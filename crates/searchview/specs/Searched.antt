@@ -6,9 +6,9 @@ use Rattle.model.specs.PadTests.{has_right}
 use Rattle.model.specs.Board.{State}
 use Rattle.model.specs.Runs.{Event}
 use Rattle.model.specs.Search.{try, backtrack}
-use Rattle.boardview.specs.View.{Arrays, grid-in, Kinds, view, Ready}
+use Rattle.boardview.specs.View.{Arrays, grid_in, Kinds, view, Ready}
 use Rattle.runs.specs.Progress.{Progress, advance}
-use Rattle.runs.specs.Turns.{turns-left}
+use Rattle.runs.specs.Turns.{turns_left}
 use Rattle.runs.specs.Layouts.{progress}
 use Rattle.searchview.specs.Shown.{last_row, Restored}
 
@@ -16,25 +16,25 @@ abbrev pub arrays : List ℕ → List ℤ → List ℤ → ℕ → Arrays
 arrays edges ends log count = record { edges = edges; ends = ends; log = log; count = count }
 
 -- how far the search has come, with the sizes that the kinds hold
-abbrev pub reached : List ℕ → (outcome visited layouts fewest-lines : ℕ) → List ℕ → Progress
-reached kind outcome visited layouts fewest-lines buffer = progress (places (grid-in kind).height (grid-in kind).width) outcome visited layouts fewest-lines buffer
+abbrev pub reached : List ℕ → (outcome visited layouts fewest_lines : ℕ) → List ℕ → Progress
+reached kind outcome visited layouts fewest_lines buffer = progress (places (grid_in kind).height (grid_in kind).width) outcome visited layouts fewest_lines buffer
 
 -- a board with a clear flag, and room for the layouts so far
 pub record Begun (kind : List ℕ) (s : Arrays) (P : Progress) : Type 0 where
   pub kinds : Kinds kind
-  pub ready : Ready (grid-in kind) s
+  pub ready : Ready (grid_in kind) s
   pub clear : s.count < 1024
   pub inside : P.used ≤ length P.buffer
 
 -- a pad above the last row with an edge to the right
 pub record Above (g : Grid) (v : ℕ) : Type 0 where
   pub low : v < last_row g
-  pub has-next : has_right g v ≡ true
+  pub has_next : has_right g v ≡ true
 
 -- such a pad, or the first one of the last row
 pub record Entered (g : Grid) (v : ℕ) : Type 0 where
   pub low : v ≤ last_row g
-  pub has-next : v < last_row g → has_right g v ≡ true
+  pub has_next : v < last_row g → has_right g v ≡ true
 
 -- SEARCHED: the progress has advanced over these events, and edges, ends and log are as before. The events are those of the model with
 -- any number that bounds the pads left.
@@ -46,21 +46,21 @@ pub record Searched (g : Grid) (limit left : ℕ) (events : ℕ → List Event) 
 
 -- one m at a pad
 abbrev pub Attempted : Grid → ℕ → ℕ → Bool → Bool → Arrays → Progress → Arrays → Progress → Type 0
-Attempted g limit v go_right go-down s P s' P' =
-    Searched g limit (pads g - (v + 1)) (λ n. try g (λ u T. backtrack g n u T) v (view s) go_right go-down) s P s' P'
+Attempted g limit v go_right go_down s P s' P' =
+    Searched g limit (pads g - (v + 1)) (λ n. try g (λ u T. backtrack g n u T) v (view s) go_right go_down) s P s' P'
 
 -- all of a pad
 abbrev pub Backtracked : Grid → ℕ → ℕ → Arrays → Progress → Arrays → Progress → Type 0
 Backtracked g limit v s P s' P' = Searched g limit (pads g - v) (λ n. backtrack g n v (view s)) s P s' P'
 
 -- the events of so many m from one on: right = m mod 2, down = m div 2. The last number bounds the pads left.
-abbrev pub events-left : Grid → ℕ → State → ℕ → ℕ → ℕ → List Event
-events-left g v S more m n = turns-left (λ k. try g (λ u T. backtrack g n u T) v S (eqb (k % 2) 1) (eqb (k / 2) 1)) more m
+abbrev pub events_left : Grid → ℕ → State → ℕ → ℕ → ℕ → List Event
+events_left g v S more m n = turns_left (λ k. try g (λ u T. backtrack g n u T) v S (eqb (k % 2) 1) (eqb (k / 2) 1)) more m
 
 -- within a pad: so many m have been tried since the progress was P, it is now Q, and these events are left
 pub record Going (g : Grid) (limit v : ℕ) (s : Arrays) (P : Progress) (rest : ℕ → List Event) (s' : Arrays) (Q : Progress) : Type 0 where
   pub so_far : (n : ℕ) → pads g - (v + 1) ≤ n
-      → advance limit (places g.height g.width) P (events-left g v (view s) 4 0 n) ≡ advance limit (places g.height g.width) Q (rest n)
+      → advance limit (places g.height g.width) P (events_left g v (view s) 4 0 n) ≡ advance limit (places g.height g.width) Q (rest n)
   pub restored : Restored s s'
   pub inside : Q.used ≤ length Q.buffer
   pub same_length : length Q.buffer ≡ length P.buffer

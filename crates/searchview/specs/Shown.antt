@@ -4,18 +4,18 @@ use Rattle.std.specs.Prelude.{ℕ, ◌+◌, ◌*◌, ◌-◌, ◌≤◌, ◌<◌
 use Rattle.rules.specs.Grid.{Grid}
 use Rattle.rules.specs.Drawing.{num}
 use Rattle.model.specs.Board.{State}
-use Rattle.model.specs.Search.{degree-so-far}
-use Rattle.boardview.specs.View.{Arrays, slot-on, logged}
+use Rattle.model.specs.Search.{degree_so_far}
+use Rattle.boardview.specs.View.{Arrays, slot_on, logged}
 
 -- what is true of the edges of every board: as READY of the board says it
 pub record EdgesReady (g : Grid) (edges : List ℕ) : Type 0 where
   pub long : length edges ≡ 1024
   pub bytes : (n : ℕ) → get_or edges n 2 ≤ 2
-  pub rim : (n : ℕ) → n < 1024 → slot-on g n ≡ false → get_or edges n 0 ≡ 2
+  pub rim : (n : ℕ) → n < 1024 → slot_on g n ≡ false → get_or edges n 0 ≡ 2
 
 -- an m is tried where clue + lines is 0 or 2
-unfoldable pub is-tried : Grid → ℕ → State → Bool → Bool → Bool
-is-tried g v S go_right go-down = let degree = degree-so-far g v S + num go_right + num go-down in eqb degree 0 || eqb degree 2
+unfoldable pub is_tried : Grid → ℕ → State → Bool → Bool → Bool
+is_tried g v S go_right go_down = let degree = degree_so_far g v S + num go_right + num go_down in eqb degree 0 || eqb degree 2
 
 -- the first pad of the last row
 abbrev pub last_row : Grid → ℕ
@@ -30,7 +30,7 @@ pub record NextPad (edges : List ℕ) (last from r : ℕ) : Type 0 where
 
 -- RESTORED: edges and ends are as before, and so is the log up to its length
 pub record Restored (s s' : Arrays) : Type 0 where
-  pub edges-back : s'.edges ≡ s.edges
-  pub ends-back : s'.ends ≡ s.ends
-  pub log-kept : (i : ℕ) → i < 3 * logged s → get_or s'.log i (pos 0) ≡ get_or s.log i (pos 0)
-  pub log-long : length s'.log ≡ length s.log
+  pub edges_back : s'.edges ≡ s.edges
+  pub ends_back : s'.ends ≡ s.ends
+  pub log_kept : (i : ℕ) → i < 3 * logged s → get_or s'.log i (pos 0) ≡ get_or s.log i (pos 0)
+  pub log_long : length s'.log ≡ length s.log

@@ -4,16 +4,16 @@ use Rattle.std.specs.Prelude.{ℕ, zero, suc, ◌≤◌, ◌<◌, refl, ◌⊎�
 use Rattle.std.proofs.Common.{inl, inr, ⊎_elim, arith}
 use Rattle.std.proofs.Math.Decide.{ℕ_discrete}
 use Rattle.rules.specs.Grid.{right, Grid, pads, OnBoard}
-use Rattle.rules.specs.Drawing.{Drawing, Side, on-left, on-right, DiagonallyBelow, Corner, NotBlank, Ordinary, Listed, SamePairs, number-of-lines}
+use Rattle.rules.specs.Drawing.{Drawing, Side, on_left, on_right, DiagonallyBelow, Corner, NotBlank, Ordinary, Listed, SamePairs, number_of_lines}
 use Rattle.shortest.specs.Weight.{weigh}
-use Rattle.shortest.specs.Step.{Better, Fine, pads-from, look}
+use Rattle.shortest.specs.Step.{Better, Fine, pads_from, look}
 
 -- a listed drawing that is no worse than D
 pub record NoWorse (g : Grid) (D : Drawing) : Type 1 where
   pub drawing : Drawing
   pub listed : Listed g drawing
-  pub same-pairs : SamePairs g D drawing
-  pub no-more-lines : number-of-lines g drawing ≤ number-of-lines g D
+  pub same_pairs : SamePairs g D drawing
+  pub no_more_lines : number_of_lines g drawing ≤ number_of_lines g D
 
 -- look at the unit squares one by one
 scan : (g : Grid) → 2 ≤ g.width → (D : Drawing) → Ordinary g D → (n : ℕ) → ((v : ℕ) → v < n → Fine g D v) ⊎ Better g D
@@ -29,24 +29,24 @@ unfolding OnBoard
 listed g D ordinary fine = record { ordinary = ordinary; squares = λ v u. (fine v u.0.0).few u; corners = corners }
   where
     corners : (side : Side) (p q : ℕ) → DiagonallyBelow side g.width p q → Corner side D p → NotBlank g q ⊎ Corner side D q
-    corners on-right p q below (h, k) = (fine p (ordinary.placed (right p) h).0).corner on-right q below (h, k)
-    corners on-left p q below ((u, e, h), k) =
-        (fine u (ordinary.placed (right u) h).0).corner on-left q (rw e below) ((u, refl, h), rw e k)
+    corners on_right p q below (h, k) = (fine p (ordinary.placed (right p) h).0).corner on_right q below (h, k)
+    corners on_left p q below ((u, e, h), k) =
+        (fine u (ordinary.placed (right u) h).0).corner on_left q (rw e below) ((u, refl, h), rw e k)
 
-descend : (n : ℕ) (g : Grid) → 2 ≤ g.width → (D : Drawing) → Ordinary g D → weigh (pads-from g) (pads g) D < n → NoWorse g D
+descend : (n : ℕ) (g : Grid) → 2 ≤ g.width → (D : Drawing) → Ordinary g D → weigh (pads_from g) (pads g) D < n → NoWorse g D
 descend zero g wide D ordinary h = absurd (omega arith)
 descend (suc n) g wide D ordinary h = ⊎_elim
-    (λ fine. record { drawing = D; listed = listed g D ordinary fine; same-pairs = λ u v cu cv. ((λ j. j), (λ j. j)); no-more-lines = omega arith })
-    (λ b. let r = descend n g wide b.next b.as-good.ordinary (omega (arith, b.lighter)) in record {
+    (λ fine. record { drawing = D; listed = listed g D ordinary fine; same_pairs = λ u v cu cv. ((λ j. j), (λ j. j)); no_more_lines = omega arith })
+    (λ b. let r = descend n g wide b.next b.as_good.ordinary (omega (arith, b.lighter)) in record {
       drawing = r.drawing;
       listed = r.listed;
-      same-pairs = λ u v cu cv. (
-        (λ j. (r.same-pairs u v cu cv).0 ((b.as-good.same-pairs u v cu cv).0 j)),
-        (λ j. (b.as-good.same-pairs u v cu cv).1 ((r.same-pairs u v cu cv).1 j)),
+      same_pairs = λ u v cu cv. (
+        (λ j. (r.same_pairs u v cu cv).0 ((b.as_good.same_pairs u v cu cv).0 j)),
+        (λ j. (b.as_good.same_pairs u v cu cv).1 ((r.same_pairs u v cu cv).1 j)),
       );
-      no-more-lines = omega (arith, r.no-more-lines, b.no-more-lines);
+      no_more_lines = omega (arith, r.no_more_lines, b.no_more_lines);
     })
     (scan g wide D ordinary (pads g))
 
-pub listed-no-worse : (g : Grid) → 2 ≤ g.width → (D : Drawing) → Ordinary g D → NoWorse g D
-listed-no-worse g wide D ordinary = descend (suc (weigh (pads-from g) (pads g) D)) g wide D ordinary (omega arith)
+pub listed_no_worse : (g : Grid) → 2 ≤ g.width → (D : Drawing) → Ordinary g D → NoWorse g D
+listed_no_worse g wide D ordinary = descend (suc (weigh (pads_from g) (pads g) D)) g wide D ordinary (omega arith)

@@ -10,24 +10,24 @@ pub record Fewest {ℓ} {A : Type 0} (lines : A → ℕ) (Among : A → Type ℓ
   pub attained : lines one ≡ n
   pub least : (other : A) → Among other → n ≤ lines other
 
-module _ {A B : Type 0} (lines-A : A → ℕ) (Among-A : A → Type 0) (lines-B : B → ℕ) (Among-B : B → Type 1)
-    (as_many : (a : A) → Among-A a → (b : B) × Among-B b × (lines-B b ≡ lines-A a))
-    (no_more : (b : B) → Among-B b → (a : A) × Among-A a × (lines-A a ≤ lines-B b)) where
-  pub same-fewest : (n : ℕ) → Fewest lines-A Among-A n ↔ Fewest lines-B Among-B n
-  same-fewest n = (to-B, to-A)
+module _ {A B : Type 0} (lines_a : A → ℕ) (Among-A : A → Type 0) (lines_b : B → ℕ) (Among-B : B → Type 1)
+    (as_many : (a : A) → Among-A a → (b : B) × Among-B b × (lines_b b ≡ lines_a a))
+    (no_more : (b : B) → Among-B b → (a : A) × Among-A a × (lines_a a ≤ lines_b b)) where
+  pub same_fewest : (n : ℕ) → Fewest lines_a Among-A n ↔ Fewest lines_b Among-B n
+  same_fewest n = (to_b, to_a)
     where
-      to-B : Fewest lines-A Among-A n → Fewest lines-B Among-B n
-      to-B f = let (b, in_b, e) = as_many f.one f.among in record {
+      to_b : Fewest lines_a Among-A n → Fewest lines_b Among-B n
+      to_b f = let (b, in_b, e) = as_many f.one f.among in record {
         one = b;
         among = in_b;
         attained = e ∙ f.attained;
-        least = λ other in-other. let (a, in-a, l) = no_more other in-other in omega (arith, l, f.least a in-a);
+        least = λ other in_other. let (a, in_a, l) = no_more other in_other in omega (arith, l, f.least a in_a);
       }
 
-      to-A : Fewest lines-B Among-B n → Fewest lines-A Among-A n
-      to-A f = let (a, in-a, l) = no_more f.one f.among in let (b, in_b, e) = as_many a in-a in record {
+      to_a : Fewest lines_b Among-B n → Fewest lines_a Among-A n
+      to_a f = let (a, in_a, l) = no_more f.one f.among in let (b, in_b, e) = as_many a in_a in record {
         one = a;
-        among = in-a;
+        among = in_a;
         attained = omega (arith, l, e, f.attained, f.least b in_b);
-        least = λ other in-other. let (b, in_b, e) = as_many other in-other in omega (arith, e, f.least b in_b);
+        least = λ other in_other. let (b, in_b, e) = as_many other in_other in omega (arith, e, f.least b in_b);
       }

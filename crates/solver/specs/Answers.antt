@@ -1,8 +1,8 @@
 -- What `solve` answers, as the model says it, and its whole promise in one record. `Solves` is the contract of `solve`; the equation with
 -- the model is its first part, and demands 2 and 3 are its second.
 use Rattle.std.specs.Prelude.{ℕ, ◌≡◌, List, length, ℤ}
-use Rattle.rules.specs.Grid.{grid-of, places}
-use Rattle.model.specs.Refusals.{grid-refusal}
+use Rattle.rules.specs.Grid.{grid_of, places}
+use Rattle.model.specs.Refusals.{grid_refusal}
 use Rattle.model.specs.Runs as runs
 use Rattle.model.specs.Search as model
 use Rattle.solver.specs.declared.Solved.{Solved}
@@ -11,9 +11,9 @@ use Rattle.tally.specs.Counts as counts
 use Rattle.promises.specs.Contract.{Promise}
 
 -- the answer and the buffer after it, as the model's result
-abbrev pub answer-says : Solved → List ℕ → runs.Solved
-answer-says r buffer = record
-    { number = r.number; index = r.index; outcome = r.outcome; layouts = r.layouts; visited = r.visited; fewest-lines = r.fewest; buffer = buffer }
+abbrev pub answer_says : Solved → List ℕ → runs.Solved
+answer_says r buffer = record
+    { number = r.number; index = r.index; outcome = r.outcome; layouts = r.layouts; visited = r.visited; fewest_lines = r.fewest; buffer = buffer }
 
 -- the answer where nothing was searched
 abbrev pub declined : ℕ → ℕ → Solved
@@ -21,15 +21,15 @@ declined number index = record { number = number; index = index; outcome = 0; la
 
 -- the run of the search with no board visited before
 abbrev pub run_of : ℕ → ℕ → List ℤ → ℕ → List ℕ → runs.Run
-run_of height width cells limit buffer = runs.scan limit (places height width) 0 (length buffer) (model.search (grid-of height width cells))
+run_of height width cells limit buffer = runs.scan limit (places height width) 0 (length buffer) (model.search (grid_of height width cells))
 
 pub record Solves (height width : ℕ) (cells : List ℤ) (limit : ℕ) (buffer : List ℕ) (r : Solved) (buffer' : List ℕ) : Type 0 where
   -- the result and every byte of the buffer, for a refused grid too
-  pub equal : answer-says r buffer' ≡ model.solve height width cells limit buffer
+  pub equal : answer_says r buffer' ≡ model.solve height width cells limit buffer
   -- where it is not refused they are those of this run
-  pub of-run : (grid-refusal height width cells).0 ≡ 0 → answer-says r buffer' ≡ runs.solved (run_of height width cells limit buffer) buffer
+  pub of_run : (grid_refusal height width cells).0 ≡ 0 → answer_says r buffer' ≡ runs.solved (run_of height width cells limit buffer) buffer
   -- and demands 2 and 3 hold of it
-  pub promise : (grid-refusal height width cells).0 ≡ 0 → Promise (grid-of height width cells) (model.search (grid-of height width cells)) limit (length buffer) (run_of height width cells limit buffer)
+  pub promise : (grid_refusal height width cells).0 ≡ 0 → Promise (grid_of height width cells) (model.search (grid_of height width cells)) limit (length buffer) (run_of height width cells limit buffer)
 
 -- the tally and the buffer after the search of the whole grid
 abbrev pub Counted : ℕ → ℕ → List ℤ → ℕ → Tally → List ℕ → Tally → List ℕ → Type 0

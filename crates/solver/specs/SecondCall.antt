@@ -3,11 +3,11 @@
 use Rattle.std.specs.Prelude.{ℕ, ◌≤◌, List, length, ℤ}
 use Rattle.promises.specs.SecondRun.{SecondRun, second_run}
 use Rattle.solver.specs.declared.Solved.{Solved}
-use Rattle.solver.specs.Answers.{answer-says, Solves}
+use Rattle.solver.specs.Answers.{answer_says, Solves}
 
 module _ (height width : ℕ) (cells : List ℤ) (limit limit' : ℕ) (buffer buffer' : List ℕ) where
   pub second_call : limit ≤ limit' → length buffer ≤ length buffer'
       → (r : Solved) (after : List ℕ) → Solves height width cells limit buffer r after
       → (r' : Solved) (after' : List ℕ) → Solves height width cells limit' buffer' r' after'
-      → SecondRun height width (answer-says r after) (answer-says r' after')
+      → SecondRun height width (answer_says r after) (answer_says r' after')
   second_call higher wider r after one r' after' two = rw (one.equal, two.equal) (second_run height width cells limit limit' higher buffer buffer' wider)

@@ -3,41 +3,41 @@
 use Rattle.std.specs.Prelude.{ℕ, ◌≤◌, ◌<◌, ◌≡◌, List, length, ℤ}
 use Rattle.std.proofs.Math.Path.{refl, sym, ap}
 use Rattle.std.proofs.Common.{◌∙◌, subst, arith}
-use Rattle.rules.specs.Grid.{grid-of, pads, places, Accepted}
-use Rattle.rules.specs.ProperGrid.{accepted-proper}
+use Rattle.rules.specs.Grid.{grid_of, pads, places, Accepted}
+use Rattle.rules.specs.ProperGrid.{accepted_proper}
 use Rattle.model.specs.Board.{fresh}
-use Rattle.model.specs.Refusals.{grid-refusal}
-use Rattle.model.specs.RefusalLaws.{not-refused}
+use Rattle.model.specs.Refusals.{grid_refusal}
+use Rattle.model.specs.RefusalLaws.{not_refused}
 use Rattle.model.specs.Runs as runs
 use Rattle.model.specs.Search as model
-use Rattle.exact.specs.Exact.{exact, solve-is-run, solve-is-declined}
-use Rattle.boardview.specs.View.{Arrays, view, grid-in}
+use Rattle.exact.specs.Exact.{exact, solve_is_run, solve_is_declined}
+use Rattle.boardview.specs.View.{Arrays, view, grid_in}
 use Rattle.boardfresh.specs.FreshView.{FreshBoard}
 use Rattle.tally.specs.declared.Tally.{Tally}
 use Rattle.tally.specs.Empty.{empty}
-use Rattle.runs.specs.Progress.{advance, result-of}
-use Rattle.searchview.specs.Sizes.{search-sized}
+use Rattle.runs.specs.Progress.{advance, result_of}
+use Rattle.searchview.specs.Sizes.{search_sized}
 use Rattle.runs.specs.Layouts.{progress}
 use Rattle.searchview.specs.Shown.{last_row, NextPad}
 use Rattle.searchview.specs.Searched.{arrays, reached, Begun, Entered, Backtracked}
-use Rattle.searchview.specs.NextPad.{last-below-pads}
-use Rattle.searchview.specs.SameEvents.{shown-searches}
-use Rattle.searchview.specs.SearchLaws.{found-entered, search-flagged, search-clear}
+use Rattle.searchview.specs.NextPad.{last_below_pads}
+use Rattle.searchview.specs.SameEvents.{shown_searches}
+use Rattle.searchview.specs.SearchLaws.{found_entered, search_flagged, search_clear}
 use Rattle.promises.specs.Contract.{promise}
-use Rattle.tally.specs.Counts.{tally-says, Ready, counted-run}
+use Rattle.tally.specs.Counts.{tally_says, Ready, counted_run}
 use Rattle.solver.specs.Answers.{declined, run_of, Solves, Counted}
 
 -- THE WHOLE SEARCH over the fresh arrays
 module _ (height width : ℕ) (cells : List ℤ) (t : Tally) (buffer : List ℕ) (begins : Ready height width cells t buffer)
-    (edges : List ℕ) (ends : List ℤ) (kind : List ℕ) (count : ℕ) (made : FreshBoard (grid-of height width cells) edges ends kind count) (log : List ℤ) where
-  same_size : places (grid-in kind).height (grid-in kind).width ≡ places height width
-  unfolding grid-of
+    (edges : List ℕ) (ends : List ℤ) (kind : List ℕ) (count : ℕ) (made : FreshBoard (grid_of height width cells) edges ends kind count) (log : List ℤ) where
+  same_size : places (grid_in kind).height (grid_in kind).width ≡ places height width
+  unfolding grid_of
   same_size = λ i. places (made.told.height i) (made.told.width i)
 
   -- the kinds are searched as the grid is
-  events-same : model.search-from (grid-in kind) (view (arrays edges ends log count)) ≡ model.search (grid-of height width cells)
+  events_same : model.search_from (grid_in kind) (view (arrays edges ends log count)) ≡ model.search (grid_of height width cells)
   unfolding model.search
-  events-same = ap (model.search-from (grid-in kind)) (made.shows log) ∙ shown-searches made.told (fresh (grid-of height width cells))
+  events_same = ap (model.search_from (grid_in kind)) (made.shows log) ∙ shown_searches made.told (fresh (grid_of height width cells))
 
   -- a tally and the buffer that have come so far are what is to be counted
   module _ (limit : ℕ) (t' : Tally) (buffer' : List ℕ) (same_length : length buffer' ≡ length buffer) where
@@ -45,11 +45,11 @@ module _ (height width : ℕ) (cells : List ℤ) (t : Tally) (buffer : List ℕ)
     Advanced size events = progress size t'.outcome t'.visited t'.layouts t'.fewest buffer'
         ≡ advance limit size (progress size t.outcome t.visited t.layouts t.fewest buffer) events
 
-    counted : Advanced (places (grid-in kind).height (grid-in kind).width) (model.search-from (grid-in kind) (view (arrays edges ends log count)))
+    counted : Advanced (places (grid_in kind).height (grid_in kind).width) (model.search_from (grid_in kind) (view (arrays edges ends log count)))
         → Counted height width cells limit t buffer t' buffer'
     counted says = record {
-      advanced = subst (λ size. Advanced size (model.search (grid-of height width cells))) same_size
-          (subst (Advanced (places (grid-in kind).height (grid-in kind).width)) events-same says);
+      advanced = subst (λ size. Advanced size (model.search (grid_of height width cells))) same_size
+          (subst (Advanced (places (grid_in kind).height (grid_in kind).width)) events_same says);
       same_length = same_length;
     }
 
@@ -58,61 +58,61 @@ module _ (height width : ℕ) (cells : List ℤ) (t : Tally) (buffer : List ℕ)
     pub counted_none : 1024 ≤ count → (limit : ℕ) → Counted height width cells limit t buffer t buffer
     unfolding advance
     counted_none set limit = counted limit t buffer refl
-        (sym (ap (advance limit _ _) (search-flagged (grid-in kind) (arrays edges ends log count) (made.ready log long) made.kinds.least-height set)))
+        (sym (ap (advance limit _ _) (search_flagged (grid_in kind) (arrays edges ends log count) (made.ready log long) made.kinds.least_height set)))
 
     -- else it begins at the pad that is found
-    pub scan-fits : (last : ℕ) → last ≡ last_row (grid-in kind) → (0 ≤ last) × (last ≤ 256) × (length edges ≡ 1024)
-    scan-fits last is = let ready = made.ready log long in
-        (omega arith, omega (arith, is, last-below-pads (grid-in kind) made.kinds.least-height made.kinds.least-width, ready.few-pads), ready.edges-long)
+    pub scan_fits : (last : ℕ) → last ≡ last_row (grid_in kind) → (0 ≤ last) × (last ≤ 256) × (length edges ≡ 1024)
+    scan_fits last is = let ready = made.ready log long in
+        (omega arith, omega (arith, is, last_below_pads (grid_in kind) made.kinds.least_height made.kinds.least_width, ready.few_pads), ready.edges_long)
 
-    module _ (clear : count < 1024) (last : ℕ) (is : last ≡ last_row (grid-in kind)) (first : ℕ) (scanned : NextPad edges last 0 first) where
-      found : NextPad edges (last_row (grid-in kind)) 0 first
+    module _ (clear : count < 1024) (last : ℕ) (is : last ≡ last_row (grid_in kind)) (first : ℕ) (scanned : NextPad edges last 0 first) where
+      found : NextPad edges (last_row (grid_in kind)) 0 first
       found = subst (λ l. NextPad edges l 0 first) is scanned
 
-      pub begins-there : Begun kind (arrays edges ends log count) (reached kind 0 t.visited t.layouts t.fewest buffer) × Entered (grid-in kind) first
-      begins-there = (
+      pub begins_there : Begun kind (arrays edges ends log count) (reached kind 0 t.visited t.layouts t.fewest buffer) × Entered (grid_in kind) first
+      begins_there = (
         record { kinds = made.kinds; ready = made.ready log long; clear = clear; inside = rw same_size begins.inside },
-        found-entered (grid-in kind) (arrays edges ends log count) (made.ready log long) made.kinds.least-height found,
+        found_entered (grid_in kind) (arrays edges ends log count) (made.ready log long) made.kinds.least_height found,
       )
 
-      pub counted-all : (limit : ℕ) (s' : Arrays) (o visited layouts fewest-lines : ℕ) (buffer' : List ℕ)
-          → Backtracked (grid-in kind) limit first (arrays edges ends log count) (reached kind 0 t.visited t.layouts t.fewest buffer) s' (reached kind o visited layouts fewest-lines buffer')
-          → Counted height width cells limit t buffer (record { outcome = o; visited = visited; layouts = layouts; fewest = fewest-lines }) buffer'
-      counted-all limit s' o visited layouts fewest-lines buffer' back = counted limit (record { outcome = o; visited = visited; layouts = layouts; fewest = fewest-lines }) buffer' back.same_length
-          (back.advanced (pads (grid-in kind)) (omega arith)
-          ∙ ap (advance limit size (reached kind 0 t.visited t.layouts t.fewest buffer)) (sym (search-clear (grid-in kind) (arrays edges ends log count) (made.ready log long) made.kinds.least-height clear first found))
-          ∙ ap (λ (k : ℕ). advance limit size (reached kind k t.visited t.layouts t.fewest buffer) (model.search-from (grid-in kind) (view (arrays edges ends log count)))) (sym begins.none_yet))
+      pub counted_all : (limit : ℕ) (s' : Arrays) (o visited layouts fewest_lines : ℕ) (buffer' : List ℕ)
+          → Backtracked (grid_in kind) limit first (arrays edges ends log count) (reached kind 0 t.visited t.layouts t.fewest buffer) s' (reached kind o visited layouts fewest_lines buffer')
+          → Counted height width cells limit t buffer (record { outcome = o; visited = visited; layouts = layouts; fewest = fewest_lines }) buffer'
+      counted_all limit s' o visited layouts fewest_lines buffer' back = counted limit (record { outcome = o; visited = visited; layouts = layouts; fewest = fewest_lines }) buffer' back.same_length
+          (back.advanced (pads (grid_in kind)) (omega arith)
+          ∙ ap (advance limit size (reached kind 0 t.visited t.layouts t.fewest buffer)) (sym (search_clear (grid_in kind) (arrays edges ends log count) (made.ready log long) made.kinds.least_height clear first found))
+          ∙ ap (λ (k : ℕ). advance limit size (reached kind k t.visited t.layouts t.fewest buffer) (model.search_from (grid_in kind) (view (arrays edges ends log count)))) (sym begins.none_yet))
         where
           size : ℕ
-          size = places (grid-in kind).height (grid-in kind).width
+          size = places (grid_in kind).height (grid_in kind).width
 
 -- THE MODEL'S RESULT
 module _ (height width : ℕ) (cells : List ℤ) (limit : ℕ) (buffer : List ℕ) where
   -- a refused grid: nothing is searched and no byte changes
-  pub solve-refused : (number index : ℕ) → ◌≡◌ {A = ℕ × ℕ} (number, index) (grid-refusal height width cells) → (number ≡ 0 → ⊥)
+  pub solve_refused : (number index : ℕ) → ◌≡◌ {A = ℕ × ℕ} (number, index) (grid_refusal height width cells) → (number ≡ 0 → ⊥)
       → Solves height width cells limit buffer (declined number index) buffer
-  solve-refused number index is bad = record {
-    equal = (λ i. runs.declined-search (is i).0 (is i).1 buffer) ∙ sym (solve-is-declined height width cells not-zero limit buffer);
-    of-run = λ e. absurd (not-zero e);
-    promise = λ e. absurd (not-zero e);
+  solve_refused number index is bad = record {
+    equal = (λ i. runs.declined_search (is i).0 (is i).1 buffer) ∙ sym (solve_is_declined height width cells not_zero limit buffer);
+    of_run = λ e. absurd (not_zero e);
+    promise = λ e. absurd (not_zero e);
   }
     where
-      not-zero : (grid-refusal height width cells).0 ≡ 0 → ⊥
-      not-zero e = bad (ap (λ (p : ℕ × ℕ). p.0) is ∙ e)
+      not_zero : (grid_refusal height width cells).0 ≡ 0 → ⊥
+      not_zero e = bad (ap (λ (p : ℕ × ℕ). p.0) is ∙ e)
 
   -- an accepted one
-  pub solve-accepted : (grid-refusal height width cells).0 ≡ 0 → (t : Tally) (buffer' : List ℕ)
+  pub solve_accepted : (grid_refusal height width cells).0 ≡ 0 → (t : Tally) (buffer' : List ℕ)
       → Counted height width cells limit empty buffer t buffer'
       → Solves height width cells limit buffer (record { number = 0; index = 0; outcome = t.outcome; layouts = t.layouts; visited = t.visited; fewest = t.fewest }) buffer'
-  unfolding grid-of
-  solve-accepted fine t buffer' counted = record {
-    equal = from-run ∙ sym (solve-is-run height width cells accepted limit buffer);
-    of-run = λ e. from-run;
-    promise = λ e. promise height width cells accepted (model.search (grid-of height width cells)) (exact (grid-of height width cells) (accepted-proper height width cells accepted)) limit (length buffer);
+  unfolding grid_of
+  solve_accepted fine t buffer' counted = record {
+    equal = from_run ∙ sym (solve_is_run height width cells accepted limit buffer);
+    of_run = λ e. from_run;
+    promise = λ e. promise height width cells accepted (model.search (grid_of height width cells)) (exact (grid_of height width cells) (accepted_proper height width cells accepted)) limit (length buffer);
   }
     where
       accepted : Accepted height width cells
-      accepted = not-refused height width cells fine
+      accepted = not_refused height width cells fine
 
-      from-run : result-of (tally-says height width t buffer') ≡ runs.solved (run_of height width cells limit buffer) buffer
-      from-run = counted-run (λ g. model.search g) height width cells limit buffer (search-sized (grid-of height width cells)) t buffer' counted
+      from_run : result_of (tally_says height width t buffer') ≡ runs.solved (run_of height width cells limit buffer) buffer
+      from_run = counted_run (λ g. model.search g) height width cells limit buffer (search_sized (grid_of height width cells)) t buffer' counted

@@ -3,7 +3,7 @@
 // and 3 stand in the contract of `solve` (specs/Answers.antt, Solves; promises' Contract.antt).
 ghost use Rattle.std.specs.Prelude.{◌≡◌, List, ℕ, ◌-◌, ◌%◌, ◌≤◌, ◌<◌, ℤ};
 ghost use Rattle.rules.specs.Grid.{right, down, Accepted};
-ghost use Rattle.boardview.specs.View.{grid-in, Kinds, Ready, unwound};
+ghost use Rattle.boardview.specs.View.{grid_in, Kinds, Ready, unwound};
 ghost use Rattle.searchview.specs.Searched.{arrays, reached, Begun, Above, Entered, Attempted, Backtracked};
 ghost use Rattle.tally.specs.Counts as counts;
 ghost use Rattle.tally.specs.Empty.{empty};
@@ -21,9 +21,9 @@ fn take_back(
     count: usize,
     before: usize,
 )
-    requires { Kinds kind.now × Ready (grid-in kind.now) (arrays edges.old ends.old log.now count) × (before ≤ count % 1024) }
+    requires { Kinds kind.now × Ready (grid_in kind.now) (arrays edges.old ends.old log.now count) × (before ≤ count % 1024) }
     ensures { ◌≡◌ {A = List ℕ × List ℤ} (edges.new, ends.new)
-        (unwound (grid-in kind.now).width log.now before (count % 1024 - before) (edges.old, ends.old)) }
+        (unwound (grid_in kind.now).width log.now before (count % 1024 - before) (edges.old, ends.old)) }
 {
     boardundo::undo(edges, ends, log, kind, count % FLAGGED, before);
 }
@@ -45,8 +45,8 @@ fn attempt(
     down: bool,
     count: usize,
 ) -> u8
-    requires { Begun kind.now (arrays edges.old ends.old log.old count) (reached kind.now 0 visited.old layouts.old fewest.old buffer.old) × Above (grid-in kind.now) v }
-    ensures { Attempted (grid-in kind.now) limit v right down
+    requires { Begun kind.now (arrays edges.old ends.old log.old count) (reached kind.now 0 visited.old layouts.old fewest.old buffer.old) × Above (grid_in kind.now) v }
+    ensures { Attempted (grid_in kind.now) limit v right down
         (arrays edges.old ends.old log.old count) (reached kind.now 0 visited.old layouts.old fewest.old buffer.old)
         (arrays edges.new ends.new log.new count) (reached kind.now result visited.new layouts.new fewest.new buffer.new) }
 {
@@ -82,8 +82,8 @@ fn backtrack(
     v: usize,
     count: usize,
 ) -> u8
-    requires { Begun kind.now (arrays edges.old ends.old log.old count) (reached kind.now 0 visited.old layouts.old fewest.old buffer.old) × Entered (grid-in kind.now) v }
-    ensures { Backtracked (grid-in kind.now) limit v
+    requires { Begun kind.now (arrays edges.old ends.old log.old count) (reached kind.now 0 visited.old layouts.old fewest.old buffer.old) × Entered (grid_in kind.now) v }
+    ensures { Backtracked (grid_in kind.now) limit v
         (arrays edges.old ends.old log.old count) (reached kind.now 0 visited.old layouts.old fewest.old buffer.old)
         (arrays edges.new ends.new log.new count) (reached kind.now result visited.new layouts.new fewest.new buffer.new) }
 {

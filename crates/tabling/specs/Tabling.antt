@@ -3,13 +3,13 @@
 -- model's text.
 use Rattle.model.specs.Choice.{if◌then◌else◌}
 use Rattle.std.specs.Prelude.{ℕ, zero, suc, ◌*◌, ◌/◌, ◌%◌, ◌≡◌, Bool, ◌&&◌, List, [], ◌++◌, map, eqb, ltb, length, take, drop}
-use Rattle.rules.specs.Grid.{field-side}
-use Rattle.model.specs.Bounds.{is-size}
-use Rattle.model.specs.Text.{line-end}
-use Rattle.model.specs.Decimal.{digit-byte}
+use Rattle.rules.specs.Grid.{field_side}
+use Rattle.model.specs.Bounds.{is_size}
+use Rattle.model.specs.Text.{line_end}
+use Rattle.model.specs.Decimal.{digit_byte}
 use Rattle.model.specs.GridFile.{Reading, read}
-use Rattle.model.specs.Printed.{summary-line, refusal-line}
-use Rattle.model.specs.Routes.{routes-limit}
+use Rattle.model.specs.Printed.{summary_line, refusal_line}
+use Rattle.model.specs.Routes.{routes_limit}
 use Rattle.model.specs.Common.{Common, common}
 use Rattle.printed.specs.Written.{Written}
 use Rattle.tabling.specs.declared.Heading.{Heading}
@@ -26,66 +26,66 @@ pub record Head : Type 0 where
   pub table : List ℕ
 
 -- how many rows are printed: those of the field beside the number 0, which a complete list has; none beside 14 and 16
-unfoldable pub rows-printed : (number height : ℕ) → ℕ
-rows-printed number height = if eqb number 0 then field-side height else 0
+unfoldable pub rows_printed : (number height : ℕ) → ℕ
+rows_printed number height = if eqb number 0 then field_side height else 0
 
 -- the head of what `common` of the model says: the summary of its search, and its bytes
-unfoldable pub common-head : ℕ → ℕ → Common → Head
-common-head height width said = record {
-  text = summary-line said.searched.layouts said.searched.visited said.searched.fewest-lines said.searched.outcome;
+unfoldable pub common_head : ℕ → ℕ → Common → Head
+common_head height width said = record {
+  text = summary_line said.searched.layouts said.searched.visited said.searched.fewest_lines said.searched.outcome;
   width = width;
-  rows = rows-printed said.searched.number height;
+  rows = rows_printed said.searched.number height;
   buffer = said.searched.buffer;
   table = said.table;
 }
 
 -- the head of a refused file is its line, and every lent byte is as before; that of an accepted one is what `common` says of its grid, with
 -- the limit of `routes`
-unfoldable pub reading-head : Reading → (buffer table : List ℕ) → Head
-reading-head reading buffer table =
+unfoldable pub reading_head : Reading → (buffer table : List ℕ) → Head
+reading_head reading buffer table =
     elim reading.number [
-      | zero ↦ common-head reading.height reading.width (common reading.height reading.width (take (reading.height * reading.width) reading.cells) routes-limit buffer table)
-      | suc n ↦ record { text = refusal-line (suc n) reading.line reading.field; width = 0; rows = 0; buffer = buffer; table = table }
+      | zero ↦ common_head reading.height reading.width (common reading.height reading.width (take (reading.height * reading.width) reading.cells) routes_limit buffer table)
+      | suc n ↦ record { text = refusal_line (suc n) reading.line reading.field; width = 0; rows = 0; buffer = buffer; table = table }
     ]
 
 -- ## The rows
 
 -- is there a row k in a table of so many bytes: W is a size, k is below the rows, and the table has more than k whole rows?
-unfoldable pub has-row : (width rows k room : ℕ) → Bool
-has-row width rows k room = is-size width && ltb k rows && ltb k (room / field-side width)
+unfoldable pub has_row : (width rows k room : ℕ) → Bool
+has_row width rows k room = is_size width && ltb k rows && ltb k (room / field_side width)
 
--- the last digit of a byte; a byte of a table is at most 3 (promises' TableLaws.antt, `table-bytes-small`), so there it is the byte itself
-unfoldable pub table-digit : ℕ → ℕ
-table-digit byte = digit-byte (byte % 10)
+-- the last digit of a byte; a byte of a table is at most 3 (promises' TableLaws.antt, `table_bytes_small`), so there it is the byte itself
+unfoldable pub table_digit : ℕ → ℕ
+table_digit byte = digit_byte (byte % 10)
 
 -- the line of row k (from 0); nothing where there is no row k
-unfoldable pub row-text : (width rows k : ℕ) → List ℕ → List ℕ
-row-text width rows k table =
-    if has-row width rows k (length table)
-    then map table-digit (take (field-side width) (drop (k * field-side width) table)) ++ line-end
+unfoldable pub row_text : (width rows k : ℕ) → List ℕ → List ℕ
+row_text width rows k table =
+    if has_row width rows k (length table)
+    then map table_digit (take (field_side width) (drop (k * field_side width) table)) ++ line_end
     else []
 
 -- ## The contracts
 
 -- the head for a refused file
 pub record Refused (number line field : ℕ) (r : Heading) : Type 0 where
-  pub text : Written 67 (refusal-line number line field) r.bytes r.length
+  pub text : Written 67 (refusal_line number line field) r.bytes r.length
   pub width : r.width ≡ 0
   pub rows : r.rows ≡ 0
 
 -- how many rows are printed, case by case
 pub record RowsPrinted (number height r : ℕ) : Type 0 where
-  pub complete : number ≡ 0 → r ≡ field-side height
+  pub complete : number ≡ 0 → r ≡ field_side height
   pub other : (number ≡ 0 → ⊥) → r ≡ 0
 
 -- HEAD: the head of the text, W and the rows that are printed, and every byte of the answer buffer and of the table
 pub record Headed (file buffer table : List ℕ) (r : Heading) (buffer' table' : List ℕ) : Type 0 where
-  pub text : Written 67 (reading-head (read file) buffer table).text r.bytes r.length
-  pub width : r.width ≡ (reading-head (read file) buffer table).width
-  pub rows : r.rows ≡ (reading-head (read file) buffer table).rows
-  pub buffer-after : buffer' ≡ (reading-head (read file) buffer table).buffer
-  pub table-after : table' ≡ (reading-head (read file) buffer table).table
+  pub text : Written 67 (reading_head (read file) buffer table).text r.bytes r.length
+  pub width : r.width ≡ (reading_head (read file) buffer table).width
+  pub rows : r.rows ≡ (reading_head (read file) buffer table).rows
+  pub buffer_after : buffer' ≡ (reading_head (read file) buffer table).buffer
+  pub table_after : table' ≡ (reading_head (read file) buffer table).table
 
 -- ROW: the line of row k
 abbrev pub Lined : List ℕ → ℕ → ℕ → ℕ → RowLine → Type 0
-Lined table width rows k r = Written 32 (row-text width rows k table) r.bytes r.length
+Lined table width rows k r = Written 32 (row_text width rows k table) r.bytes r.length

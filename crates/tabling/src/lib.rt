@@ -3,7 +3,7 @@
 // of the crate `model`. The answer buffer and the table are lent: `head` leaves the table of a complete list in it, and `row` reads it there.
 ghost use Rattle.std.specs.Prelude.{◌≡◌, map, ◌≤◌, length};
 ghost use Rattle.text.specs.Put.{Put};
-ghost use Rattle.tabling.specs.Tabling.{has-row, table-digit, Refused, RowsPrinted, Headed, Lined};
+ghost use Rattle.tabling.specs.Tabling.{has_row, table_digit, Refused, RowsPrinted, Headed, Lined};
 
 use solver::Solved;
 
@@ -87,7 +87,7 @@ pub fn head(file: &[u8], buffer: &mut [u8], table: &mut [u8]) -> Heading
 
 // Whether a table of so many bytes has a row k: W is a size, k is below the rows, and the row ends in time.
 fn has_row(width: usize, rows: usize, k: usize, room: usize) -> bool
-    ensures { result ≡ has-row width rows k room }
+    ensures { result ≡ has_row width rows k room }
 {
     if !grid::is_size(width) {
         return false;
@@ -102,7 +102,7 @@ fn has_row(width: usize, rows: usize, k: usize, room: usize) -> bool
 // last digit.
 fn put_digits(out: &mut [u8], row: &[u8]) -> usize
     requires { length row.now ≤ length out.old }
-    ensures { Put out.old out.new 0 (map table-digit row.now) result }
+    ensures { Put out.old out.new 0 (map table_digit row.now) result }
 {
     let mut at = 0;
     while at < row.len() {

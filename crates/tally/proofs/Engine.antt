@@ -77,22 +77,22 @@ made = record {
 
 -- THE CONTRACTS
 module _ (E : Engine) {M : Type 1} (𝓤 : Ura M) where
-  abbrev pub value-clauses : Clauses 𝓤 by_value
-  value-clauses κs (tally, (cells, (buffer, (height, (width, (limit, _)))))) = record {
+  abbrev pub value_clauses : Clauses 𝓤 by_value
+  value_clauses κs (tally, (cells, (buffer, (height, (width, (limit, _)))))) = record {
     ghost = Unit {0};
     requires = λ _. fact 𝓤 (E.asks height width cells.now tally buffer.now);
     ensures = λ _ r (_, (_, (buffer', _))). fact 𝓤 (E.says height width cells.now limit tally buffer.now r buffer'.now);
   }
 
-  abbrev pub lent-clauses : Clauses 𝓤 lent
-  lent-clauses κs (tally, (cells, (buffer, (height, (width, (limit, _)))))) = record {
+  abbrev pub lent_clauses : Clauses 𝓤 lent
+  lent_clauses κs (tally, (cells, (buffer, (height, (width, (limit, _)))))) = record {
     ghost = Unit {0};
     requires = λ _. fact 𝓤 (E.asks height width cells.now tally.now buffer.now);
     ensures = λ _ r (tally', (_, (buffer', _))). fact 𝓤 (E.says height width cells.now limit tally.now buffer.now tally'.now buffer'.now);
   }
 
-  abbrev pub made-clauses : Clauses 𝓤 made
-  made-clauses κs (cells, (buffer, (height, (width, (limit, _))))) = record {
+  abbrev pub made_clauses : Clauses 𝓤 made
+  made_clauses κs (cells, (buffer, (height, (width, (limit, _))))) = record {
     ghost = Unit {0};
     requires = λ _. fact 𝓤 (E.takes height width cells.now);
     ensures = λ _ r (_, (buffer', _)). fact 𝓤 (E.says height width cells.now limit empty buffer.now r buffer'.now);
@@ -103,14 +103,14 @@ module _ (E : Engine) {M : Type 1} (𝓤 : Ura M) where
 abbrev slice : Ty → Ty
 slice τ = ty_struct (38 ∷ 91 ∷ 93 ∷ []) (tcons τ (tcons (ty_int w64) tnil))
 
-abbrev cells-type : Lifetime → Ty
-cells-type ℓ = slice (ty_ref ℓ imm (pointee cell.written))
+abbrev cells_type : Lifetime → Ty
+cells_type ℓ = slice (ty_ref ℓ imm (pointee cell.written))
 
-abbrev buffer-type : Lifetime → Ty
-buffer-type ℓ = slice (ty_ref ℓ mut (ty_int w8))
+abbrev buffer_type : Lifetime → Ty
+buffer_type ℓ = slice (ty_ref ℓ mut (ty_int w8))
 
-abbrev lent-type : Lifetime → Ty
-lent-type ℓ = ty_ref ℓ mut (pointee (T.the_row).written)
+abbrev lent_type : Lifetime → Ty
+lent_type ℓ = ty_ref ℓ mut (pointee (T.the_row).written)
 
 abbrev values : List Ty → List Local
 values [] = []
@@ -120,12 +120,12 @@ abbrev whole : ℕ → Opd
 whole i = copy (place i [])
 
 -- `*tally = callee(*tally, cells, buffer, height, width, limit);`
-abbrev pub lent-code : Name → Fn
-lent-code callee = record {
+abbrev pub lent_code : Name → Fn
+lent_code callee = record {
   lifetimes = 3;
   outlives = [];
   params = 6;
-  locals = values (ty_unit ∷ lent-type (named 0) ∷ cells-type (named 1) ∷ buffer-type (named 2) ∷ ty_int w64 ∷ ty_int w64 ∷ ty_int w64 ∷ T'.mir ∷ T'.mir ∷ ty_ref erased mut (ty_int w8) ∷ buffer-type erased ∷ []);
+  locals = values (ty_unit ∷ lent_type (named 0) ∷ cells_type (named 1) ∷ buffer_type (named 2) ∷ ty_int w64 ∷ ty_int w64 ∷ ty_int w64 ∷ T'.mir ∷ T'.mir ∷ ty_ref erased mut (ty_int w8) ∷ buffer_type erased ∷ []);
   body =
       seq (assign (place 8 []) (rv_opd (copy (place 1 (deref T'.mir ∷ [])))))
       (seq (assign (place 9 []) (addr_of (place 3 (field 0 ∷ deref (ty_int w8) ∷ []))))
@@ -141,8 +141,8 @@ made_code callee = record {
   lifetimes = 2;
   outlives = [];
   params = 5;
-  locals = values (T'.mir ∷ cells-type (named 0) ∷ buffer-type (named 1) ∷ ty_int w64 ∷ ty_int w64 ∷ ty_int w64 ∷ [])
-      ++ (local T'.mir memory_slot ∷ values (T'.mir ∷ ty_unit ∷ lent-type erased ∷ ty_ref erased mut (ty_int w8) ∷ buffer-type erased ∷ []));
+  locals = values (T'.mir ∷ cells_type (named 0) ∷ buffer_type (named 1) ∷ ty_int w64 ∷ ty_int w64 ∷ ty_int w64 ∷ [])
+      ++ (local T'.mir memory_slot ∷ values (T'.mir ∷ ty_unit ∷ lent_type erased ∷ ty_ref erased mut (ty_int w8) ∷ buffer_type erased ∷ []));
   body =
       seq (assign (place 7 []) (aggregate (int w8 0 ∷ int w64 0 ∷ int w64 0 ∷ int w64 481 ∷ [])))
       (seq (assign (place 6 []) (rv_opd (whole 7)))
@@ -162,5 +162,5 @@ module _ (height width limit : ℕ) where
   Numbers = fsep (usize.own_val height (vint w64 height ∷ [])) (fsep (usize.own_val width (vint w64 width ∷ [])) (fsep (u64.own_val limit (vint w64 limit ∷ [])) ftrue))
 
   pub numbers : {M : Type 1} {𝓤 : Ura M} (𝓛 : Logic 𝓤) → height < 2 ^ 64 → width < 2 ^ 64 → limit < 2 ^ 64 → ent 𝓤 (emp 𝓤) (sem 𝓛 Numbers)
-  numbers 𝓛 height-fits width_fits limit-fits =
-      qed 𝓛 [] ∵ nothing ! $ owned ! u64 (Is u64) (uint_Makes 𝓛 w64) limit _ (refl, limit-fits) $ fjoin ! $ owned ! usize (Is usize) (uint_Makes 𝓛 w64) width _ (refl, width_fits) $ fjoin ! $ owned ! usize (Is usize) (uint_Makes 𝓛 w64) height _ (refl, height-fits) $ fjoin ! $ done !
+  numbers 𝓛 height_fits width_fits limit_fits =
+      qed 𝓛 [] ∵ nothing ! $ owned ! u64 (Is u64) (uint_Makes 𝓛 w64) limit _ (refl, limit_fits) $ fjoin ! $ owned ! usize (Is usize) (uint_Makes 𝓛 w64) width _ (refl, width_fits) $ fjoin ! $ owned ! usize (Is usize) (uint_Makes 𝓛 w64) height _ (refl, height_fits) $ fjoin ! $ done !

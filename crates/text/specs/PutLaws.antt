@@ -5,20 +5,20 @@ use Rattle.std.proofs.lemmas.List.Edits.{sets, sets-eq}
 use Rattle.std.proofs.Math.Seq.{length-sets}
 use Rattle.text.specs.Put.{Put}
 
-sets-append : (text more buffer : List ℕ) (at : ℕ) → sets (sets buffer at text) (at + length text) more ≡ sets buffer at (text ++ more)
-sets-append [] more buffer at = ap (λ (n : ℕ). sets buffer n more) (add-zero at)
-sets-append (byte ∷ text) more buffer at = ap (λ (n : ℕ). sets (sets buffer at (byte ∷ text)) n more) (add-suc at (length text) ∙ sym (suc-add at (length text))) ∙ sets-append text more _ (suc at)
+sets_append : (text more buffer : List ℕ) (at : ℕ) → sets (sets buffer at text) (at + length text) more ≡ sets buffer at (text ++ more)
+sets_append [] more buffer at = ap (λ (n : ℕ). sets buffer n more) (add-zero at)
+sets_append (byte ∷ text) more buffer at = ap (λ (n : ℕ). sets (sets buffer at (byte ∷ text)) n more) (add-suc at (length text) ∙ sym (suc-add at (length text))) ∙ sets_append text more _ (suc at)
 
 -- one text after the other
 pub put_both : {first second third text more : List ℕ} {at next last : ℕ} → Put first second at text next → Put second third next more last → Put first third at (text ++ more) last
 put_both {first} {second} {third} {text} {more} {at} {next} {last} p q =
     record {
-      stored = q.stored ∙ rw (p.stored, p.place) (sets-append text more first at);
+      stored = q.stored ∙ rw (p.stored, p.place) (sets_append text more first at);
       place = q.place ∙ rw (p.place, length-append) (omega arith);
     }
 
-pub put-length : {first second text : List ℕ} {at next : ℕ} → Put first second at text next → length second ≡ length first
-put-length {first} {text = text} {at} p = ap (λ (l : List ℕ). length l) p.stored ∙ length-sets first at text
+pub put_length : {first second text : List ℕ} {at next : ℕ} → Put first second at text next → length second ≡ length first
+put_length {first} {text = text} {at} p = ap (λ (l : List ℕ). length l) p.stored ∙ length-sets first at text
 
 -- the same text in other words
 pub put_same : {first second text other : List ℕ} {at next : ℕ} → text ≡ other → Put first second at text next → Put first second at other next
@@ -36,13 +36,13 @@ pub put_one : (buffer : List ℕ) (at byte : ℕ) → Put buffer (set buffer at 
 put_one buffer at byte = record { stored = refl; place = omega arith }
 
 -- no text
-pub put-none : (buffer : List ℕ) (at next : ℕ) → next ≡ at → Put buffer buffer at [] next
-put-none buffer at next e = record { stored = refl; place = omega arith }
+pub put_none : (buffer : List ℕ) (at next : ℕ) → next ≡ at → Put buffer buffer at [] next
+put_none buffer at next e = record { stored = refl; place = omega arith }
 
 -- a word, byte by byte
 module _ (first out word : List ℕ) (at i : ℕ) where
   pub byte_put : i < length word → Put first out at (take i word) (at + i) → Put first (set out (at + i) (get_or word i 0)) at (take (i + 1) word) (at + (i + 1))
   byte_put h p = rw (sym (add_assoc at i 1), add-one i, take-suc word i 0 h) (put_both p (put_one out (at + i) (get_or word i 0)))
 
-  pub word-put : length word ≤ i → Put first out at (take i word) (at + i) → Put first out at word (at + i)
-  word-put h p = put_same (take_all i word h) p
+  pub word_put : length word ≤ i → Put first out at (take i word) (at + i) → Put first out at word (at + i)
+  word_put h p = put_same (take_all i word h) p

@@ -8,23 +8,23 @@ use native.Mathlib.Decide.{dec_lt}
 use lib.ListN.{length, get_or, take, replicate, get_or-replicate, get_or-eq_default, length-replicate}
 use lib.Seq.{get_or-take, length-take-le}
 use lib.IntN.{ℤ}
-use Rattle.rules.specs.Grid.{grid-of, places, Accepted}
-use Rattle.rules.specs.Places.{few-places}
-use Rattle.rules.specs.ProperGrid.{accepted-proper}
-use Rattle.rules.specs.Record.{undecided-byte}
-use Rattle.model.specs.Refusals.{grid-refusal}
-use Rattle.model.specs.RefusalLaws.{not-refused}
+use Rattle.rules.specs.Grid.{grid_of, places, Accepted}
+use Rattle.rules.specs.Places.{few_places}
+use Rattle.rules.specs.ProperGrid.{accepted_proper}
+use Rattle.rules.specs.Record.{undecided_byte}
+use Rattle.model.specs.Refusals.{grid_refusal}
+use Rattle.model.specs.RefusalLaws.{not_refused}
 use Rattle.model.specs.Runs as runs
 use Rattle.model.specs.Walk as model
-use Rattle.runs.specs.Progress.{advance, result-of}
+use Rattle.runs.specs.Progress.{advance, result_of}
 use Rattle.runs.specs.Layouts.{progress}
 use Rattle.tally.specs.declared.Tally.{Tally}
-use Rattle.tally.specs.Counts.{tally-says, Ready, counted-run}
+use Rattle.tally.specs.Counts.{tally_says, Ready, counted_run}
 use Rattle.tally.specs.Empty.{empty}
-use Rattle.everycode.specs.EveryCode.{every-code-exact, every-code-sized, walk-is-run, walk-is-declined}
+use Rattle.everycode.specs.EveryCode.{every_code_exact, every_code_sized, walk_is_run, walk_is_declined}
 use Rattle.promises.specs.Contract.{promise}
 use Rattle.walking.specs.Given.{Shows}
-use Rattle.walking.specs.GivenLaws.{none-shown}
+use Rattle.walking.specs.GivenLaws.{none_shown}
 use Rattle.walking.specs.Walked.{Begun, WalkedOn}
 use Rattle.walking.specs.Answers.{run_of, Walks, Counted}
 
@@ -32,73 +32,73 @@ use Rattle.walking.specs.Answers.{run_of, Walks, Counted}
 abbrev pub zeros : ℕ → List ℕ
 zeros n = take n (replicate 961 0)
 
-zero_in : (m i : ℕ) → get_or (replicate m 0) i undecided-byte ≡ undecided-byte
+zero_in : (m i : ℕ) → get_or (replicate m 0) i undecided_byte ≡ undecided_byte
 zero_in m i = elim (dec_lt i m) [
-  | yes inside ↦ get_or-replicate m i 0 undecided-byte inside
-  | no past ↦ get_or-eq_default (replicate m 0) undecided-byte {n = i} (rw (length-replicate {A = ℕ} m 0) (omega arith))
+  | yes inside ↦ get_or-replicate m i 0 undecided_byte inside
+  | no past ↦ get_or-eq_default (replicate m 0) undecided_byte {n = i} (rw (length-replicate {A = ℕ} m 0) (omega arith))
 ]
 
-pub zeros-long : (n : ℕ) → n ≤ 961 → length (zeros n) ≡ n
-zeros-long n small = length-take-le n (replicate 961 0) (rw (length-replicate {A = ℕ} 961 0) small)
+pub zeros_long : (n : ℕ) → n ≤ 961 → length (zeros n) ≡ n
+zeros_long n small = length-take-le n (replicate 961 0) (rw (length-replicate {A = ℕ} 961 0) small)
 
-zero-at : (n : ℕ) → n ≤ 961 → (i : ℕ) → get_or (zeros n) i undecided-byte ≡ undecided-byte
-zero-at n small i = elim (dec_lt i n) [
-  | yes inside ↦ get_or-take n (replicate 961 0) i undecided-byte inside ∙ zero_in 961 i
-  | no past ↦ get_or-eq_default (zeros n) undecided-byte {n = i} (rw (zeros-long n small) (omega arith))
+zero_at : (n : ℕ) → n ≤ 961 → (i : ℕ) → get_or (zeros n) i undecided_byte ≡ undecided_byte
+zero_at n small i = elim (dec_lt i n) [
+  | yes inside ↦ get_or-take n (replicate 961 0) i undecided_byte inside ∙ zero_in 961 i
+  | no past ↦ get_or-eq_default (zeros n) undecided_byte {n = i} (rw (zeros_long n small) (omega arith))
 ]
 
 -- THE WHOLE WALK over it
 module _ (height width : ℕ) (cells : List ℤ) (t : Tally) (buffer : List ℕ) (begins : Ready height width cells t buffer) where
   pub few : places height width ≤ 961
-  few = few-places height width begins.accepted.height-in-range.1 begins.accepted.width-in-range.1
+  few = few_places height width begins.accepted.height_in_range.1 begins.accepted.width_in_range.1
 
   pub begun : Begun height width cells (zeros (places height width)) t.layouts buffer
-  begun = record { accepted = begins.accepted; long = zeros-long (places height width) few; inside = begins.inside }
+  begun = record { accepted = begins.accepted; long = zeros_long (places height width) few; inside = begins.inside }
 
-  pub counted : (limit o tried layouts fewest-lines : ℕ) (bytes' buffer' : List ℕ)
-      → WalkedOn (grid-of height width cells) limit 0 (zeros (places height width)) (progress (places height width) 0 t.visited t.layouts t.fewest buffer) bytes' (progress (places height width) o tried layouts fewest-lines buffer')
-      → Counted height width cells limit t buffer (record { outcome = o; visited = tried; layouts = layouts; fewest = fewest-lines }) buffer'
-  unfolding grid-of model.every-code
-  counted limit o tried layouts fewest-lines bytes' buffer' walked = record {
+  pub counted : (limit o tried layouts fewest_lines : ℕ) (bytes' buffer' : List ℕ)
+      → WalkedOn (grid_of height width cells) limit 0 (zeros (places height width)) (progress (places height width) 0 t.visited t.layouts t.fewest buffer) bytes' (progress (places height width) o tried layouts fewest_lines buffer')
+      → Counted height width cells limit t buffer (record { outcome = o; visited = tried; layouts = layouts; fewest = fewest_lines }) buffer'
+  unfolding grid_of model.every_code
+  counted limit o tried layouts fewest_lines bytes' buffer' walked = record {
     advanced = walked.advanced model.no_lines nothing
-        ∙ ap (λ (n : ℕ). advance limit (places height width) (progress (places height width) 0 t.visited t.layouts t.fewest buffer) (model.walk-on (grid-of height width cells) n 0 model.no_lines)) all-pads
-        ∙ ap (λ (k : ℕ). advance limit (places height width) (progress (places height width) k t.visited t.layouts t.fewest buffer) (model.every-code (grid-of height width cells))) (sym begins.none_yet);
+        ∙ ap (λ (n : ℕ). advance limit (places height width) (progress (places height width) 0 t.visited t.layouts t.fewest buffer) (model.walk_on (grid_of height width cells) n 0 model.no_lines)) all_pads
+        ∙ ap (λ (k : ℕ). advance limit (places height width) (progress (places height width) k t.visited t.layouts t.fewest buffer) (model.every_code (grid_of height width cells))) (sym begins.none_yet);
     same_length = walked.same_length;
   }
     where
-      all-pads : height * width - 0 ≡ height * width
-      all-pads = omega arith
+      all_pads : height * width - 0 ≡ height * width
+      all_pads = omega arith
 
-      nothing : Shows (grid-of height width cells) model.no_lines 0 (zeros (places height width))
-      nothing = none-shown (grid-of height width cells) model.no_lines (zeros (places height width)) begun.long (zero-at (places height width) few)
+      nothing : Shows (grid_of height width cells) model.no_lines 0 (zeros (places height width))
+      nothing = none_shown (grid_of height width cells) model.no_lines (zeros (places height width)) begun.long (zero_at (places height width) few)
 
 -- THE MODEL'S RESULT
 module _ (height width : ℕ) (cells : List ℤ) (limit : ℕ) (buffer : List ℕ) where
   -- a refused grid: nothing is tried and no byte changes
-  pub walk_refused : (number index : ℕ) → ◌≡◌ {A = ℕ × ℕ} (number, index) (grid-refusal height width cells) → (number ≡ 0 → ⊥)
+  pub walk_refused : (number index : ℕ) → ◌≡◌ {A = ℕ × ℕ} (number, index) (grid_refusal height width cells) → (number ≡ 0 → ⊥)
       → Walks height width cells limit buffer (record { number = number; index = index; outcome = 0; layouts = 0; tried = 0; fewest = 481 }) buffer
   walk_refused number index is bad = record {
-    equal = (λ i. runs.declined-search (is i).0 (is i).1 buffer) ∙ sym (walk-is-declined height width cells not-zero limit buffer);
-    of-run = λ e. absurd (not-zero e);
-    promise = λ e. absurd (not-zero e);
+    equal = (λ i. runs.declined_search (is i).0 (is i).1 buffer) ∙ sym (walk_is_declined height width cells not_zero limit buffer);
+    of_run = λ e. absurd (not_zero e);
+    promise = λ e. absurd (not_zero e);
   }
     where
-      not-zero : (grid-refusal height width cells).0 ≡ 0 → ⊥
-      not-zero e = bad (ap (λ (p : ℕ × ℕ). p.0) is ∙ e)
+      not_zero : (grid_refusal height width cells).0 ≡ 0 → ⊥
+      not_zero e = bad (ap (λ (p : ℕ × ℕ). p.0) is ∙ e)
 
   -- an accepted one
-  pub walk-accepted : (grid-refusal height width cells).0 ≡ 0 → (t : Tally) (buffer' : List ℕ)
+  pub walk_accepted : (grid_refusal height width cells).0 ≡ 0 → (t : Tally) (buffer' : List ℕ)
       → Counted height width cells limit empty buffer t buffer'
       → Walks height width cells limit buffer (record { number = 0; index = 0; outcome = t.outcome; layouts = t.layouts; tried = t.visited; fewest = t.fewest }) buffer'
-  unfolding grid-of
-  walk-accepted fine t buffer' counted = record {
-    equal = from-run ∙ sym (walk-is-run height width cells accepted limit buffer);
-    of-run = λ e. from-run;
-    promise = λ e. promise height width cells accepted (model.every-code (grid-of height width cells)) (every-code-exact (grid-of height width cells) (accepted-proper height width cells accepted)) limit (length buffer);
+  unfolding grid_of
+  walk_accepted fine t buffer' counted = record {
+    equal = from_run ∙ sym (walk_is_run height width cells accepted limit buffer);
+    of_run = λ e. from_run;
+    promise = λ e. promise height width cells accepted (model.every_code (grid_of height width cells)) (every_code_exact (grid_of height width cells) (accepted_proper height width cells accepted)) limit (length buffer);
   }
     where
       accepted : Accepted height width cells
-      accepted = not-refused height width cells fine
+      accepted = not_refused height width cells fine
 
-      from-run : result-of (tally-says height width t buffer') ≡ runs.solved (run_of height width cells limit buffer) buffer
-      from-run = counted-run (λ g. model.every-code g) height width cells limit buffer (every-code-sized (grid-of height width cells)) t buffer' counted
+      from_run : result_of (tally_says height width t buffer') ≡ runs.solved (run_of height width cells limit buffer) buffer
+      from_run = counted_run (λ g. model.every_code g) height width cells limit buffer (every_code_sized (grid_of height width cells)) t buffer' counted

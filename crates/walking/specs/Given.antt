@@ -2,11 +2,11 @@
 -- stands 0. What is written when a pad gets its code, and when the record is full. It rests on the rules' Record.antt and on the model's Judge.antt.
 -- Nothing is proved in this file; the laws stand in GivenLaws.antt.
 use Rattle.std.specs.Prelude.{ℕ, ◌*◌, ◌%◌, ◌/◌, ◌≤◌, ◌<◌, ◌≡◌, Bool, true, false, List, [], ◌∷◌, eqb, get_or, set, length}
-use Rattle.rules.specs.Grid.{Edge, right, down, first, no_edge, place_at, field-side, places, Grid, OnBoard}
+use Rattle.rules.specs.Grid.{Edge, right, down, first, no_edge, place_at, field_side, places, Grid, OnBoard}
 use Rattle.rules.specs.Drawing.{Drawing, drawn}
-use Rattle.rules.specs.Record.{undecided-byte, byte_of, place-number}
+use Rattle.rules.specs.Record.{undecided_byte, byte_of, place_number}
 use Rattle.model.specs.Choice.{if◌then◌else◌}
-use Rattle.model.specs.PadTests.{has_right, has-down}
+use Rattle.model.specs.PadTests.{has_right, has_down}
 use Rattle.model.specs.Runs.{Event, layout}
 use Rattle.model.specs.Judge.{verdict}
 
@@ -20,9 +20,9 @@ pub record PadOf (height width v : ℕ) : Type 0 where
 -- SHOWING: the edges of the board that are given have the bytes of the drawing, and between the edges stands 0; any other edge may have any byte
 pub record Showing (g : Grid) (D : Drawing) (Given : Edge → Type 0) (bytes : List ℕ) : Type 0 where
   pub long : length bytes ≡ places g.height g.width
-  pub given : (e : Edge) → OnBoard g e → Given e → get_or bytes (place-number g.width e) undecided-byte ≡ byte_of (drawn D e)
-  pub between : (n : ℕ) → n < places g.height g.width → place_at g.width (n / field-side g.width) (n % field-side g.width) ≡ no_edge
-      → get_or bytes n undecided-byte ≡ undecided-byte
+  pub given : (e : Edge) → OnBoard g e → Given e → get_or bytes (place_number g.width e) undecided_byte ≡ byte_of (drawn D e)
+  pub between : (n : ℕ) → n < places g.height g.width → place_at g.width (n / field_side g.width) (n % field_side g.width) ≡ no_edge
+      → get_or bytes n undecided_byte ≡ undecided_byte
 
 -- the codes of the pads before v are shown
 abbrev pub Shows : Grid → Drawing → ℕ → List ℕ → Type 0
@@ -30,11 +30,11 @@ Shows g D v bytes = Showing g D (λ e. first e < v) bytes
 
 -- the edge to the right of a pad, and the one downward, where they are on the board
 unfoldable pub put_right : Grid → ℕ → Bool → List ℕ → List ℕ
-put_right g v line bytes = if has_right g v then set bytes (place-number g.width (right v)) (byte_of line) else bytes
+put_right g v line bytes = if has_right g v then set bytes (place_number g.width (right v)) (byte_of line) else bytes
 
-unfoldable pub put-down : Grid → ℕ → Bool → List ℕ → List ℕ
-put-down g v line bytes = if has-down g v then set bytes (place-number g.width (down v)) (byte_of line) else bytes
+unfoldable pub put_down : Grid → ℕ → Bool → List ℕ → List ℕ
+put_down g v line bytes = if has_down g v then set bytes (place_number g.width (down v)) (byte_of line) else bytes
 
 -- the record of a full drawing is a layout where the test of the rules marks it 2
-unfoldable pub tested-record : Grid → List ℕ → List Event
-tested-record g bytes = elim (eqb (verdict g bytes) 2) [ true ↦ layout bytes ∷ [] | false ↦ [] ]
+unfoldable pub tested_record : Grid → List ℕ → List Event
+tested_record g bytes = elim (eqb (verdict g bytes) 2) [ true ↦ layout bytes ∷ [] | false ↦ [] ]

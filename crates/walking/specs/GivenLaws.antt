@@ -9,29 +9,29 @@ use Rattle.std.proofs.Math.Decide.{ℕ_discrete}
 use borrow.Author.Tests.{ltb-false, ltb-true}
 use Rattle.std.proofs.Math.ListN.{get_or}
 use Rattle.std.proofs.Math.Seq.{ext_get_or}
-use Rattle.rules.specs.Grid.{Edge, right, down, first, Place, edge, no_edge, place_at, field-side, places, Grid, pads, OnBoard}
+use Rattle.rules.specs.Grid.{Edge, right, down, first, Place, edge, no_edge, place_at, field_side, places, Grid, pads, OnBoard}
 use Rattle.rules.specs.Drawing.{Drawing, drawn}
-use Rattle.rules.specs.Record.{undecided-byte, byte_of, byte-at-place, field, record_of, place-number}
-use Rattle.rules.specs.RecordLaws.{edge-number-in-field, edge-at-number, number-of-edge, getD-from-zero, length-field}
-use Rattle.rules.specs.Places.{zero≢one, first-inside}
-use Rattle.model.specs.PadTests.{has_right, has-down}
+use Rattle.rules.specs.Record.{undecided_byte, byte_of, byte_at_place, field, record_of, place_number}
+use Rattle.rules.specs.RecordLaws.{edge_number_in_field, edge_at_number, number_of_edge, get_or_from_zero, length_field}
+use Rattle.rules.specs.Places.{zero≢one, first_inside}
+use Rattle.model.specs.PadTests.{has_right, has_down}
 use Rattle.model.specs.Walk.{with_code}
-use Rattle.everycode.specs.WalkLists.{right-given, down-given, others-kept}
-use Rattle.walking.specs.Given.{Showing, Shows, put_right, put-down}
+use Rattle.everycode.specs.WalkLists.{right_given, down_given, others_kept}
+use Rattle.walking.specs.Given.{Showing, Shows, put_right, put_down}
 
 module _ (g : Grid) (wide : 2 ≤ g.width) where
   abbrev number : Edge → ℕ
-  number e = place-number g.width e
+  number e = place_number g.width e
 
   abbrev place : ℕ → Place
-  place n = place_at g.width (n / field-side g.width) (n % field-side g.width)
+  place n = place_at g.width (n / field_side g.width) (n % field_side g.width)
 
   -- two edges of the board have two places
   one_number : (a b : Edge) → OnBoard g a → OnBoard g b → number a ≡ number b → a ≡ b
-  one_number a b on-a on-b same = same-edge (sym (edge-at-number g wide a on-a) ∙ ap place same ∙ edge-at-number g wide b on-b)
+  one_number a b on_a on_b same = same_edge (sym (edge_at_number g wide a on_a) ∙ ap place same ∙ edge_at_number g wide b on_b)
     where
-      same-edge : {x y : Edge} → edge x ≡ edge y → x ≡ y
-      same-edge h = cc
+      same_edge : {x y : Edge} → edge x ≡ edge y → x ≡ y
+      same_edge h = cc
 
   -- ONE EDGE is written, or is not on the board
   module _ (D : Drawing) (Given : Edge → Type 0) (e : Edge) (bytes : List ℕ) (shows : Showing g D Given bytes) where
@@ -39,117 +39,117 @@ module _ (g : Grid) (wide : 2 ≤ g.width) where
     Now x = Given x ⊎ (x ≡ e)
 
     written : OnBoard g e → Showing g D Now (set bytes (number e) (byte_of (drawn D e)))
-    written on = record { long = length-set bytes (number e) (byte_of (drawn D e)) ∙ shows.long; given = now-given; between = still-between }
+    written on = record { long = length-set bytes (number e) (byte_of (drawn D e)) ∙ shows.long; given = now_given; between = still_between }
       where
         inside : number e < length bytes
-        inside = rw shows.long (edge-number-in-field g wide e on)
+        inside = rw shows.long (edge_number_in_field g wide e on)
 
-        here : (x : Edge) → x ≡ e → get_or (set bytes (number e) (byte_of (drawn D e))) (number x) undecided-byte ≡ byte_of (drawn D x)
-        here x same = rw same (get_or-set_same bytes (number e) (byte_of (drawn D e)) undecided-byte inside)
+        here : (x : Edge) → x ≡ e → get_or (set bytes (number e) (byte_of (drawn D e))) (number x) undecided_byte ≡ byte_of (drawn D x)
+        here x same = rw same (get_or-set_same bytes (number e) (byte_of (drawn D e)) undecided_byte inside)
 
-        now-given : (x : Edge) → OnBoard g x → Now x → get_or (set bytes (number e) (byte_of (drawn D e))) (number x) undecided-byte ≡ byte_of (drawn D x)
-        now-given x on-x (inr same) = here x same
-        now-given x on-x (inl before) = elim (ℕ_discrete (number x) (number e)) [
-          | yes same ↦ here x (one_number x e on-x on same)
-          | no other ↦ get_or-set_other bytes (number e) (number x) (byte_of (drawn D e)) undecided-byte other ∙ shows.given x on-x before
+        now_given : (x : Edge) → OnBoard g x → Now x → get_or (set bytes (number e) (byte_of (drawn D e))) (number x) undecided_byte ≡ byte_of (drawn D x)
+        now_given x on_x (inr same) = here x same
+        now_given x on_x (inl before) = elim (ℕ_discrete (number x) (number e)) [
+          | yes same ↦ here x (one_number x e on_x on same)
+          | no other ↦ get_or-set_other bytes (number e) (number x) (byte_of (drawn D e)) undecided_byte other ∙ shows.given x on_x before
         ]
 
-        still-between : (n : ℕ) → n < places g.height g.width → place n ≡ no_edge → get_or (set bytes (number e) (byte_of (drawn D e))) n undecided-byte ≡ undecided-byte
-        still-between n below none = elim (ℕ_discrete n (number e)) [
-          | yes same ↦ (let there = edge-at-number g wide e on in let h = ap place same in zero≢one (cc))
-          | no other ↦ get_or-set_other bytes (number e) n (byte_of (drawn D e)) undecided-byte other ∙ shows.between n below none
+        still_between : (n : ℕ) → n < places g.height g.width → place n ≡ no_edge → get_or (set bytes (number e) (byte_of (drawn D e))) n undecided_byte ≡ undecided_byte
+        still_between n below none = elim (ℕ_discrete n (number e)) [
+          | yes same ↦ (let there = edge_at_number g wide e on in let h = ap place same in zero≢one (cc))
+          | no other ↦ get_or-set_other bytes (number e) n (byte_of (drawn D e)) undecided_byte other ∙ shows.between n below none
         ]
 
     left_out : (OnBoard g e → ⊥) → Showing g D Now bytes
     left_out off = record {
       long = shows.long;
-      given = λ x on-x now. ⊎_elim (λ before. shows.given x on-x before) (λ same. absurd (off (subst (OnBoard g) same on-x))) now;
+      given = λ x on_x now. ⊎_elim (λ before. shows.given x on_x before) (λ same. absurd (off (subst (OnBoard g) same on_x))) now;
       between = shows.between;
     }
 
   -- the two edges of pad v
-  put-right-shows : (D : Drawing) (Given : Edge → Type 0) (v : ℕ) → v < pads g → (line : Bool) → D.right v ≡ line → (bytes : List ℕ) → Showing g D Given bytes
+  put_right_shows : (D : Drawing) (Given : Edge → Type 0) (v : ℕ) → v < pads g → (line : Bool) → D.right v ≡ line → (bytes : List ℕ) → Showing g D Given bytes
       → Showing g D (λ x. Given x ⊎ (x ≡ right v)) (put_right g v line bytes)
   unfolding put_right OnBoard
-  put-right-shows D Given v inside line is bytes shows = go (has_right g v) refl
+  put_right_shows D Given v inside line is bytes shows = go (has_right g v) refl
     where
       go : (b : Bool) → has_right g v ≡ b → Showing g D (λ x. Given x ⊎ (x ≡ right v)) (put_right g v line bytes)
       go true h = rw (h, put_right) (rw (sym is) (written D Given (right v) bytes shows (inside, ltb-true _ _ h)))
       go false h = rw (h, put_right) (left_out D Given (right v) bytes shows (λ on. (let k = ltb-false (v % g.width + 1) g.width h in let j : v % g.width + 1 < g.width = on.1 in omega arith)))
 
-  put-down-shows : (D : Drawing) (Given : Edge → Type 0) (v : ℕ) (line : Bool) → D.down v ≡ line → (bytes : List ℕ) → Showing g D Given bytes
-      → Showing g D (λ x. Given x ⊎ (x ≡ down v)) (put-down g v line bytes)
-  unfolding put-down OnBoard
-  put-down-shows D Given v line is bytes shows = go (has-down g v) refl
+  put_down_shows : (D : Drawing) (Given : Edge → Type 0) (v : ℕ) (line : Bool) → D.down v ≡ line → (bytes : List ℕ) → Showing g D Given bytes
+      → Showing g D (λ x. Given x ⊎ (x ≡ down v)) (put_down g v line bytes)
+  unfolding put_down OnBoard
+  put_down_shows D Given v line is bytes shows = go (has_down g v) refl
     where
-      go : (b : Bool) → has-down g v ≡ b → Showing g D (λ x. Given x ⊎ (x ≡ down v)) (put-down g v line bytes)
-      go true h = rw (h, put-down) (rw (sym is) (written D Given (down v) bytes shows (ltb-true _ _ h)))
-      go false h = rw (h, put-down) (left_out D Given (down v) bytes shows (λ on. (let k = ltb-false (v + g.width) (pads g) h in let j : v + g.width < pads g = on in omega arith)))
+      go : (b : Bool) → has_down g v ≡ b → Showing g D (λ x. Given x ⊎ (x ≡ down v)) (put_down g v line bytes)
+      go true h = rw (h, put_down) (rw (sym is) (written D Given (down v) bytes shows (ltb-true _ _ h)))
+      go false h = rw (h, put_down) (left_out D Given (down v) bytes shows (λ on. (let k = ltb-false (v + g.width) (pads g) h in let j : v + g.width < pads g = on in omega arith)))
 
   -- A PAD IS GIVEN ITS CODE: it is shown with it
   module _ (D : Drawing) (v : ℕ) (r d : Bool) where
     abbrev coded : Drawing
     coded = with_code D v r d
 
-    pub code-shown : v < pads g → (bytes : List ℕ) → Shows g D v bytes → Shows g coded (v + 1) (put-down g v d (put_right g v r bytes))
-    code-shown inside bytes shows = record { long = both.long; given = λ e on before. both.given e on (one_of e before); between = both.between }
+    pub code_shown : v < pads g → (bytes : List ℕ) → Shows g D v bytes → Shows g coded (v + 1) (put_down g v d (put_right g v r bytes))
+    code_shown inside bytes shows = record { long = both.long; given = λ e on before. both.given e on (one_of e before); between = both.between }
       where
-        before-it : Showing g coded (λ e. first e < v) bytes
-        before-it = record {
+        before_it : Showing g coded (λ e. first e < v) bytes
+        before_it = record {
           long = shows.long;
-          given = λ e on before. shows.given e on before ∙ ap byte_of (sym (others-kept D v r d e (λ same. omega arith)));
+          given = λ e on before. shows.given e on before ∙ ap byte_of (sym (others_kept D v r d e (λ same. omega arith)));
           between = shows.between;
         }
 
-        both : Showing g coded (λ x. ((first x < v) ⊎ (x ≡ right v)) ⊎ (x ≡ down v)) (put-down g v d (put_right g v r bytes))
-        both = put-down-shows coded _ v d (down-given D v r d v refl) _ (put-right-shows coded _ v inside r (right-given D v r d v refl) bytes before-it)
+        both : Showing g coded (λ x. ((first x < v) ⊎ (x ≡ right v)) ⊎ (x ≡ down v)) (put_down g v d (put_right g v r bytes))
+        both = put_down_shows coded _ v d (down_given D v r d v refl) _ (put_right_shows coded _ v inside r (right_given D v r d v refl) bytes before_it)
 
         one_of : (e : Edge) → first e < v + 1 → ((first e < v) ⊎ (e ≡ right v)) ⊎ (e ≡ down v)
-        one_of e below = elim (ℕ_discrete (first e) v) [ yes same ↦ at-pad e same | no other ↦ inl (inl (omega arith)) ]
+        one_of e below = elim (ℕ_discrete (first e) v) [ yes same ↦ at_pad e same | no other ↦ inl (inl (omega arith)) ]
           where
-            at-pad : (e : Edge) → first e ≡ v → ((first e < v) ⊎ (e ≡ right v)) ⊎ (e ≡ down v)
-            at-pad (right u) same = inl (inr (ap right same))
-            at-pad (down u) same = inr (ap down same)
+            at_pad : (e : Edge) → first e ≡ v → ((first e < v) ⊎ (e ≡ right v)) ⊎ (e ≡ down v)
+            at_pad (right u) same = inl (inr (ap right same))
+            at_pad (down u) same = inr (ap down same)
 
     -- and the pads before it are shown as they were
-    pub before-shown : (bytes : List ℕ) → Shows g coded (v + 1) bytes → Shows g D v bytes
-    before-shown bytes shows = record {
+    pub before_shown : (bytes : List ℕ) → Shows g coded (v + 1) bytes → Shows g D v bytes
+    before_shown bytes shows = record {
       long = shows.long;
-      given = λ e on before. shows.given e on (omega arith) ∙ ap byte_of (others-kept D v r d e (λ same. omega arith));
+      given = λ e on before. shows.given e on (omega arith) ∙ ap byte_of (others_kept D v r d e (λ same. omega arith));
       between = shows.between;
     }
 
   -- EVERY PAD HAS ITS CODE: the record is that of the drawing
   pub all_shown : (D : Drawing) (bytes : List ℕ) → Shows g D (pads g) bytes → bytes ≡ record_of g D
   unfolding record_of field
-  all_shown D bytes shows = ext_get_or undecided-byte bytes (record_of g D) (shows.long ∙ sym (length-field g.height g.width (λ e. byte_of (drawn D e)))) same
+  all_shown D bytes shows = ext_get_or undecided_byte bytes (record_of g D) (shows.long ∙ sym (length_field g.height g.width (λ e. byte_of (drawn D e)))) same
     where
-      shown-at : (n : ℕ) → n < places g.height g.width → (p : Place) → place n ≡ p → get_or bytes n undecided-byte ≡ byte-at-place (λ e. byte_of (drawn D e)) p
-      shown-at n below no_edge is = shows.between n below is
-      shown-at n below (edge e) is = let (on, at) = number-of-edge g wide n below e is in
-          ap (λ k. get_or bytes k undecided-byte) (sym at) ∙ shows.given e on (first-inside g e on)
+      shown_at : (n : ℕ) → n < places g.height g.width → (p : Place) → place n ≡ p → get_or bytes n undecided_byte ≡ byte_at_place (λ e. byte_of (drawn D e)) p
+      shown_at n below no_edge is = shows.between n below is
+      shown_at n below (edge e) is = let (on, at) = number_of_edge g wide n below e is in
+          ap (λ k. get_or bytes k undecided_byte) (sym at) ∙ shows.given e on (first_inside g e on)
 
-      same : (n : ℕ) → n < length bytes → get_or bytes n undecided-byte ≡ get_or (record_of g D) n undecided-byte
+      same : (n : ℕ) → n < length bytes → get_or bytes n undecided_byte ≡ get_or (record_of g D) n undecided_byte
       same n below = let inside : n < places g.height g.width = rw shows.long at below in
-          shown-at n inside (place n) refl ∙ sym (getD-from-zero _ (places g.height g.width) n undecided-byte inside)
+          shown_at n inside (place n) refl ∙ sym (get_or_from_zero _ (places g.height g.width) n undecided_byte inside)
 
 -- NO PAD HAS A CODE YET: a record of zeros shows what is given, which is nothing
-pub none-shown : (g : Grid) (D : Drawing) (bytes : List ℕ) → length bytes ≡ places g.height g.width → ((n : ℕ) → get_or bytes n undecided-byte ≡ undecided-byte) → Shows g D 0 bytes
-none-shown g D bytes long zeros = record { long = long; given = λ e on before. absurd (omega arith); between = λ n below none. zeros n }
+pub none_shown : (g : Grid) (D : Drawing) (bytes : List ℕ) → length bytes ≡ places g.height g.width → ((n : ℕ) → get_or bytes n undecided_byte ≡ undecided_byte) → Shows g D 0 bytes
+none_shown g D bytes long zeros = record { long = long; given = λ e on before. absurd (omega arith); between = λ n below none. zeros n }
 
 -- what is written changes no length
-pub right-length : (g : Grid) (v : ℕ) (line : Bool) (bytes : List ℕ) → length (put_right g v line bytes) ≡ length bytes
+pub right_length : (g : Grid) (v : ℕ) (line : Bool) (bytes : List ℕ) → length (put_right g v line bytes) ≡ length bytes
 unfolding put_right
-right-length g v line bytes = go (has_right g v) refl
+right_length g v line bytes = go (has_right g v) refl
   where
     go : (b : Bool) → has_right g v ≡ b → length (put_right g v line bytes) ≡ length bytes
     go true h = rw (h, put_right) (length-set bytes _ _)
     go false h = rw (h, put_right) refl
 
-pub down-length : (g : Grid) (v : ℕ) (line : Bool) (bytes : List ℕ) → length (put-down g v line bytes) ≡ length bytes
-unfolding put-down
-down-length g v line bytes = go (has-down g v) refl
+pub down_length : (g : Grid) (v : ℕ) (line : Bool) (bytes : List ℕ) → length (put_down g v line bytes) ≡ length bytes
+unfolding put_down
+down_length g v line bytes = go (has_down g v) refl
   where
-    go : (b : Bool) → has-down g v ≡ b → length (put-down g v line bytes) ≡ length bytes
-    go true h = rw (h, put-down) (length-set bytes _ _)
-    go false h = rw (h, put-down) refl
+    go : (b : Bool) → has_down g v ≡ b → length (put_down g v line bytes) ≡ length bytes
+    go true h = rw (h, put_down) (length-set bytes _ _)
+    go false h = rw (h, put_down) refl

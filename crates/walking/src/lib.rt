@@ -3,14 +3,14 @@
 // is made. The tally of tried codes is lent down the walk (crate tally). The result and every byte of the lent buffer equal the model's
 // (crate model, specs/Walk.antt), and demands 2 and 3 stand in the contract of `walk` as in that of `solve` (specs/Answers.antt, Walks).
 ghost use Rattle.std.specs.Prelude.{◌≡◌, not, ◌||◌, List, [], ◌∷◌, ◌+◌, ◌*◌, ◌-◌, ◌≤◌, ◌<◌, length, ℤ};
-ghost use Rattle.rules.specs.Grid.{grid-of, places, Accepted};
-ghost use Rattle.rules.specs.Record.{byte_of, record-lines};
+ghost use Rattle.rules.specs.Grid.{grid_of, places, Accepted};
+ghost use Rattle.rules.specs.Record.{byte_of, record_lines};
 ghost use Rattle.model.specs.Runs.{layout};
-ghost use Rattle.model.specs.Walk.{may-give};
+ghost use Rattle.model.specs.Walk.{may_give};
 ghost use Rattle.runs.specs.Layouts.{progress, Added};
 ghost use Rattle.tally.specs.Counts as counts;
 ghost use Rattle.tally.specs.Empty.{empty};
-ghost use Rattle.walking.specs.Given.{PadOf, put_right, put-down, tested-record};
+ghost use Rattle.walking.specs.Given.{PadOf, put_right, put_down, tested_record};
 ghost use Rattle.walking.specs.Walked.{Begun, Gave, WalkedOn};
 ghost use Rattle.walking.specs.Answers as answers;
 
@@ -39,7 +39,7 @@ fn fits(line: bool, there: bool) -> bool
 // Whether a pad may be given a code: one with a line off the board is not tried.
 fn may_be_given(height: usize, width: usize, v: usize, right: bool, down: bool) -> bool
     requires { PadOf height width v }
-    ensures { (cells : List ℤ) → result ≡ may-give (grid-of height width cells) v right down }
+    ensures { (cells : List ℤ) → result ≡ may_give (grid_of height width cells) v right down }
 {
     if !fits(right, v % width + 1 < width) {
         return false;
@@ -50,7 +50,7 @@ fn may_be_given(height: usize, width: usize, v: usize, right: bool, down: bool) 
 // Puts the edge to the right of a pad into the record, where it is on the board.
 fn set_right(bytes: &mut [u8], height: usize, width: usize, v: usize, line: bool)
     requires { PadOf height width v × (length bytes.old ≡ places height width) }
-    ensures { (cells : List ℤ) → bytes.new ≡ put_right (grid-of height width cells) v line bytes.old }
+    ensures { (cells : List ℤ) → bytes.new ≡ put_right (grid_of height width cells) v line bytes.old }
 {
     if v % width + 1 < width {
         bytes[2 * (v / width) * (2 * width - 1) + (2 * (v % width) + 1)] = edge_byte(line);
@@ -60,7 +60,7 @@ fn set_right(bytes: &mut [u8], height: usize, width: usize, v: usize, line: bool
 // And the edge downward.
 fn set_down(bytes: &mut [u8], height: usize, width: usize, v: usize, line: bool)
     requires { PadOf height width v × (length bytes.old ≡ places height width) }
-    ensures { (cells : List ℤ) → bytes.new ≡ put-down (grid-of height width cells) v line bytes.old }
+    ensures { (cells : List ℤ) → bytes.new ≡ put_down (grid_of height width cells) v line bytes.old }
 {
     if v + width < height * width {
         bytes[(2 * (v / width) + 1) * (2 * width - 1) + 2 * (v % width)] = edge_byte(line);
@@ -75,7 +75,7 @@ fn add_record(
     layouts: &mut usize,
     fewest: &mut usize,
 ) -> u8
-    requires { (1 ≤ length bytes.now) × (lines ≡ record-lines bytes.now) × (layouts.old * length bytes.now ≤ length buffer.old) }
+    requires { (1 ≤ length bytes.now) × (lines ≡ record_lines bytes.now) × (layouts.old * length bytes.now ≤ length buffer.old) }
     ensures { Added (length bytes.now) (layout bytes.now ∷ [])
         layouts.old fewest.old buffer.old
         result layouts.new fewest.new buffer.new }
@@ -102,7 +102,7 @@ fn test_drawing(
     fewest: &mut usize,
 ) -> u8
     requires { Begun height width cells.now bytes.now layouts.old buffer.old }
-    ensures { Added (places height width) (tested-record (grid-of height width cells.now) bytes.now)
+    ensures { Added (places height width) (tested_record (grid_of height width cells.now) bytes.now)
         layouts.old fewest.old buffer.old
         result layouts.new fewest.new buffer.new }
 {
@@ -130,7 +130,7 @@ fn give(
     down: bool,
 ) -> u8
     requires { Begun height width cells.now bytes.old layouts.old buffer.old × (v < height * width) }
-    ensures { Gave (grid-of height width cells.now) limit v right down
+    ensures { Gave (grid_of height width cells.now) limit v right down
         bytes.old (progress (places height width) 0 tried.old layouts.old fewest.old buffer.old)
         bytes.new (progress (places height width) result tried.new layouts.new fewest.new buffer.new) }
 {
@@ -172,7 +172,7 @@ fn walk_on(
     v: usize,
 ) -> u8
     requires { Begun height width cells.now bytes.old layouts.old buffer.old × (v ≤ height * width) }
-    ensures { WalkedOn (grid-of height width cells.now) limit v
+    ensures { WalkedOn (grid_of height width cells.now) limit v
         bytes.old (progress (places height width) 0 tried.old layouts.old fewest.old buffer.old)
         bytes.new (progress (places height width) result tried.new layouts.new fewest.new buffer.new) }
 {

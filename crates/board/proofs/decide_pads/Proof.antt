@@ -1,25 +1,25 @@
 -- `board::decide_pads` meets its contract: each kind of pads is decided as its edge. Assumes nothing.
-use Rattle.board.specs.PlaceLaws.{beside-on, beside-decided, above_on, above-decided, nothing-decided}
+use Rattle.board.specs.PlaceLaws.{beside_on, beside_decided, above_on, above_decided, nothing_decided}
 use borrow.Author.Rules.{rules}
 use Rattle.board.proofs.decide_pads.Statement.{statement}
 use Rattle.board.proofs.decide_pads.Tie as tie
 
-enum-known-pads : tie.Need-enum-known-pads
-enum-known-pads c = search rules
+enum_known_pads : tie.Need-enum-known-pads
+enum_known_pads c = search rules
 
-decide-right-requires : tie.Need-decide-right-requires
-decide-right-requires c κs =
+decide_right_requires : tie.Need-decide-right-requires
+decide_right_requires c κs =
     let start = c.before.before.before.before.before.before in
-    let there = beside-on _ start.requires.2.few-pads _ start.requires.0 c.before.before.before.before.pads.given.1 in
+    let there = beside_on _ start.requires.2.few_pads _ start.requires.0 c.before.before.before.before.pads.given.1 in
     (there.1, start.requires.1, start.requires.2, there.0)
 
-enum-known-pads-2 : tie.Need-enum-known-pads-2
-enum-known-pads-2 c = search rules
+enum_known_pads_2 : tie.Need-enum-known-pads-2
+enum_known_pads_2 c = search rules
 
-decide-down-requires : tie.Need-decide-down-requires
-decide-down-requires c κs =
+decide_down_requires : tie.Need-decide-down-requires
+decide_down_requires c κs =
     let start = c.before.before.before.before.before.before in
-    let there = above_on _ start.requires.2.few-pads _ start.requires.0 c.before.before.before.before.pads2.given.1 in
+    let there = above_on _ start.requires.2.few_pads _ start.requires.0 c.before.before.before.before.pads2.given.1 in
     (there.1, start.requires.1, start.requires.2, there.0)
 
 enum_told : tie.Need-enum-told
@@ -28,25 +28,25 @@ enum_told c = search rules
 returns : tie.Need-returns
 returns c =
     let start = c.before.before.before.before.before.before.before in
-    beside-decided _ start.requires.2.few-pads _ start.requires.0 c.before.before.before.before.before.pads.given.1 c.decide-right.ensures
+    beside_decided _ start.requires.2.few_pads _ start.requires.0 c.before.before.before.before.before.pads.given.1 c.decide-right.ensures
 
-returns-2 : tie.Need-returns-2
-returns-2 c =
+returns_2 : tie.Need-returns-2
+returns_2 c =
     let start = c.before.before.before.before.before.before.before in
-    above-decided _ start.requires.2.few-pads _ start.requires.0 c.before.before.before.before.before.pads2.given.1 c.decide-down.ensures
+    above_decided _ start.requires.2.few_pads _ start.requires.0 c.before.before.before.before.before.pads2.given.1 c.decide-down.ensures
 
-returns-3 : tie.Need-returns-3
-returns-3 c = nothing-decided c.before.before.args.pads (search rules) _
+returns_3 : tie.Need-returns-3
+returns_3 c = nothing_decided c.before.before.args.pads (search rules) _
 
-pub decide-pads-spec : {M : Type 1} → statement M
-decide-pads-spec =
+pub decide_pads_spec : {M : Type 1} → statement M
+decide_pads_spec =
     tie.close
     (tie.spec
-    enum-known-pads
-    decide-right-requires
-    enum-known-pads-2
-    decide-down-requires
+    enum_known_pads
+    decide_right_requires
+    enum_known_pads_2
+    decide_down_requires
     enum_told
     returns
-    returns-2
-    returns-3)
+    returns_2
+    returns_3)

@@ -6,5 +6,5 @@ use Rattle.board.proofs.declined.Tie as tie
 returns : tie.Need-returns
 returns c = refl
 
-pub declined-spec : {M : Type 1} → statement M
-declined-spec = tie.close (tie.spec returns)
+pub declined_spec : {M : Type 1} → statement M
+declined_spec = tie.close (tie.spec returns)

@@ -6,8 +6,8 @@ use Rattle.board.proofs.flag_number.Tie as tie
 returns : tie.Need-returns
 returns c = rw (lt-leb 1024 c.before.args.count c.if1.true)
 
-returns-2 : tie.Need-returns-2
-returns-2 c = rw (le-leb 1024 c.before.args.count c.if1.false)
+returns_2 : tie.Need-returns-2
+returns_2 c = rw (le-leb 1024 c.before.args.count c.if1.false)
 
-pub flag-number-spec : {M : Type 1} → statement M
-flag-number-spec = tie.close (tie.spec returns returns-2)
+pub flag_number_spec : {M : Type 1} → statement M
+flag_number_spec = tie.close (tie.spec returns returns_2)

@@ -1,53 +1,53 @@
 -- `board::pads_at` meets its contract: outside the field there is no edge, inside it grid's function tells the pads. Assumes nothing.
-use Rattle.board.specs.PlaceLaws.{row-off, column-off, pads-in-field}
+use Rattle.board.specs.PlaceLaws.{row_off, column_off, pads_in_field}
 use borrow.Author.Rules.{rules}
 use Rattle.board.proofs.pads_at.Statement.{statement}
 use Rattle.board.proofs.pads_at.Tie as tie
 
-width-requires : tie.Need-width-requires
-width-requires c κs = search rules
+width_requires : tie.Need-width-requires
+width_requires c κs = search rules
 
-height-requires : tie.Need-height-requires
-height-requires c κs = search rules
+height_requires : tie.Need-height-requires
+height_requires c κs = search rules
 
-mul-if1 : tie.Need-overflow-mul-if1
-mul-if1 c = search rules
+mul_if1 : tie.Need-overflow-mul-if1
+mul_if1 c = search rules
 
-sub-if1 : tie.Need-overflow-sub-if1
-sub-if1 c = search rules
+sub_if1 : tie.Need-overflow-sub-if1
+sub_if1 c = search rules
 
 returns : tie.Need-returns
-returns c = row-off _ _ _ (rw (← c.before.height.ensures) c.if1.true)
+returns c = row_off _ _ _ (rw (← c.before.height.ensures) c.if1.true)
 
-mul-if2 : tie.Need-overflow-mul-if2
-mul-if2 c = search rules
+mul_if2 : tie.Need-overflow-mul-if2
+mul_if2 c = search rules
 
-sub-if2 : tie.Need-overflow-sub-if2
-sub-if2 c = search rules
+sub_if2 : tie.Need-overflow-sub-if2
+sub_if2 c = search rules
 
-returns-2 : tie.Need-returns-2
-returns-2 c = column-off _ _ _ (rw (← c.before.before.height.ensures) c.before.if1.false) (rw (← c.before.before.before.width.ensures) c.if2.true)
+returns_2 : tie.Need-returns-2
+returns_2 c = column_off _ _ _ (rw (← c.before.before.height.ensures) c.before.if1.false) (rw (← c.before.before.before.width.ensures) c.if2.true)
 
-pads-at-requires : tie.Need-pads-at-requires
-pads-at-requires c κs = search rules
+pads_at_requires : tie.Need-pads-at-requires
+pads_at_requires c κs = search rules
 
-returns-3 : tie.Need-returns-3
-returns-3 c =
+returns_3 : tie.Need-returns-3
+returns_3 c =
     let start = c.before.before.before.before.before in
     let width_is = c.before.before.before.before.width.ensures in
-    pads-in-field _ _ _ (rw (← c.before.before.before.height.ensures) c.before.before.if1.false) (rw (← width_is) c.before.if2.false) _ width_is c.pads-at.ensures
+    pads_in_field _ _ _ (rw (← c.before.before.before.height.ensures) c.before.before.if1.false) (rw (← width_is) c.before.if2.false) _ width_is c.pads-at.ensures
 
-pub pads-at-spec : {M : Type 1} → statement M
-pads-at-spec =
+pub pads_at_spec : {M : Type 1} → statement M
+pads_at_spec =
     tie.close
     (tie.spec
-    width-requires
-    height-requires
-    mul-if1
-    sub-if1
+    width_requires
+    height_requires
+    mul_if1
+    sub_if1
     returns
-    mul-if2
-    sub-if2
-    returns-2
-    pads-at-requires
-    returns-3)
+    mul_if2
+    sub_if2
+    returns_2
+    pads_at_requires
+    returns_3)

@@ -4,51 +4,51 @@ use borrow.Author.Rules.{rules}
 use Rattle.board_replay.proofs.called.Statement.{statement}
 use Rattle.board_replay.proofs.called.Tie as tie
 
-cast-y : tie.Need-overflow-cast-y
-cast-y c = search rules
+cast_y : tie.Need-overflow-cast-y
+cast_y c = search rules
 
-add-checkpoint-requires : tie.Need-add-checkpoint-requires
-add-checkpoint-requires c κs = search rules
+add_checkpoint_requires : tie.Need-add-checkpoint-requires
+add_checkpoint_requires c κs = search rules
 
 returns : tie.Need-returns
-returns c = answered (c.add-checkpoint.ensures _ c.before.before.requires.1)
+returns c = answered (c.add_checkpoint.ensures _ c.before.before.requires.1)
 
-undo-requires : tie.Need-undo-requires
-undo-requires c κs = search rules
+undo_requires : tie.Need-undo-requires
+undo_requires c κs = search rules
 
-returns-2 : tie.Need-returns-2
-returns-2 c = (_, c.undo.ensures _ c.before.before.before.requires.1)
+returns_2 : tie.Need-returns-2
+returns_2 c = (_, c.undo.ensures _ c.before.before.before.requires.1)
 
-get-edge-requires : tie.Need-get-edge-requires
-get-edge-requires c κs = search rules
+get_edge_requires : tie.Need-get-edge-requires
+get_edge_requires c κs = search rules
 
-returns-3 : tie.Need-returns-3
-returns-3 c = answered (c.get-edge.ensures _ c.before.before.before.before.requires.1)
+returns_3 : tie.Need-returns-3
+returns_3 c = answered (c.get-edge.ensures _ c.before.before.before.before.requires.1)
 
-decide-edge-requires : tie.Need-decide-edge-requires
-decide-edge-requires c κs = search rules
+decide_edge_requires : tie.Need-decide-edge-requires
+decide_edge_requires c κs = search rules
 
-returns-4 : tie.Need-returns-4
-returns-4 c = answered (c.decide-edge.ensures _ c.before.before.before.before.before.requires.1)
+returns_4 : tie.Need-returns-4
+returns_4 c = answered (c.decide_edge.ensures _ c.before.before.before.before.before.requires.1)
 
-decide-edge-requires-2 : tie.Need-decide-edge-requires-2
-decide-edge-requires-2 c κs = search rules
+decide_edge_requires_2 : tie.Need-decide-edge-requires-2
+decide_edge_requires_2 c κs = search rules
 
-returns-5 : tie.Need-returns-5
-returns-5 c = answered (c.decide-edge2.ensures _ c.before.before.before.before.before.requires.1)
+returns_5 : tie.Need-returns-5
+returns_5 c = answered (c.decide-edge2.ensures _ c.before.before.before.before.before.requires.1)
 
-pub called-spec : {M : Type 1} → statement M
-called-spec =
+pub called_spec : {M : Type 1} → statement M
+called_spec =
     tie.close
     (tie.spec
-    cast-y
-    add-checkpoint-requires
+    cast_y
+    add_checkpoint_requires
     returns
-    undo-requires
-    returns-2
-    get-edge-requires
-    returns-3
-    decide-edge-requires
-    returns-4
-    decide-edge-requires-2
-    returns-5)
+    undo_requires
+    returns_2
+    get_edge_requires
+    returns_3
+    decide_edge_requires
+    returns_4
+    decide_edge_requires_2
+    returns_5)

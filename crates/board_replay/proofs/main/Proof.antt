@@ -4,63 +4,63 @@ use borrow.Author.Rules.{rules}
 use Rattle.board_replay.proofs.main.Statement.{statement}
 use Rattle.board_replay.proofs.main.Tie as tie
 
-abbrev invariant-loop : tie.invariant-loop
-invariant-loop length stream place₀ number₀ place number = Unit {0}
+abbrev invariant_loop : tie.invariant_loop
+invariant_loop length stream place₀ number₀ place number = Unit {0}
 
-abbrev decreases-loop : tie.decreases-loop
-decreases-loop length stream place₀ number₀ place number = 100000 - number
+abbrev decreases_loop : tie.decreases_loop
+decreases_loop length stream place₀ number₀ place number = 100000 - number
 
-room-requires : tie.Need-room-requires invariant-loop decreases-loop
-room-requires c κs = search rules
+room_requires : tie.Need-room-requires invariant_loop decreases_loop
+room_requires c κs = search rules
 
-slice-aggregate-read-full : tie.Need-slice-aggregate-read-full invariant-loop decreases-loop
-slice-aggregate-read-full c = search rules
+slice_aggregate_read_full : tie.Need-slice-aggregate-read-full invariant_loop decreases_loop
+slice_aggregate_read_full c = search rules
 
-read-full-requires : tie.Need-read-full-requires invariant-loop decreases-loop
-read-full-requires c κs = search rules
+read_full_requires : tie.Need-read-full-requires invariant_loop decreases_loop
+read_full_requires c κs = search rules
 
-array-share-prefix-buffer : tie.Need-array-share-prefix-buffer invariant-loop decreases-loop
-array-share-prefix-buffer c = search rules
+array_share_prefix_buffer : tie.Need-array-share-prefix-buffer invariant_loop decreases_loop
+array_share_prefix_buffer c = search rules
 
-slice-aggregate-stream : tie.Need-slice-aggregate-stream invariant-loop decreases-loop
-slice-aggregate-stream c = search rules
+slice_aggregate_stream : tie.Need-slice-aggregate-stream invariant_loop decreases_loop
+slice_aggregate_stream c = search rules
 
-loop-holds : tie.Need-loop-init invariant-loop decreases-loop
-loop-holds c = search rules
+loop_holds : tie.Need-loop-init invariant_loop decreases_loop
+loop_holds c = search rules
 
-sequence-at-requires : tie.Need-sequence-at-requires invariant-loop decreases-loop
-sequence-at-requires c κs = search rules
+sequence_at_requires : tie.Need-sequence-at-requires invariant_loop decreases_loop
+sequence_at_requires c κs = search rules
 
-add-number : tie.Need-overflow-add-number invariant-loop decreases-loop
-add-number c = search rules
+add_number : tie.Need-overflow-add-number invariant_loop decreases_loop
+add_number c = search rules
 
-loop-less : tie.Need-loop-smaller invariant-loop decreases-loop
-loop-less c = search rules
+loop_less : tie.Need-loop-smaller invariant_loop decreases_loop
+loop_less c = search rules
 
-loop-again : tie.Need-loop-preserved invariant-loop decreases-loop
-loop-again c = search rules
+loop_again : tie.Need-loop-preserved invariant_loop decreases_loop
+loop_again c = search rules
 
-returns : tie.Need-returns invariant-loop decreases-loop
+returns : tie.Need-returns invariant_loop decreases_loop
 returns c = search rules
 
-returns-2 : tie.Need-returns-2 invariant-loop decreases-loop
-returns-2 c = search rules
+returns_2 : tie.Need-returns-2 invariant_loop decreases_loop
+returns_2 c = search rules
 
 pub main_spec : {M : Type 1} → statement M
 main_spec =
     tie.close
     (tie.spec
-    invariant-loop
-    decreases-loop
-    room-requires
-    slice-aggregate-read-full
-    read-full-requires
-    array-share-prefix-buffer
-    slice-aggregate-stream
-    loop-holds
-    sequence-at-requires
-    add-number
-    loop-less
-    loop-again
+    invariant_loop
+    decreases_loop
+    room_requires
+    slice_aggregate_read_full
+    read_full_requires
+    array_share_prefix_buffer
+    slice_aggregate_stream
+    loop_holds
+    sequence_at_requires
+    add_number
+    loop_less
+    loop_again
     returns
-    returns-2)
+    returns_2)

@@ -6,63 +6,63 @@ use borrow.Author.Rules.{rules}
 use Rattle.board_replay.proofs.sum_of_calls.Statement.{statement}
 use Rattle.board_replay.proofs.sum_of_calls.Tie as tie
 
-abbrev invariant-loop : tie.invariant-loop
-invariant-loop stream place calls board₀ sum₀ call₀ board sum call = IsBoard board
+abbrev invariant_loop : tie.invariant_loop
+invariant_loop stream place calls board₀ sum₀ call₀ board sum call = IsBoard board
 
-abbrev decreases-loop : tie.decreases-loop
-decreases-loop stream place calls board₀ sum₀ call₀ board sum call = calls - call
+abbrev decreases_loop : tie.decreases_loop
+decreases_loop stream place calls board₀ sum₀ call₀ board sum call = calls - call
 
-loop-holds : tie.Need-loop-init invariant-loop decreases-loop
-loop-holds c = c.before.requires.0
+loop_holds : tie.Need-loop-init invariant_loop decreases_loop
+loop_holds c = c.before.requires.0
 
-mul-later : tie.Need-overflow-mul-later invariant-loop decreases-loop
-mul-later c = omega (arith, c.before.before.before.requires.1, c.loop-test.true)
+mul_later : tie.Need-overflow-mul-later invariant_loop decreases_loop
+mul_later c = omega (arith, c.before.before.before.requires.1, c.loop-test.true)
 
-later-requires : tie.Need-later-requires invariant-loop decreases-loop
-later-requires c κs = search rules
+later_requires : tie.Need-later-requires invariant_loop decreases_loop
+later_requires c κs = search rules
 
-byte-at-requires : tie.Need-byte-at-requires invariant-loop decreases-loop
-byte-at-requires c κs = search rules
+byte_at_requires : tie.Need-byte-at-requires invariant_loop decreases_loop
+byte_at_requires c κs = search rules
 
-later-requires-2 : tie.Need-later-requires-2 invariant-loop decreases-loop
-later-requires-2 c κs = search rules
+later_requires_2 : tie.Need-later-requires-2 invariant_loop decreases_loop
+later_requires_2 c κs = search rules
 
-byte-at-requires-2 : tie.Need-byte-at-requires-2 invariant-loop decreases-loop
-byte-at-requires-2 c κs = search rules
+byte_at_requires_2 : tie.Need-byte-at-requires-2 invariant_loop decreases_loop
+byte_at_requires_2 c κs = search rules
 
-called-requires : tie.Need-called-requires invariant-loop decreases-loop
-called-requires c κs = search rules
+called_requires : tie.Need-called-requires invariant_loop decreases_loop
+called_requires c κs = search rules
 
-taken-board-requires : tie.Need-taken-board-requires invariant-loop decreases-loop
-taken-board-requires c κs = search rules
+taken_board_requires : tie.Need-taken-board-requires invariant_loop decreases_loop
+taken_board_requires c κs = search rules
 
-add-call : tie.Need-overflow-add-call invariant-loop decreases-loop
-add-call c = search rules
+add_call : tie.Need-overflow-add-call invariant_loop decreases_loop
+add_call c = search rules
 
-loop-less : tie.Need-loop-smaller invariant-loop decreases-loop
-loop-less c = search rules
+loop_less : tie.Need-loop-smaller invariant_loop decreases_loop
+loop_less c = search rules
 
-loop-again : tie.Need-loop-preserved invariant-loop decreases-loop
-loop-again c = c.before.before.called.ensures
+loop_again : tie.Need-loop-preserved invariant_loop decreases_loop
+loop_again c = c.before.before.called.ensures
 
-returns : tie.Need-returns invariant-loop decreases-loop
+returns : tie.Need-returns invariant_loop decreases_loop
 returns c = search rules
 
-pub sum-of-calls-spec : {M : Type 1} → statement M
-sum-of-calls-spec =
+pub sum_of_calls_spec : {M : Type 1} → statement M
+sum_of_calls_spec =
     tie.close
     (tie.spec
-    invariant-loop
-    decreases-loop
-    loop-holds
-    mul-later
-    later-requires
-    byte-at-requires
-    later-requires-2
-    byte-at-requires-2
-    called-requires
-    taken-board-requires
-    add-call
-    loop-less
-    loop-again
+    invariant_loop
+    decreases_loop
+    loop_holds
+    mul_later
+    later_requires
+    byte_at_requires
+    later_requires_2
+    byte_at_requires_2
+    called_requires
+    taken_board_requires
+    add_call
+    loop_less
+    loop_again
     returns)

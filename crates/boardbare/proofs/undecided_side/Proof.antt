@@ -2,25 +2,25 @@
 use mathlib.Core.Path.{refl}
 use native.Mathlib.Omega.{arith}
 use borrow.Author.Tests.{eq-eqb, ne_eqb}
-use Rattle.boardview.specs.View.{undecided-side}
+use Rattle.boardview.specs.View.{undecided_side}
 use Rattle.boardbare.proofs.undecided_side.Statement.{statement}
 use Rattle.boardbare.proofs.undecided_side.Tie as tie
 
 returns : tie.Need-returns
-unfolding undecided-side
+unfolding undecided_side
 returns c = (rw (eq-eqb _ _ c.if1.true) refl, omega arith)
 
-returns-2 : tie.Need-returns-2
-unfolding undecided-side
-returns-2 c = (rw (ne_eqb _ _ c.before.if1.false, eq-eqb _ _ c.if2.true) refl, omega arith)
+returns_2 : tie.Need-returns-2
+unfolding undecided_side
+returns_2 c = (rw (ne_eqb _ _ c.before.if1.false, eq-eqb _ _ c.if2.true) refl, omega arith)
 
-returns-3 : tie.Need-returns-3
-unfolding undecided-side
-returns-3 c = (rw (ne_eqb _ _ c.before.before.if1.false, ne_eqb _ _ c.before.if2.false, eq-eqb _ _ c.if3.true) refl, omega arith)
+returns_3 : tie.Need-returns-3
+unfolding undecided_side
+returns_3 c = (rw (ne_eqb _ _ c.before.before.if1.false, ne_eqb _ _ c.before.if2.false, eq-eqb _ _ c.if3.true) refl, omega arith)
 
-returns-4 : tie.Need-returns-4
-unfolding undecided-side
-returns-4 c = (rw (ne_eqb _ _ c.before.before.if1.false, ne_eqb _ _ c.before.if2.false, ne_eqb _ _ c.if3.false) refl, omega arith)
+returns_4 : tie.Need-returns-4
+unfolding undecided_side
+returns_4 c = (rw (ne_eqb _ _ c.before.before.if1.false, ne_eqb _ _ c.before.if2.false, ne_eqb _ _ c.if3.false) refl, omega arith)
 
-pub undecided-side-spec : {M : Type 1} → statement M
-undecided-side-spec = tie.close (tie.spec returns returns-2 returns-3 returns-4)
+pub undecided_side_spec : {M : Type 1} → statement M
+undecided_side_spec = tie.close (tie.spec returns returns_2 returns_3 returns_4)

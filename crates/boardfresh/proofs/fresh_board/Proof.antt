@@ -2,22 +2,22 @@
 use borrow.Author.Rules.{rules}
 use lib.ListN.{length-replicate}
 use lib.IntN.{pos}
-use Rattle.boardfresh.specs.FreshView.{fresh-made}
+use Rattle.boardfresh.specs.FreshView.{fresh_made}
 use Rattle.boardfresh.proofs.fresh_board.Statement.{statement}
 use Rattle.boardfresh.proofs.fresh_board.Tie as tie
 
-bare-board-requires : tie.Need-bare-board-requires
-bare-board-requires c κs = search rules
+bare_board_requires : tie.Need-bare-board-requires
+bare_board_requires c κs = search rules
 
-shut-holes-requires : tie.Need-shut-holes-requires
-shut-holes-requires c κs = let bare = c.before.before.before.before.before.before.before.bare-board.ensures in
+shut_holes_requires : tie.Need-shut-holes-requires
+shut_holes_requires c κs = let bare = c.before.before.before.before.before.before.before.bare_board.ensures in
     (bare.kinds, bare.ready _ (length-replicate 1440 (pos 0)))
 
-restart-requires : tie.Need-restart-requires
-restart-requires c κs = search rules
+restart_requires : tie.Need-restart-requires
+restart_requires c κs = search rules
 
 returns : tie.Need-returns
-returns c = rw c.restart.ensures (fresh-made _ _ _ _ c.before.before.before.before.before.before.before.before.before.bare-board.ensures _ _ c.before.shut-holes.ensures)
+returns c = rw c.restart.ensures (fresh_made _ _ _ _ c.before.before.before.before.before.before.before.before.before.bare_board.ensures _ _ c.before.shut-holes.ensures)
 
-pub fresh-board-spec : {M : Type 1} → statement M
-fresh-board-spec = tie.close (tie.spec bare-board-requires shut-holes-requires restart-requires returns)
+pub fresh_board_spec : {M : Type 1} → statement M
+fresh_board_spec = tie.close (tie.spec bare_board_requires shut_holes_requires restart_requires returns)

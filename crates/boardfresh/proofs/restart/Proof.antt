@@ -9,9 +9,9 @@ returns : tie.Need-returns
 unfolding restarted
 returns c = rw (lt-ltb _ _ c.if1.true) refl
 
-returns-2 : tie.Need-returns-2
+returns_2 : tie.Need-returns-2
 unfolding restarted
-returns-2 c = rw (le-ltb _ _ c.if1.false) refl
+returns_2 c = rw (le-ltb _ _ c.if1.false) refl
 
-pub restart-spec : {M : Type 1} → statement M
-restart-spec = tie.close (tie.spec returns returns-2)
+pub restart_spec : {M : Type 1} → statement M
+restart_spec = tie.close (tie.spec returns returns_2)

@@ -7,8 +7,8 @@ use Rattle.boardparts.proofs.count_after.Tie as tie
 returns : tie.Need-returns
 returns c = rw (eq-eqb _ _ c.if1.true) refl
 
-returns-2 : tie.Need-returns-2
-returns-2 c = rw (ne_eqb _ _ c.if1.false) refl
+returns_2 : tie.Need-returns-2
+returns_2 c = rw (ne_eqb _ _ c.if1.false) refl
 
-pub count-after-spec : {M : Type 1} → statement M
-count-after-spec = tie.close (tie.spec returns returns-2)
+pub count_after_spec : {M : Type 1} → statement M
+count_after_spec = tie.close (tie.spec returns returns_2)

@@ -10,12 +10,12 @@ returns : tie.Need-returns
 unfolding ended
 returns c = rw (lt-ltb _ _ c.if1.true) refl
 
-add-result : tie.Need-overflow-add-result
-add-result c = search rules
+add_result : tie.Need-overflow-add-result
+add_result c = search rules
 
-returns-2 : tie.Need-returns-2
+returns_2 : tie.Need-returns-2
 unfolding ended
-returns-2 c = rw (le-ltb _ _ c.if1.false) refl
+returns_2 c = rw (le-ltb _ _ c.if1.false) refl
 
-pub end-spec : {M : Type 1} → statement M
-end-spec = tie.close (tie.spec returns add-result returns-2)
+pub end_spec : {M : Type 1} → statement M
+end_spec = tie.close (tie.spec returns add_result returns_2)

@@ -4,14 +4,14 @@ use borrow.Author.Rules.{rules}
 use Rattle.boardparts.proofs.first_side.Statement.{statement}
 use Rattle.boardparts.proofs.first_side.Tie as tie
 
-some-apart-requires : tie.Need-some-apart-requires
-some-apart-requires c κs = search rules
+some_apart_requires : tie.Need-some-apart-requires
+some_apart_requires c κs = search rules
 
 returns : tie.Need-returns
-returns c = rw (sym c.before.some-apart.ensures ∙ c.if1.true) refl
+returns c = rw (sym c.before.some_apart.ensures ∙ c.if1.true) refl
 
-returns-2 : tie.Need-returns-2
-returns-2 c = rw (sym c.before.some-apart.ensures ∙ c.if1.false) refl
+returns_2 : tie.Need-returns-2
+returns_2 c = rw (sym c.before.some_apart.ensures ∙ c.if1.false) refl
 
-pub first-side-spec : {M : Type 1} → statement M
-first-side-spec = tie.close (tie.spec some-apart-requires returns returns-2)
+pub first_side_spec : {M : Type 1} → statement M
+first_side_spec = tie.close (tie.spec some_apart_requires returns returns_2)

@@ -10,12 +10,12 @@ returns : tie.Need-returns
 unfolding going
 returns c = rw (lt-ltb _ _ c.if1.true) refl
 
-sub-result : tie.Need-overflow-sub-result
-sub-result c = search rules
+sub_result : tie.Need-overflow-sub-result
+sub_result c = search rules
 
-returns-2 : tie.Need-returns-2
+returns_2 : tie.Need-returns-2
 unfolding going
-returns-2 c = rw (le-ltb _ _ c.if1.false) refl
+returns_2 c = rw (le-ltb _ _ c.if1.false) refl
 
-pub go-on-spec : {M : Type 1} → statement M
-go-on-spec = tie.close (tie.spec returns sub-result returns-2)
+pub go_on_spec : {M : Type 1} → statement M
+go_on_spec = tie.close (tie.spec returns sub_result returns_2)

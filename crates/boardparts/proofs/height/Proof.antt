@@ -1,18 +1,18 @@
 -- `boardparts::height` meets its contract.
-use Rattle.boardview.specs.View.{grid-in}
+use Rattle.boardview.specs.View.{grid_in}
 use borrow.Author.Rules.{rules}
 use Rattle.boardparts.proofs.height.Statement.{statement}
 use Rattle.boardparts.proofs.height.Tie as tie
 
-element-copy-out-wide : tie.Need-element-copy-out-wide
-element-copy-out-wide c = search rules
+element_copy_out_wide : tie.Need-element-copy-out-wide
+element_copy_out_wide c = search rules
 
-wide-requires : tie.Need-wide-requires
-wide-requires c κs = search rules
+wide_requires : tie.Need-wide-requires
+wide_requires c κs = search rules
 
 returns : tie.Need-returns
-unfolding grid-in
+unfolding grid_in
 returns c = c.wide.ensures
 
 pub height_spec : {M : Type 1} → statement M
-height_spec = tie.close (tie.spec element-copy-out-wide wide-requires returns)
+height_spec = tie.close (tie.spec element_copy_out_wide wide_requires returns)

@@ -9,9 +9,9 @@ returns : tie.Need-returns
 unfolding rival
 returns c = rw (eq-eqb _ _ c.if1.true) refl
 
-returns-2 : tie.Need-returns-2
+returns_2 : tie.Need-returns-2
 unfolding rival
-returns-2 c = rw (ne_eqb _ _ c.if1.false) refl
+returns_2 c = rw (ne_eqb _ _ c.if1.false) refl
 
-pub rivals-spec : {M : Type 1} → statement M
-rivals-spec = tie.close (tie.spec returns returns-2)
+pub rivals_spec : {M : Type 1} → statement M
+rivals_spec = tie.close (tie.spec returns returns_2)

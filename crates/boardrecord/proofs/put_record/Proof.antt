@@ -3,108 +3,108 @@
 use Prim.Native.Nat.{◌-◌, ◌≤◌}
 use mathlib.Core.Path.{refl}
 use native.Mathlib.Omega.{arith}
-use Rattle.rules.specs.Places.{few-places}
-use Rattle.boardview.specs.View.{grid-in}
-use Rattle.boardview.specs.ShownRecordLaws.{RowsWritten, no-row-written, few-lines, few-in-row, row_put, all-rows, row_fits}
+use Rattle.rules.specs.Places.{few_places}
+use Rattle.boardview.specs.View.{grid_in}
+use Rattle.boardview.specs.ShownRecordLaws.{RowsWritten, no_row_written, few_lines, few_in_row, row_put, all_rows, row_fits}
 use Rattle.boardrecord.proofs.put_record.Statement.{statement}
 use Rattle.boardrecord.proofs.put_record.Tie as tie
 
-abbrev invariant-loop : tie.invariant-loop
-invariant-loop edges kind buffer₀ at width rows side lines₀ row₀ buffer lines row = (row ≤ rows) × RowsWritten (grid-in kind) edges at buffer₀ row lines buffer
+abbrev invariant_loop : tie.invariant_loop
+invariant_loop edges kind buffer₀ at width rows side lines₀ row₀ buffer lines row = (row ≤ rows) × RowsWritten (grid_in kind) edges at buffer₀ row lines buffer
 
-abbrev decreases-loop : tie.decreases-loop
-decreases-loop edges kind buffer₀ at width rows side lines₀ row₀ buffer lines row = rows - row
+abbrev decreases_loop : tie.decreases_loop
+decreases_loop edges kind buffer₀ at width rows side lines₀ row₀ buffer lines row = rows - row
 
-width-requires : tie.Need-width-requires invariant-loop decreases-loop
-width-requires c κs = tt
+width_requires : tie.Need-width-requires invariant_loop decreases_loop
+width_requires c κs = tt
 
-height-requires : tie.Need-height-requires invariant-loop decreases-loop
-height-requires c κs = tt
+height_requires : tie.Need-height-requires invariant_loop decreases_loop
+height_requires c κs = tt
 
-mul-rows : tie.Need-overflow-mul-rows invariant-loop decreases-loop
-mul-rows c = omega arith
+mul_rows : tie.Need-overflow-mul-rows invariant_loop decreases_loop
+mul_rows c = omega arith
 
-sub-rows : tie.Need-overflow-sub-rows invariant-loop decreases-loop
-sub-rows c = omega arith
+sub_rows : tie.Need-overflow-sub-rows invariant_loop decreases_loop
+sub_rows c = omega arith
 
-mul-side : tie.Need-overflow-mul-side invariant-loop decreases-loop
-mul-side c = omega arith
+mul_side : tie.Need-overflow-mul-side invariant_loop decreases_loop
+mul_side c = omega arith
 
-sub-side : tie.Need-overflow-sub-side invariant-loop decreases-loop
-sub-side c = omega arith
+sub_side : tie.Need-overflow-sub-side invariant_loop decreases_loop
+sub_side c = omega arith
 
-loop-holds : tie.Need-loop-init invariant-loop decreases-loop
-loop-holds c = (omega arith, no-row-written _ _ _ _)
+loop_holds : tie.Need-loop-init invariant_loop decreases_loop
+loop_holds c = (omega arith, no_row_written _ _ _ _)
 
-mul-put-row : tie.Need-overflow-mul-put-row invariant-loop decreases-loop
-mul-put-row c = omega (arith, row_fits _ _ _ _ _ c.before.before.before.height.ensures c.before.before.before.before.width.ensures c.before.loop-test.true, c.before.before.before.before.before.before.requires.3)
+mul_put_row : tie.Need-overflow-mul-put-row invariant_loop decreases_loop
+mul_put_row c = omega (arith, row_fits _ _ _ _ _ c.before.before.before.height.ensures c.before.before.before.before.width.ensures c.before.loop-test.true, c.before.before.before.before.before.before.requires.3)
 
-add-put-row : tie.Need-overflow-add-put-row invariant-loop decreases-loop
-add-put-row c = omega (arith, row_fits _ _ _ _ _ c.before.before.before.height.ensures c.before.before.before.before.width.ensures c.before.loop-test.true, c.before.before.before.before.before.before.requires.3)
+add_put_row : tie.Need-overflow-add-put-row invariant_loop decreases_loop
+add_put_row c = omega (arith, row_fits _ _ _ _ _ c.before.before.before.height.ensures c.before.before.before.before.width.ensures c.before.loop-test.true, c.before.before.before.before.before.before.requires.3)
 
-put-row-requires : tie.Need-put-row-requires invariant-loop decreases-loop
-put-row-requires c κs =
+put_row_requires : tie.Need-put-row-requires invariant_loop decreases_loop
+put_row_requires c κs =
     let start = c.before.before.before.before.before.before in (
-      omega (arith, c.before.before.before.before.width.ensures, start.requires.0.least-width),
-      omega (arith, c.before.before.before.before.width.ensures, start.requires.0.largest-width),
-      omega (arith, c.before.before.before.height.ensures, start.requires.0.largest-height, c.before.loop-test.true),
+      omega (arith, c.before.before.before.before.width.ensures, start.requires.0.least_width),
+      omega (arith, c.before.before.before.before.width.ensures, start.requires.0.largest_width),
+      omega (arith, c.before.before.before.height.ensures, start.requires.0.largest_height, c.before.loop-test.true),
       start.requires.1,
       start.requires.2,
       omega (arith, row_fits _ _ _ _ _ c.before.before.before.height.ensures c.before.before.before.before.width.ensures c.before.loop-test.true, start.requires.3, c.before.before.loop.invariant.1.same_length),
     )
 
-add-lines : tie.Need-overflow-add-lines invariant-loop decreases-loop
-add-lines c =
+add_lines : tie.Need-overflow-add-lines invariant_loop decreases_loop
+add_lines c =
     let start = c.before.before.before.before.before.before.before.before.before in
     omega (
       arith,
-      few-lines _ _ _ _ _ _ _ c.before.before.before.before.before.loop.invariant.1,
+      few_lines _ _ _ _ _ _ _ c.before.before.before.before.before.loop.invariant.1,
       c.before.before.put-row.ensures.1,
-      few-in-row c.before.before.before.before.before.before.before.width.result start.args.edges.now c.before.before.before.before.before.loop.row,
-      row_fits _ (grid-in start.args.kind.now).width _ (grid-in start.args.kind.now).width _ c.before.before.before.before.before.before.height.ensures refl c.before.before.before.before.loop-test.true,
+      few_in_row c.before.before.before.before.before.before.before.width.result start.args.edges.now c.before.before.before.before.before.loop.row,
+      row_fits _ (grid_in start.args.kind.now).width _ (grid_in start.args.kind.now).width _ c.before.before.before.before.before.before.height.ensures refl c.before.before.before.before.loop-test.true,
       c.before.before.before.before.before.before.before.width.ensures,
-      start.requires.0.largest-width,
-      few-places _ _ start.requires.0.largest-height start.requires.0.largest-width,
+      start.requires.0.largest_width,
+      few_places _ _ start.requires.0.largest_height start.requires.0.largest_width,
     )
 
-add_row : tie.Need-overflow-add-row invariant-loop decreases-loop
-add_row c = omega (arith, c.before.before.before.before.loop-test.true, c.before.before.before.before.before.before.height.ensures, c.before.before.before.before.before.before.before.before.before.requires.0.largest-height)
+add_row : tie.Need-overflow-add-row invariant_loop decreases_loop
+add_row c = omega (arith, c.before.before.before.before.loop-test.true, c.before.before.before.before.before.before.height.ensures, c.before.before.before.before.before.before.before.before.before.requires.0.largest_height)
 
-loop-less : tie.Need-loop-smaller invariant-loop decreases-loop
-loop-less c = omega arith
+loop_less : tie.Need-loop-smaller invariant_loop decreases_loop
+loop_less c = omega arith
 
-loop-again : tie.Need-loop-preserved invariant-loop decreases-loop
-loop-again c =
+loop_again : tie.Need-loop-preserved invariant_loop decreases_loop
+loop_again c =
     let start = c.before.before.before.before.before.before.before.before.before in (
       omega (arith, c.before.before.before.before.loop-test.true),
-      row_put _ _ _ _ _ _ _ c.before.before.before.before.before.loop.invariant.1 (omega (arith, start.requires.0.least-width)) (omega (arith, row_fits _ (grid-in start.args.kind.now).width _ (grid-in start.args.kind.now).width _ c.before.before.before.before.before.before.height.ensures refl c.before.before.before.before.loop-test.true, start.requires.3)) _ c.before.before.before.before.before.before.before.width.ensures c.before.before.put-row.ensures.0 c.before.before.put-row.ensures.1,
+      row_put _ _ _ _ _ _ _ c.before.before.before.before.before.loop.invariant.1 (omega (arith, start.requires.0.least_width)) (omega (arith, row_fits _ (grid_in start.args.kind.now).width _ (grid_in start.args.kind.now).width _ c.before.before.before.before.before.before.height.ensures refl c.before.before.before.before.loop-test.true, start.requires.3)) _ c.before.before.before.before.before.before.before.width.ensures c.before.before.put-row.ensures.0 c.before.before.put-row.ensures.1,
     )
 
-same_length : tie.Need-same-length invariant-loop decreases-loop
+same_length : tie.Need-same-length invariant_loop decreases_loop
 same_length c = c.before.loop.invariant.1.same_length
 
-returns : tie.Need-returns invariant-loop decreases-loop
-returns c = all-rows _ _ _ _ _ _ _ c.before.loop.invariant.1 (omega (arith, c.before.loop.invariant.0, c.loop-test.false, c.before.before.height.ensures))
+returns : tie.Need-returns invariant_loop decreases_loop
+returns c = all_rows _ _ _ _ _ _ _ c.before.loop.invariant.1 (omega (arith, c.before.loop.invariant.0, c.loop-test.false, c.before.before.height.ensures))
 
-pub put-record-spec : {M : Type 1} → statement M
-put-record-spec =
+pub put_record_spec : {M : Type 1} → statement M
+put_record_spec =
     tie.close
     (tie.spec
-    invariant-loop
-    decreases-loop
-    width-requires
-    height-requires
-    mul-rows
-    sub-rows
-    mul-side
-    sub-side
-    loop-holds
-    mul-put-row
-    add-put-row
-    put-row-requires
-    add-lines
+    invariant_loop
+    decreases_loop
+    width_requires
+    height_requires
+    mul_rows
+    sub_rows
+    mul_side
+    sub_side
+    loop_holds
+    mul_put_row
+    add_put_row
+    put_row_requires
+    add_lines
     add_row
-    loop-less
-    loop-again
+    loop_less
+    loop_again
     same_length
     returns)

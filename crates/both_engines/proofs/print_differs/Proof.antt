@@ -5,67 +5,67 @@ use borrow.Author.Rules.{rules}
 use Rattle.both_engines.proofs.print_differs.Statement.{statement}
 use Rattle.both_engines.proofs.print_differs.Tie as tie
 
-abbrev invariant-loop : tie.invariant-loop
-invariant-loop height width kinds pad₀ t7 pad = Unit {0}
+abbrev invariant_loop : tie.invariant_loop
+invariant_loop height width kinds pad₀ t7 pad = Unit {0}
 
-abbrev decreases-loop : tie.decreases-loop
-decreases-loop height width kinds pad₀ t7 pad = length kinds - pad
+abbrev decreases_loop : tie.decreases_loop
+decreases_loop height width kinds pad₀ t7 pad = length kinds - pad
 
-slice-aggregate-print-number : tie.Need-slice-aggregate-print-number invariant-loop decreases-loop
-slice-aggregate-print-number c = search rules
+slice_aggregate_print_number : tie.Need-slice-aggregate-print-number invariant_loop decreases_loop
+slice_aggregate_print_number c = search rules
 
-print-number-requires : tie.Need-print-number-requires invariant-loop decreases-loop
-print-number-requires c κs = search rules
+print_number_requires : tie.Need-print-number-requires invariant_loop decreases_loop
+print_number_requires c κs = search rules
 
-slice-aggregate-print-number-2 : tie.Need-slice-aggregate-print-number-2 invariant-loop decreases-loop
-slice-aggregate-print-number-2 c = search rules
+slice_aggregate_print_number_2 : tie.Need-slice-aggregate-print-number-2 invariant_loop decreases_loop
+slice_aggregate_print_number_2 c = search rules
 
-print-number-requires-2 : tie.Need-print-number-requires-2 invariant-loop decreases-loop
-print-number-requires-2 c κs = search rules
+print_number_requires_2 : tie.Need-print-number-requires-2 invariant_loop decreases_loop
+print_number_requires_2 c κs = search rules
 
-loop-holds : tie.Need-loop-init invariant-loop decreases-loop
-loop-holds c = search rules
+loop_holds : tie.Need-loop-init invariant_loop decreases_loop
+loop_holds c = search rules
 
-shared-slice-read-print-cell : tie.Need-shared-slice-read-print-cell invariant-loop decreases-loop
-shared-slice-read-print-cell c = search rules
+shared_slice_read_print_cell : tie.Need-shared-slice-read-print-cell invariant_loop decreases_loop
+shared_slice_read_print_cell c = search rules
 
-print-cell-requires : tie.Need-print-cell-requires invariant-loop decreases-loop
-print-cell-requires c κs = search rules
+print_cell_requires : tie.Need-print-cell-requires invariant_loop decreases_loop
+print_cell_requires c κs = search rules
 
-add-pad : tie.Need-overflow-add-pad invariant-loop decreases-loop
-add-pad c = search rules
+add_pad : tie.Need-overflow-add-pad invariant_loop decreases_loop
+add_pad c = search rules
 
-loop-less : tie.Need-loop-smaller invariant-loop decreases-loop
-loop-less c = search rules
+loop_less : tie.Need-loop-smaller invariant_loop decreases_loop
+loop_less c = search rules
 
-loop-again : tie.Need-loop-preserved invariant-loop decreases-loop
-loop-again c = search rules
+loop_again : tie.Need-loop-preserved invariant_loop decreases_loop
+loop_again c = search rules
 
-slice-aggregate-print-word : tie.Need-slice-aggregate-print-word invariant-loop decreases-loop
-slice-aggregate-print-word c = search rules
+slice_aggregate_print_word : tie.Need-slice-aggregate-print-word invariant_loop decreases_loop
+slice_aggregate_print_word c = search rules
 
-print-word-requires : tie.Need-print-word-requires invariant-loop decreases-loop
-print-word-requires c κs = search rules
+print_word_requires : tie.Need-print-word-requires invariant_loop decreases_loop
+print_word_requires c κs = search rules
 
-returns : tie.Need-returns invariant-loop decreases-loop
+returns : tie.Need-returns invariant_loop decreases_loop
 returns c = search rules
 
-pub print-differs-spec : {M : Type 1} → statement M
-print-differs-spec =
+pub print_differs_spec : {M : Type 1} → statement M
+print_differs_spec =
     tie.close
     (tie.spec
-    invariant-loop
-    decreases-loop
-    slice-aggregate-print-number
-    print-number-requires
-    slice-aggregate-print-number-2
-    print-number-requires-2
-    loop-holds
-    shared-slice-read-print-cell
-    print-cell-requires
-    add-pad
-    loop-less
-    loop-again
-    slice-aggregate-print-word
-    print-word-requires
+    invariant_loop
+    decreases_loop
+    slice_aggregate_print_number
+    print_number_requires
+    slice_aggregate_print_number_2
+    print_number_requires_2
+    loop_holds
+    shared_slice_read_print_cell
+    print_cell_requires
+    add_pad
+    loop_less
+    loop_again
+    slice_aggregate_print_word
+    print_word_requires
     returns)

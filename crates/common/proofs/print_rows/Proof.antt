@@ -4,31 +4,31 @@ use native.Mathlib.Omega.{arith}
 use Rattle.common.proofs.print_rows.Statement.{statement}
 use Rattle.common.proofs.print_rows.Tie as tie
 
-abbrev invariant-loop : tie.invariant-loop
-invariant-loop table width rows k₀ k = k ≤ rows
+abbrev invariant_loop : tie.invariant_loop
+invariant_loop table width rows k₀ k = k ≤ rows
 
-abbrev decreases-loop : tie.decreases-loop
-decreases-loop table width rows k₀ k = rows - k
+abbrev decreases_loop : tie.decreases_loop
+decreases_loop table width rows k₀ k = rows - k
 
-loop-holds : tie.Need-loop-init invariant-loop decreases-loop
-loop-holds c = omega arith
+loop_holds : tie.Need-loop-init invariant_loop decreases_loop
+loop_holds c = omega arith
 
-print-row-requires : tie.Need-print-row-requires invariant-loop decreases-loop
-print-row-requires c κs = tt
+print_row_requires : tie.Need-print-row-requires invariant_loop decreases_loop
+print_row_requires c κs = tt
 
-add-k : tie.Need-overflow-add-k invariant-loop decreases-loop
-add-k c = omega arith
+add_k : tie.Need-overflow-add-k invariant_loop decreases_loop
+add_k c = omega arith
 
-loop-less : tie.Need-loop-smaller invariant-loop decreases-loop
-loop-less c = omega arith
+loop_less : tie.Need-loop-smaller invariant_loop decreases_loop
+loop_less c = omega arith
 
-loop-again : tie.Need-loop-preserved invariant-loop decreases-loop
-loop-again c = omega arith
+loop_again : tie.Need-loop-preserved invariant_loop decreases_loop
+loop_again c = omega arith
 
-returns : tie.Need-returns invariant-loop decreases-loop
+returns : tie.Need-returns invariant_loop decreases_loop
 returns c = tt
 
-pub print-rows-spec : {M : Type 1} → statement M
-print-rows-spec =
+pub print_rows_spec : {M : Type 1} → statement M
+print_rows_spec =
     tie.close
-    (tie.spec invariant-loop decreases-loop loop-holds print-row-requires add-k loop-less loop-again returns)
+    (tie.spec invariant_loop decreases_loop loop_holds print_row_requires add_k loop_less loop_again returns)

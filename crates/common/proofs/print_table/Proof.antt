@@ -5,39 +5,39 @@ use lib.Seq.{length-take-le}
 use Rattle.common.proofs.print_table.Statement.{statement}
 use Rattle.common.proofs.print_table.Tie as tie
 
-head-requires : tie.Need-head-requires
-head-requires c κs = search rules
+head_requires : tie.Need-head-requires
+head_requires c κs = search rules
 
-array-share-prefix-bytes : tie.Need-array-share-prefix-bytes
-array-share-prefix-bytes c = search rules
+array_share_prefix_bytes : tie.Need-array-share-prefix-bytes
+array_share_prefix_bytes c = search rules
 
-slice-aggregate-write-all : tie.Need-slice-aggregate-write-all
-slice-aggregate-write-all c = sym (length-take-le _ _ c.before.before.before.before.before.before.head.ensures.text.fits)
+slice_aggregate_write_all : tie.Need-slice-aggregate-write-all
+slice_aggregate_write_all c = sym (length-take-le _ _ c.before.before.before.before.before.before.head.ensures.text.fits)
 
-write-all-requires : tie.Need-write-all-requires
-write-all-requires c κs = search rules
+write_all_requires : tie.Need-write-all-requires
+write_all_requires c κs = search rules
 
-print-rows-requires : tie.Need-print-rows-requires
-print-rows-requires c κs = search rules
+print_rows_requires : tie.Need-print-rows-requires
+print_rows_requires c κs = search rules
 
 same_length : tie.Need-same-length
 same_length c = search rules
 
-same-length-2 : tie.Need-same-length-2
-same-length-2 c = search rules
+same_length_2 : tie.Need-same-length-2
+same_length_2 c = search rules
 
 returns : tie.Need-returns
 returns c = search rules
 
-pub print-table-spec : {M : Type 1} → statement M
-print-table-spec =
+pub print_table_spec : {M : Type 1} → statement M
+print_table_spec =
     tie.close
     (tie.spec
-    head-requires
-    array-share-prefix-bytes
-    slice-aggregate-write-all
-    write-all-requires
-    print-rows-requires
+    head_requires
+    array_share_prefix_bytes
+    slice_aggregate_write_all
+    write_all_requires
+    print_rows_requires
     same_length
-    same-length-2
+    same_length_2
     returns)

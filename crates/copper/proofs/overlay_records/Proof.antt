@@ -4,51 +4,51 @@ use mathlib.Core.Path.{ap}
 use native.Mathlib.Omega.{arith}
 use borrow.Author.Rules.{rules}
 use lib.ListN.{length}
-use Rattle.copper.proofs.TableLaws.{Laid, none-laid, one-laid, all_laid, record-fits}
+use Rattle.copper.proofs.TableLaws.{Laid, none_laid, one_laid, all_laid, record_fits}
 use Rattle.copper.proofs.overlay_records.Statement.{statement}
 use Rattle.copper.proofs.overlay_records.Tie as tie
 
-abbrev invariant-loop : tie.invariant-loop
-invariant-loop table₀ buffer height width layouts k₀ table k = Laid height width layouts buffer table₀ table k
+abbrev invariant_loop : tie.invariant_loop
+invariant_loop table₀ buffer height width layouts k₀ table k = Laid height width layouts buffer table₀ table k
 
-abbrev decreases-loop : tie.decreases-loop
-decreases-loop table₀ buffer height width layouts k₀ table k = layouts - k
+abbrev decreases_loop : tie.decreases_loop
+decreases_loop table₀ buffer height width layouts k₀ table k = layouts - k
 
-loop-holds : tie.Need-loop-init invariant-loop decreases-loop
-loop-holds c = none-laid _ _ _ _ _
+loop_holds : tie.Need-loop-init invariant_loop decreases_loop
+loop_holds c = none_laid _ _ _ _ _
 
-record-at-requires : tie.Need-record-at-requires invariant-loop decreases-loop
-record-at-requires c κs = search rules
+record_at_requires : tie.Need-record-at-requires invariant_loop decreases_loop
+record_at_requires c κs = search rules
 
-overlay-requires : tie.Need-overlay-requires invariant-loop decreases-loop
-overlay-requires c κs = omega (arith, ap length c.before.record-at.ensures, record-fits c.before.before.before.before.before.before.args.height c.before.before.before.before.before.before.args.width c.before.before.before.before.before.before.args.layouts c.before.before.before.loop.k c.before.before.before.before.before.before.args.buffer.now, c.before.before.before.loop.invariant.same_length, c.before.before.before.before.before.before.requires)
+overlay_requires : tie.Need-overlay-requires invariant_loop decreases_loop
+overlay_requires c κs = omega (arith, ap length c.before.record_at.ensures, record_fits c.before.before.before.before.before.before.args.height c.before.before.before.before.before.before.args.width c.before.before.before.before.before.before.args.layouts c.before.before.before.loop.k c.before.before.before.before.before.before.args.buffer.now, c.before.before.before.loop.invariant.same_length, c.before.before.before.before.before.before.requires)
 
-add-k : tie.Need-overflow-add-k invariant-loop decreases-loop
-add-k c = omega arith
+add_k : tie.Need-overflow-add-k invariant_loop decreases_loop
+add_k c = omega arith
 
-loop-less : tie.Need-loop-smaller invariant-loop decreases-loop
-loop-less c = omega arith
+loop_less : tie.Need-loop-smaller invariant_loop decreases_loop
+loop_less c = omega arith
 
-loop-again : tie.Need-loop-preserved invariant-loop decreases-loop
-loop-again c = one-laid _ _ _ _ _ c.before.before.before.before.before.loop-test.true c.before.before.before.before.before.before.loop.invariant _ c.before.before.before.before.record-at.ensures _ c.before.before.overlay.ensures
+loop_again : tie.Need-loop-preserved invariant_loop decreases_loop
+loop_again c = one_laid _ _ _ _ _ c.before.before.before.before.before.loop-test.true c.before.before.before.before.before.before.loop.invariant _ c.before.before.before.before.record_at.ensures _ c.before.before.overlay.ensures
 
-same_length : tie.Need-same-length invariant-loop decreases-loop
+same_length : tie.Need-same-length invariant_loop decreases_loop
 same_length c = c.before.loop.invariant.same_length
 
-returns : tie.Need-returns invariant-loop decreases-loop
+returns : tie.Need-returns invariant_loop decreases_loop
 returns c = all_laid _ _ _ _ _ c.loop-test.false c.before.loop.invariant
 
-pub overlay-records-spec : {M : Type 1} → statement M
-overlay-records-spec =
+pub overlay_records_spec : {M : Type 1} → statement M
+overlay_records_spec =
     tie.close
     (tie.spec
-    invariant-loop
-    decreases-loop
-    loop-holds
-    record-at-requires
-    overlay-requires
-    add-k
-    loop-less
-    loop-again
+    invariant_loop
+    decreases_loop
+    loop_holds
+    record_at_requires
+    overlay_requires
+    add_k
+    loop_less
+    loop_again
     same_length
     returns)

@@ -1,34 +1,34 @@
 -- A line, or none at the slot of the edge, as the choice says. Assumes nothing.
-use Rattle.boardview.specs.OneEdge.{decided-line, decided-none}
+use Rattle.boardview.specs.OneEdge.{decided_line, decided_none}
 use borrow.Author.Rules.{rules}
 use Rattle.decision.proofs.decide_right.Statement.{statement}
 use Rattle.decision.proofs.decide_right.Tie as tie
 
-decide-line-right-requires : tie.Need-decide-line-right-requires
-decide-line-right-requires c κs = search rules
+decide_line_right_requires : tie.Need-decide-line-right-requires
+decide_line_right_requires c κs = search rules
 
 returns : tie.Need-returns
-returns c = decided-line _ _ _ _ _ c.before.before.before.before.if1.true c.decide-line-right.ensures
+returns c = decided_line _ _ _ _ _ c.before.before.before.before.if1.true c.decide-line-right.ensures
 
-mul-decide-none : tie.Need-overflow-mul-decide-none
-mul-decide-none c = search rules
+mul_decide_none : tie.Need-overflow-mul-decide-none
+mul_decide_none c = search rules
 
-add-decide-none : tie.Need-overflow-add-decide-none
-add-decide-none c = search rules
+add_decide_none : tie.Need-overflow-add-decide-none
+add_decide_none c = search rules
 
-decide-none-requires : tie.Need-decide-none-requires
-decide-none-requires c κs = search rules
+decide_none_requires : tie.Need-decide-none-requires
+decide_none_requires c κs = search rules
 
-returns-2 : tie.Need-returns-2
-returns-2 c = decided-none _ _ _ _ _ c.before.before.before.before.if1.false c.before.before.before.before.before.requires.3 c.decide-none.ensures
+returns_2 : tie.Need-returns-2
+returns_2 c = decided_none _ _ _ _ _ c.before.before.before.before.if1.false c.before.before.before.before.before.requires.3 c.decide-none.ensures
 
-pub decide-right-spec : {M : Type 1} → statement M
-decide-right-spec =
+pub decide_right_spec : {M : Type 1} → statement M
+decide_right_spec =
     tie.close
     (tie.spec
-    decide-line-right-requires
+    decide_line_right_requires
     returns
-    mul-decide-none
-    add-decide-none
-    decide-none-requires
-    returns-2)
+    mul_decide_none
+    add_decide_none
+    decide_none_requires
+    returns_2)

@@ -3,11 +3,11 @@ use borrow.Author.Rules.{rules}
 use Rattle.engines.proofs.compare_cells.Statement.{statement}
 use Rattle.engines.proofs.compare_cells.Tie as tie
 
-put-cells-requires : tie.Need-put-cells-requires
-put-cells-requires c κs = search rules
+put_cells_requires : tie.Need-put-cells-requires
+put_cells_requires c κs = search rules
 
-compare-requires : tie.Need-compare-requires
-compare-requires c κs = search rules
+compare_requires : tie.Need-compare-requires
+compare_requires c κs = search rules
 
 same_length : tie.Need-same-length
 same_length c = search rules
@@ -15,5 +15,5 @@ same_length c = search rules
 returns : tie.Need-returns
 returns c = rw c.before.before.before.put-cells.ensures at c.compare.ensures
 
-pub compare-cells-spec : {M : Type 1} → statement M
-compare-cells-spec = tie.close (tie.spec put-cells-requires compare-requires same_length returns)
+pub compare_cells_spec : {M : Type 1} → statement M
+compare_cells_spec = tie.close (tie.spec put_cells_requires compare_requires same_length returns)

@@ -8,23 +8,23 @@ use native.Mathlib.Omega.{arith}
 use Rattle.engines.proofs.compare_kinds.Statement.{statement}
 use Rattle.engines.proofs.compare_kinds.Tie as tie
 
-array-borrow-prefix-cells : tie.Need-array-borrow-prefix-cells
-array-borrow-prefix-cells c = search rules
+array_borrow_prefix_cells : tie.Need-array-borrow-prefix-cells
+array_borrow_prefix_cells c = search rules
 
-slice-aggregate-compare-cells : tie.Need-slice-aggregate-compare-cells
-slice-aggregate-compare-cells c = sym (length-take-le _ _ (let k = length-replicate 9 (pos 0) in omega (arith, c.before.before.requires)))
+slice_aggregate_compare_cells : tie.Need-slice-aggregate-compare-cells
+slice_aggregate_compare_cells c = sym (length-take-le _ _ (let k = length-replicate 9 (pos 0) in omega (arith, c.before.before.requires)))
 
-compare-cells-requires : tie.Need-compare-cells-requires
-compare-cells-requires c κs = length-take-le _ _ (let k = length-replicate 9 (pos 0) in omega (arith, c.before.before.requires))
+compare_cells_requires : tie.Need-compare-cells-requires
+compare_cells_requires c κs = length-take-le _ _ (let k = length-replicate 9 (pos 0) in omega (arith, c.before.before.requires))
 
 returns : tie.Need-returns
 returns c = search rules
 
-pub compare-kinds-spec : {M : Type 1} → statement M
-compare-kinds-spec =
+pub compare_kinds_spec : {M : Type 1} → statement M
+compare_kinds_spec =
     tie.close
     (tie.spec
-    array-borrow-prefix-cells
-    slice-aggregate-compare-cells
-    compare-cells-requires
+    array_borrow_prefix_cells
+    slice_aggregate_compare_cells
+    compare_cells_requires
     returns)

@@ -1,47 +1,47 @@
 -- `grid::grid_refusal` meets its contract: each return is one line of the definition. Assumes nothing.
 use native.Mathlib.Omega.{arith}
-use Rattle.grid.proofs.Cells.{not-a-size, a-size, says-7-height, says-7-width, product-fits, says-8, says-9, says-0}
+use Rattle.grid.proofs.Cells.{not_a_size, a_size, says_7_height, says_7_width, product_fits, says_8, says_9, says_0}
 use borrow.Author.Rules.{rules}
 use Rattle.grid.proofs.grid_refusal.Statement.{statement}
 use Rattle.grid.proofs.grid_refusal.Tie as tie
 
-is-size-requires : tie.Need-is-size-requires
-is-size-requires c κs = search rules
+is_size_requires : tie.Need-is-size-requires
+is_size_requires c κs = search rules
 
 returns : tie.Need-returns
-returns c = says-7-height _ _ _ (not-a-size _ c.before.is-size.ensures c.if1.true)
+returns c = says_7_height _ _ _ (not_a_size _ c.before.is_size.ensures c.if1.true)
 
-is-size-requires-2 : tie.Need-is-size-requires-2
-is-size-requires-2 c κs = search rules
+is_size_requires_2 : tie.Need-is-size-requires-2
+is_size_requires_2 c κs = search rules
 
-returns-2 : tie.Need-returns-2
-returns-2 c = says-7-width _ _ _ (a-size _ c.before.before.before.is-size.ensures c.before.before.if1.false) (not-a-size _ c.before.is-size2.ensures c.if2.true)
+returns_2 : tie.Need-returns-2
+returns_2 c = says_7_width _ _ _ (a_size _ c.before.before.before.is_size.ensures c.before.before.if1.false) (not_a_size _ c.before.is-size2.ensures c.if2.true)
 
-mul-if3 : tie.Need-overflow-mul-if3
-mul-if3 c = omega (arith, product-fits _ _ c.before.before.before.before.args.cells.now (a-size _ c.before.before.before.is-size.ensures c.before.before.if1.false) (a-size _ c.before.is-size2.ensures c.if2.false))
+mul_if3 : tie.Need-overflow-mul-if3
+mul_if3 c = omega (arith, product_fits _ _ c.before.before.before.before.args.cells.now (a_size _ c.before.before.before.is_size.ensures c.before.before.if1.false) (a_size _ c.before.is-size2.ensures c.if2.false))
 
-returns-3 : tie.Need-returns-3
-returns-3 c = says-8 _ _ _ (a-size _ c.before.before.before.before.is-size.ensures c.before.before.before.if1.false) (a-size _ c.before.before.is-size2.ensures c.before.if2.false) c.if3.true
+returns_3 : tie.Need-returns-3
+returns_3 c = says_8 _ _ _ (a_size _ c.before.before.before.before.is_size.ensures c.before.before.before.if1.false) (a_size _ c.before.before.is-size2.ensures c.before.if2.false) c.if3.true
 
-first-bad-cell-requires : tie.Need-first-bad-cell-requires
-first-bad-cell-requires c κs = search rules
+first_bad_cell_requires : tie.Need-first-bad-cell-requires
+first_bad_cell_requires c κs = search rules
 
-returns-4 : tie.Need-returns-4
-returns-4 c = says-9 _ _ _ (a-size _ c.before.before.before.before.before.before.is-size.ensures c.before.before.before.before.before.if1.false) (a-size _ c.before.before.before.before.is-size2.ensures c.before.before.before.if2.false) c.before.before.if3.false _ c.before.first-bad-cell.ensures c.if4.true
+returns_4 : tie.Need-returns-4
+returns_4 c = says_9 _ _ _ (a_size _ c.before.before.before.before.before.before.is_size.ensures c.before.before.before.before.before.if1.false) (a_size _ c.before.before.before.before.is-size2.ensures c.before.before.before.if2.false) c.before.before.if3.false _ c.before.first_bad_cell.ensures c.if4.true
 
-returns-5 : tie.Need-returns-5
-returns-5 c = says-0 _ _ _ (a-size _ c.before.before.before.before.before.before.is-size.ensures c.before.before.before.before.before.if1.false) (a-size _ c.before.before.before.before.is-size2.ensures c.before.before.before.if2.false) c.before.before.if3.false _ c.before.first-bad-cell.ensures c.if4.false
+returns_5 : tie.Need-returns-5
+returns_5 c = says_0 _ _ _ (a_size _ c.before.before.before.before.before.before.is_size.ensures c.before.before.before.before.before.if1.false) (a_size _ c.before.before.before.before.is-size2.ensures c.before.before.before.if2.false) c.before.before.if3.false _ c.before.first_bad_cell.ensures c.if4.false
 
-pub grid-refusal-spec : {M : Type 1} → statement M
-grid-refusal-spec =
+pub grid_refusal_spec : {M : Type 1} → statement M
+grid_refusal_spec =
     tie.close
     (tie.spec
-    is-size-requires
+    is_size_requires
     returns
-    is-size-requires-2
-    returns-2
-    mul-if3
-    returns-3
-    first-bad-cell-requires
-    returns-4
-    returns-5)
+    is_size_requires_2
+    returns_2
+    mul_if3
+    returns_3
+    first_bad_cell_requires
+    returns_4
+    returns_5)

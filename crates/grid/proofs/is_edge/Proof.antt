@@ -1,5 +1,5 @@
 -- `grid::is_edge` meets its contract, case by case. Assumes nothing.
-use Rattle.grid.specs.PadsAt.{place_of, has-edge}
+use Rattle.grid.specs.PadsAt.{place_of, has_edge}
 use borrow.Author.Rules.{rules}
 use Rattle.grid.proofs.is_edge.Statement.{statement}
 use Rattle.grid.proofs.is_edge.Tie as tie
@@ -7,23 +7,23 @@ use Rattle.grid.proofs.is_edge.Tie as tie
 enum_told : tie.Need-enum-told
 enum_told c = search rules
 
-enum-told-2 : tie.Need-enum-told-2
-enum-told-2 c = search rules
+enum_told_2 : tie.Need-enum-told-2
+enum_told_2 c = search rules
 
-enum-told-3 : tie.Need-enum-told-3
-enum-told-3 c = search rules
+enum_told_3 : tie.Need-enum-told-3
+enum_told_3 c = search rules
 
 returns : tie.Need-returns
-unfolding place_of has-edge
+unfolding place_of has_edge
 returns c = rw c.enum_told.given.1
 
-returns-2 : tie.Need-returns-2
-unfolding place_of has-edge
-returns-2 c = rw c.enum-told2.given.1
+returns_2 : tie.Need-returns-2
+unfolding place_of has_edge
+returns_2 c = rw c.enum-told2.given.1
 
-returns-3 : tie.Need-returns-3
-unfolding place_of has-edge
-returns-3 c = rw c.enum-told3.given.1
+returns_3 : tie.Need-returns-3
+unfolding place_of has_edge
+returns_3 c = rw c.enum-told3.given.1
 
-pub is-edge-spec : {M : Type 1} → statement M
-is-edge-spec = tie.close (tie.spec enum_told enum-told-2 enum-told-3 returns returns-2 returns-3)
+pub is_edge_spec : {M : Type 1} → statement M
+is_edge_spec = tie.close (tie.spec enum_told enum_told_2 enum_told_3 returns returns_2 returns_3)

@@ -3,11 +3,11 @@ use borrow.Author.Rules.{rules}
 use Rattle.gridfile.proofs.declined.Statement.{statement}
 use Rattle.gridfile.proofs.declined.Tie as tie
 
-no-cells-requires : tie.Need-no-cells-requires
-no-cells-requires c κs = search rules
+no_cells_requires : tie.Need-no-cells-requires
+no_cells_requires c κs = search rules
 
 returns : tie.Need-returns
 returns c = rw c.no_cells.ensures
 
-pub declined-spec : {M : Type 1} → statement M
-declined-spec = tie.close (tie.spec no-cells-requires returns)
+pub declined_spec : {M : Type 1} → statement M
+declined_spec = tie.close (tie.spec no_cells_requires returns)

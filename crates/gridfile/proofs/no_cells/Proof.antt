@@ -8,5 +8,5 @@ returns : tie.Need-returns
 unfolding blank no_cells
 returns c = refl
 
-pub no-cells-spec : {M : Type 1} → statement M
-no-cells-spec = tie.close (tie.spec returns)
+pub no_cells_spec : {M : Type 1} → statement M
+no_cells_spec = tie.close (tie.spec returns)

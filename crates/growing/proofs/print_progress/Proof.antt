@@ -5,27 +5,27 @@ use lib.Seq.{length-take-le}
 use Rattle.growing.proofs.print_progress.Statement.{statement}
 use Rattle.growing.proofs.print_progress.Tie as tie
 
-progress-line-requires : tie.Need-progress-line-requires
-progress-line-requires c κs = search rules
+progress_line_requires : tie.Need-progress-line-requires
+progress_line_requires c κs = search rules
 
-array-share-prefix-bytes : tie.Need-array-share-prefix-bytes
-array-share-prefix-bytes c = search rules
+array_share_prefix_bytes : tie.Need-array-share-prefix-bytes
+array_share_prefix_bytes c = search rules
 
-slice-aggregate-write-all : tie.Need-slice-aggregate-write-all
-slice-aggregate-write-all c = sym (length-take-le _ _ c.before.before.progress-line.ensures.fits)
+slice_aggregate_write_all : tie.Need-slice-aggregate-write-all
+slice_aggregate_write_all c = sym (length-take-le _ _ c.before.before.progress_line.ensures.fits)
 
-write-all-requires : tie.Need-write-all-requires
-write-all-requires c κs = search rules
+write_all_requires : tie.Need-write-all-requires
+write_all_requires c κs = search rules
 
 returns : tie.Need-returns
 returns c = search rules
 
-pub print-progress-spec : {M : Type 1} → statement M
-print-progress-spec =
+pub print_progress_spec : {M : Type 1} → statement M
+print_progress_spec =
     tie.close
     (tie.spec
-    progress-line-requires
-    array-share-prefix-bytes
-    slice-aggregate-write-all
-    write-all-requires
+    progress_line_requires
+    array_share_prefix_bytes
+    slice_aggregate_write_all
+    write_all_requires
     returns)

@@ -1,54 +1,54 @@
 -- `hunekowha::called` meets its contract: which call it is, by its kind. Assumes nothing.
-use Rattle.hunekowha.proofs.CallLaws.{says-decision, says-reading, says-checkpoint, says-undo, says-fresh}
+use Rattle.hunekowha.proofs.CallLaws.{says_decision, says_reading, says_checkpoint, says_undo, says_fresh}
 use borrow.Author.Rules.{rules}
 use Rattle.hunekowha.proofs.called.Statement.{statement}
 use Rattle.hunekowha.proofs.called.Tie as tie
 
-edge-of-requires : tie.Need-edge-of-requires
-edge-of-requires c κs = search rules
+edge_of_requires : tie.Need-edge-of-requires
+edge_of_requires c κs = search rules
 
-decide-edge-requires : tie.Need-decide-edge-requires
-decide-edge-requires c κs = search rules
+decide_edge_requires : tie.Need-decide-edge-requires
+decide_edge_requires c κs = search rules
 
 returns : tie.Need-returns
-returns c = λ B held. says-decision _ B _ _ _ _ c.before.before.if1.true c.before.edge_of.ensures (c.decide-edge.ensures B held)
+returns c = λ B held. says_decision _ B _ _ _ _ c.before.before.if1.true c.before.edge_of.ensures (c.decide_edge.ensures B held)
 
-get-edge-requires : tie.Need-get-edge-requires
-get-edge-requires c κs = search rules
+get_edge_requires : tie.Need-get-edge-requires
+get_edge_requires c κs = search rules
 
-returns-2 : tie.Need-returns-2
-returns-2 c = λ B held. says-reading _ B _ _ _ _ c.before.before.if1.false c.before.if2.true (c.get-edge.ensures B held)
+returns_2 : tie.Need-returns-2
+returns_2 c = λ B held. says_reading _ B _ _ _ _ c.before.before.if1.false c.before.if2.true (c.get-edge.ensures B held)
 
-add-checkpoint-requires : tie.Need-add-checkpoint-requires
-add-checkpoint-requires c κs = search rules
+add_checkpoint_requires : tie.Need-add-checkpoint-requires
+add_checkpoint_requires c κs = search rules
 
-returns-3 : tie.Need-returns-3
-returns-3 c = λ B held. says-checkpoint _ B _ _ _ _ c.before.before.before.if1.false c.before.before.if2.false c.before.if3.true (c.add-checkpoint.ensures B held)
+returns_3 : tie.Need-returns-3
+returns_3 c = λ B held. says_checkpoint _ B _ _ _ _ c.before.before.before.if1.false c.before.before.if2.false c.before.if3.true (c.add_checkpoint.ensures B held)
 
-undo-requires : tie.Need-undo-requires
-undo-requires c κs = search rules
+undo_requires : tie.Need-undo-requires
+undo_requires c κs = search rules
 
-returns-4 : tie.Need-returns-4
-returns-4 c = λ B held. says-undo _ B _ _ _ _ c.before.before.before.before.if1.false c.before.before.before.if2.false c.before.before.if3.false c.before.if4.true (c.undo.ensures B held)
+returns_4 : tie.Need-returns-4
+returns_4 c = λ B held. says_undo _ B _ _ _ _ c.before.before.before.before.if1.false c.before.before.before.if2.false c.before.before.if3.false c.before.if4.true (c.undo.ensures B held)
 
-new-requires : tie.Need-new-requires
-new-requires c κs = search rules
+new_requires : tie.Need-new-requires
+new_requires c κs = search rules
 
-returns-5 : tie.Need-returns-5
-returns-5 c = λ B held. says-fresh _ B _ _ _ _ c.before.before.before.before.if1.false c.before.before.before.if2.false c.before.before.if3.false c.before.if4.false c.new.ensures
+returns_5 : tie.Need-returns-5
+returns_5 c = λ B held. says_fresh _ B _ _ _ _ c.before.before.before.before.if1.false c.before.before.before.if2.false c.before.before.if3.false c.before.if4.false c.new.ensures
 
-pub called-spec : {M : Type 1} → statement M
-called-spec =
+pub called_spec : {M : Type 1} → statement M
+called_spec =
     tie.close
     (tie.spec
-    edge-of-requires
-    decide-edge-requires
+    edge_of_requires
+    decide_edge_requires
     returns
-    get-edge-requires
-    returns-2
-    add-checkpoint-requires
-    returns-3
-    undo-requires
-    returns-4
-    new-requires
-    returns-5)
+    get_edge_requires
+    returns_2
+    add_checkpoint_requires
+    returns_3
+    undo_requires
+    returns_4
+    new_requires
+    returns_5)

@@ -1,17 +1,17 @@
 -- `hunekowha::edge_of` meets its contract. Assumes nothing.
-use Rattle.hunekowha.proofs.CallLaws.{asked-byte, asked-large}
+use Rattle.hunekowha.proofs.CallLaws.{asked_byte, asked_large}
 use borrow.Author.Rules.{rules}
 use Rattle.hunekowha.proofs.edge_of.Statement.{statement}
 use Rattle.hunekowha.proofs.edge_of.Tie as tie
 
-cast-t3 : tie.Need-overflow-cast-t3
-cast-t3 c = search rules
+cast_t3 : tie.Need-overflow-cast-t3
+cast_t3 c = search rules
 
 returns : tie.Need-returns
-returns c = asked-byte _ c.if1.true
+returns c = asked_byte _ c.if1.true
 
-returns-2 : tie.Need-returns-2
-returns-2 c = asked-large _ c.if1.false
+returns_2 : tie.Need-returns-2
+returns_2 c = asked_large _ c.if1.false
 
-pub edge-of-spec : {M : Type 1} → statement M
-edge-of-spec = tie.close (tie.spec cast-t3 returns returns-2)
+pub edge_of_spec : {M : Type 1} → statement M
+edge_of_spec = tie.close (tie.spec cast_t3 returns returns_2)

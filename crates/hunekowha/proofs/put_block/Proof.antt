@@ -1,7 +1,7 @@
 -- `hunekowha::put_block` meets its contract: head, edges and ends are put one behind the other. Assumes nothing.
 use Rattle.rules.specs.Drawing.{num}
-use Rattle.hunekowha.proofs.Blocks.{size-shown, room_for_edges, room-for-ends, block_written}
-use Rattle.board.specs.Sizes.{in-range, few-places, few-pads}
+use Rattle.hunekowha.proofs.Blocks.{size_shown, room_for_edges, room_for_ends, block_written}
+use Rattle.board.specs.Sizes.{in_range, few_places, few_pads}
 use lib.Seq.{length-take-le}
 use lib.ListN.{length}
 use native.Mathlib.Omega.{arith}
@@ -10,95 +10,95 @@ use borrow.Author.Rules.{rules}
 use Rattle.hunekowha.proofs.put_block.Statement.{statement}
 use Rattle.hunekowha.proofs.put_block.Tie as tie
 
-shown-requires : tie.Need-shown-requires
-shown-requires c κs = search rules
+shown_requires : tie.Need-shown-requires
+shown_requires c κs = search rules
 
-mul-places : tie.Need-overflow-mul-places
-mul-places c = omega (arith, (in-range c.before.before.requires.said.board (c.shown.ensures _ c.before.before.requires.said.board)).largest-height)
+mul_places : tie.Need-overflow-mul-places
+mul_places c = omega (arith, (in_range c.before.before.requires.said.board (c.shown.ensures _ c.before.before.requires.said.board)).largest_height)
 
-sub-places : tie.Need-overflow-sub-places
-sub-places c = omega (arith, (in-range c.before.before.requires.said.board (c.shown.ensures _ c.before.before.requires.said.board)).least-height)
+sub_places : tie.Need-overflow-sub-places
+sub_places c = omega (arith, (in_range c.before.before.requires.said.board (c.shown.ensures _ c.before.before.requires.said.board)).least_height)
 
-mul-places-2 : tie.Need-overflow-mul-places-2
-mul-places-2 c = omega (arith, (in-range c.before.before.requires.said.board (c.shown.ensures _ c.before.before.requires.said.board)).largest-width)
+mul_places_2 : tie.Need-overflow-mul-places-2
+mul_places_2 c = omega (arith, (in_range c.before.before.requires.said.board (c.shown.ensures _ c.before.before.requires.said.board)).largest_width)
 
-sub-places-2 : tie.Need-overflow-sub-places-2
-sub-places-2 c = omega (arith, (in-range c.before.before.requires.said.board (c.shown.ensures _ c.before.before.requires.said.board)).least-width)
+sub_places_2 : tie.Need-overflow-sub-places-2
+sub_places_2 c = omega (arith, (in_range c.before.before.requires.said.board (c.shown.ensures _ c.before.before.requires.said.board)).least_width)
 
-mul-places-3 : tie.Need-overflow-mul-places-3
-mul-places-3 c = omega (arith, few-places (in-range c.before.before.requires.said.board (c.shown.ensures _ c.before.before.requires.said.board)))
+mul_places_3 : tie.Need-overflow-mul-places-3
+mul_places_3 c = omega (arith, few_places (in_range c.before.before.requires.said.board (c.shown.ensures _ c.before.before.requires.said.board)))
 
-cast-t17 : tie.Need-overflow-cast-t17
-cast-t17 c = search rules
+cast_t17 : tie.Need-overflow-cast-t17
+cast_t17 c = search rules
 
-cast-t18 : tie.Need-overflow-cast-t18
-cast-t18 c = search rules
+cast_t18 : tie.Need-overflow-cast-t18
+cast_t18 c = search rules
 
-slice-aggregate-put-bytes : tie.Need-slice-aggregate-put-bytes
-slice-aggregate-put-bytes c = search rules
+slice_aggregate_put_bytes : tie.Need-slice-aggregate-put-bytes
+slice_aggregate_put_bytes c = search rules
 
-put-bytes-requires : tie.Need-put-bytes-requires
-put-bytes-requires c κs = search rules
+put_bytes_requires : tie.Need-put-bytes-requires
+put_bytes_requires c κs = search rules
 
-add-put-bytes : tie.Need-overflow-add-put-bytes
-add-put-bytes c = search rules
+add_put_bytes : tie.Need-overflow-add-put-bytes
+add_put_bytes c = search rules
 
-array-share-prefix-edges : tie.Need-array-share-prefix-edges
-array-share-prefix-edges c = let long : length c.before.before.before.before.before.before.before.before.shown.result.edges ≡ 961 = search rules in omega (arith, few-places (in-range c.before.before.before.before.before.before.before.before.before.before.requires.said.board (c.before.before.before.before.before.before.before.before.shown.ensures _ c.before.before.before.before.before.before.before.before.before.before.requires.said.board)))
+array_share_prefix_edges : tie.Need-array-share-prefix-edges
+array_share_prefix_edges c = let long : length c.before.before.before.before.before.before.before.before.shown.result.edges ≡ 961 = search rules in omega (arith, few_places (in_range c.before.before.before.before.before.before.before.before.before.before.requires.said.board (c.before.before.before.before.before.before.before.before.shown.ensures _ c.before.before.before.before.before.before.before.before.before.before.requires.said.board)))
 
-slice-aggregate-put-bytes-2 : tie.Need-slice-aggregate-put-bytes-2
-slice-aggregate-put-bytes-2 c = let long : length c.before.before.before.before.before.before.before.before.before.shown.result.edges ≡ 961 = search rules in sym (length-take-le _ _ (omega (arith, few-places (in-range c.before.before.before.before.before.before.before.before.before.before.before.requires.said.board (c.before.before.before.before.before.before.before.before.before.shown.ensures _ c.before.before.before.before.before.before.before.before.before.before.before.requires.said.board)))))
+slice_aggregate_put_bytes_2 : tie.Need-slice-aggregate-put-bytes-2
+slice_aggregate_put_bytes_2 c = let long : length c.before.before.before.before.before.before.before.before.before.shown.result.edges ≡ 961 = search rules in sym (length-take-le _ _ (omega (arith, few_places (in_range c.before.before.before.before.before.before.before.before.before.before.before.requires.said.board (c.before.before.before.before.before.before.before.before.before.shown.ensures _ c.before.before.before.before.before.before.before.before.before.before.before.requires.said.board)))))
 
-put-bytes-requires-2 : tie.Need-put-bytes-requires-2
-put-bytes-requires-2 c κs = room_for_edges _ _ c.before.before.before.before.before.before.before.before.before.before.before.requires.says _ (c.before.before.before.before.before.before.before.before.before.shown.ensures _ c.before.before.before.before.before.before.before.before.before.before.before.requires.said.board) c.before.before.before.before.before.before.before.before.before.before.before.requires.fits _ _ _ _ c.before.before.before.put-bytes.ensures
+put_bytes_requires_2 : tie.Need-put-bytes-requires-2
+put_bytes_requires_2 c κs = room_for_edges _ _ c.before.before.before.before.before.before.before.before.before.before.before.requires.says _ (c.before.before.before.before.before.before.before.before.before.shown.ensures _ c.before.before.before.before.before.before.before.before.before.before.before.requires.said.board) c.before.before.before.before.before.before.before.before.before.before.before.requires.fits _ _ _ _ c.before.before.before.put_bytes.ensures
 
-add-put-signed : tie.Need-overflow-add-put-signed
-add-put-signed c = search rules
+add_put_signed : tie.Need-overflow-add-put-signed
+add_put_signed c = search rules
 
-add-put-signed-2 : tie.Need-overflow-add-put-signed-2
-add-put-signed-2 c = omega (arith, few-places (in-range c.before.before.before.before.before.before.before.before.before.before.before.before.before.before.requires.said.board (c.before.before.before.before.before.before.before.before.before.before.before.before.shown.ensures _ c.before.before.before.before.before.before.before.before.before.before.before.before.before.before.requires.said.board)), c.before.before.before.before.before.before.before.before.before.before.before.before.before.before.requires.fits)
+add_put_signed_2 : tie.Need-overflow-add-put-signed-2
+add_put_signed_2 c = omega (arith, few_places (in_range c.before.before.before.before.before.before.before.before.before.before.before.before.before.before.requires.said.board (c.before.before.before.before.before.before.before.before.before.before.before.before.shown.ensures _ c.before.before.before.before.before.before.before.before.before.before.before.before.before.before.requires.said.board)), c.before.before.before.before.before.before.before.before.before.before.before.before.before.before.requires.fits)
 
-mul-ends : tie.Need-overflow-mul-ends
-mul-ends c = omega (arith, few-pads (in-range c.before.before.before.before.before.before.before.before.before.before.before.before.before.before.requires.said.board (c.before.before.before.before.before.before.before.before.before.before.before.before.shown.ensures _ c.before.before.before.before.before.before.before.before.before.before.before.before.before.before.requires.said.board)))
+mul_ends : tie.Need-overflow-mul-ends
+mul_ends c = omega (arith, few_pads (in_range c.before.before.before.before.before.before.before.before.before.before.before.before.before.before.requires.said.board (c.before.before.before.before.before.before.before.before.before.before.before.before.shown.ensures _ c.before.before.before.before.before.before.before.before.before.before.before.before.before.before.requires.said.board)))
 
-array-share-prefix-ends : tie.Need-array-share-prefix-ends
-array-share-prefix-ends c = let long : length c.before.before.before.before.before.before.before.before.before.before.before.before.shown.result.ends ≡ 256 = search rules in omega (arith, few-pads (in-range c.before.before.before.before.before.before.before.before.before.before.before.before.before.before.requires.said.board (c.before.before.before.before.before.before.before.before.before.before.before.before.shown.ensures _ c.before.before.before.before.before.before.before.before.before.before.before.before.before.before.requires.said.board)))
+array_share_prefix_ends : tie.Need-array-share-prefix-ends
+array_share_prefix_ends c = let long : length c.before.before.before.before.before.before.before.before.before.before.before.before.shown.result.ends ≡ 256 = search rules in omega (arith, few_pads (in_range c.before.before.before.before.before.before.before.before.before.before.before.before.before.before.requires.said.board (c.before.before.before.before.before.before.before.before.before.before.before.before.shown.ensures _ c.before.before.before.before.before.before.before.before.before.before.before.before.before.before.requires.said.board)))
 
-slice-aggregate-put-signed : tie.Need-slice-aggregate-put-signed
-slice-aggregate-put-signed c = let long : length c.before.before.before.before.before.before.before.before.before.before.before.before.before.shown.result.ends ≡ 256 = search rules in sym (length-take-le _ _ (omega (arith, few-pads (in-range c.before.before.before.before.before.before.before.before.before.before.before.before.before.before.before.requires.said.board (c.before.before.before.before.before.before.before.before.before.before.before.before.before.shown.ensures _ c.before.before.before.before.before.before.before.before.before.before.before.before.before.before.before.requires.said.board)))))
+slice_aggregate_put_signed : tie.Need-slice-aggregate-put-signed
+slice_aggregate_put_signed c = let long : length c.before.before.before.before.before.before.before.before.before.before.before.before.before.shown.result.ends ≡ 256 = search rules in sym (length-take-le _ _ (omega (arith, few_pads (in_range c.before.before.before.before.before.before.before.before.before.before.before.before.before.before.before.requires.said.board (c.before.before.before.before.before.before.before.before.before.before.before.before.before.shown.ensures _ c.before.before.before.before.before.before.before.before.before.before.before.before.before.before.before.requires.said.board)))))
 
-put-signed-requires : tie.Need-put-signed-requires
-put-signed-requires c κs = room-for-ends _ _ c.before.before.before.before.before.before.before.before.before.before.before.before.before.before.before.requires.says _ (c.before.before.before.before.before.before.before.before.before.before.before.before.before.shown.ensures _ c.before.before.before.before.before.before.before.before.before.before.before.before.before.before.before.requires.said.board) c.before.before.before.before.before.before.before.before.before.before.before.before.before.before.before.requires.fits _ _ _ _ c.before.before.before.before.before.before.before.put-bytes.ensures _ c.before.before.before.put-bytes2.ensures
+put_signed_requires : tie.Need-put-signed-requires
+put_signed_requires c κs = room_for_ends _ _ c.before.before.before.before.before.before.before.before.before.before.before.before.before.before.before.requires.says _ (c.before.before.before.before.before.before.before.before.before.before.before.before.before.shown.ensures _ c.before.before.before.before.before.before.before.before.before.before.before.before.before.before.before.requires.said.board) c.before.before.before.before.before.before.before.before.before.before.before.before.before.before.before.requires.fits _ _ _ _ c.before.before.before.before.before.before.before.put_bytes.ensures _ c.before.before.before.put-bytes2.ensures
 
 same_length : tie.Need-same-length
 same_length c = search rules
 
 returns : tie.Need-returns
-returns c = λ A says. block_written _ _ A _ (c.before.before.before.before.before.before.before.before.before.before.before.before.before.before.before.shown.ensures _ says.board) (omega (arith, c.before.before.before.before.before.before.before.before.before.before.before.before.before.before.before.before.before.requires.fits, size-shown (c.before.before.before.before.before.before.before.before.before.before.before.before.before.before.before.shown.ensures _ c.before.before.before.before.before.before.before.before.before.before.before.before.before.before.before.before.before.requires.said.board), size-shown (c.before.before.before.before.before.before.before.before.before.before.before.before.before.before.before.shown.ensures _ says.board))) _ _ _ _ c.before.before.before.before.before.before.before.before.before.put-bytes.ensures _ c.before.before.before.before.before.put-bytes2.ensures says.number says.answer (ap num (c.before.before.before.before.before.before.before.before.before.before.before.before.before.before.before.shown.ensures _ says.board).flag) _ c.before.put-signed.ensures
+returns c = λ A says. block_written _ _ A _ (c.before.before.before.before.before.before.before.before.before.before.before.before.before.before.before.shown.ensures _ says.board) (omega (arith, c.before.before.before.before.before.before.before.before.before.before.before.before.before.before.before.before.before.requires.fits, size_shown (c.before.before.before.before.before.before.before.before.before.before.before.before.before.before.before.shown.ensures _ c.before.before.before.before.before.before.before.before.before.before.before.before.before.before.before.before.before.requires.said.board), size_shown (c.before.before.before.before.before.before.before.before.before.before.before.before.before.before.before.shown.ensures _ says.board))) _ _ _ _ c.before.before.before.before.before.before.before.before.before.put_bytes.ensures _ c.before.before.before.before.before.put-bytes2.ensures says.number says.answer (ap num (c.before.before.before.before.before.before.before.before.before.before.before.before.before.before.before.shown.ensures _ says.board).flag) _ c.before.put-signed.ensures
 
-pub put-block-spec : {M : Type 1} → statement M
-put-block-spec =
+pub put_block_spec : {M : Type 1} → statement M
+put_block_spec =
     tie.close
     (tie.spec
-    shown-requires
-    mul-places
-    sub-places
-    mul-places-2
-    sub-places-2
-    mul-places-3
-    cast-t17
-    cast-t18
-    slice-aggregate-put-bytes
-    put-bytes-requires
-    add-put-bytes
-    array-share-prefix-edges
-    slice-aggregate-put-bytes-2
-    put-bytes-requires-2
-    add-put-signed
-    add-put-signed-2
-    mul-ends
-    array-share-prefix-ends
-    slice-aggregate-put-signed
-    put-signed-requires
+    shown_requires
+    mul_places
+    sub_places
+    mul_places_2
+    sub_places_2
+    mul_places_3
+    cast_t17
+    cast_t18
+    slice_aggregate_put_bytes
+    put_bytes_requires
+    add_put_bytes
+    array_share_prefix_edges
+    slice_aggregate_put_bytes_2
+    put_bytes_requires_2
+    add_put_signed
+    add_put_signed_2
+    mul_ends
+    array_share_prefix_ends
+    slice_aggregate_put_signed
+    put_signed_requires
     same_length
     returns)

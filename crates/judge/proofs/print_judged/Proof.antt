@@ -5,27 +5,27 @@ use lib.Seq.{length-take-le}
 use Rattle.judge.proofs.print_judged.Statement.{statement}
 use Rattle.judge.proofs.print_judged.Tie as tie
 
-judged-requires : tie.Need-judged-requires
-judged-requires c κs = search rules
+judged_requires : tie.Need-judged-requires
+judged_requires c κs = search rules
 
-array-share-prefix-bytes : tie.Need-array-share-prefix-bytes
-array-share-prefix-bytes c = search rules
+array_share_prefix_bytes : tie.Need-array-share-prefix-bytes
+array_share_prefix_bytes c = search rules
 
-slice-aggregate-write-all : tie.Need-slice-aggregate-write-all
-slice-aggregate-write-all c = sym (length-take-le _ _ c.before.before.judged.ensures.fits)
+slice_aggregate_write_all : tie.Need-slice-aggregate-write-all
+slice_aggregate_write_all c = sym (length-take-le _ _ c.before.before.judged.ensures.fits)
 
-write-all-requires : tie.Need-write-all-requires
-write-all-requires c κs = search rules
+write_all_requires : tie.Need-write-all-requires
+write_all_requires c κs = search rules
 
 returns : tie.Need-returns
 returns c = search rules
 
-pub print-judged-spec : {M : Type 1} → statement M
-print-judged-spec =
+pub print_judged_spec : {M : Type 1} → statement M
+print_judged_spec =
     tie.close
     (tie.spec
-    judged-requires
-    array-share-prefix-bytes
-    slice-aggregate-write-all
-    write-all-requires
+    judged_requires
+    array_share_prefix_bytes
+    slice_aggregate_write_all
+    write_all_requires
     returns)

@@ -1,66 +1,66 @@
 -- `judging::left_corner_keeps` meets its contract, as the one to the right does. Assumes nothing.
 use native.Mathlib.Omega.{arith}
-use Rattle.judging.proofs.Drawn.{few-below, left-corner-inside, left-diagonal, left-diagonal-pad, no-corner-keeps, taken-keeps, same-corner-keeps}
+use Rattle.judging.proofs.Drawn.{few_below, left_corner_inside, left_diagonal, left_diagonal_pad, no_corner_keeps, taken_keeps, same_corner_keeps}
 use borrow.Author.Rules.{rules}
 use Rattle.judging.proofs.left_corner_keeps.Statement.{statement}
 use Rattle.judging.proofs.left_corner_keeps.Tie as tie
 
-left-corner-requires : tie.Need-left-corner-requires
-left-corner-requires c κs = search rules
+left_corner_requires : tie.Need-left-corner-requires
+left_corner_requires c κs = search rules
 
 returns : tie.Need-returns
-returns c = no-corner-keeps _ _ _ _ _ c.before.left-corner.ensures c.if1.true
+returns c = no_corner_keeps _ _ _ _ _ c.before.left_corner.ensures c.if1.true
 
-add-is-taken : tie.Need-overflow-add-is-taken
-add-is-taken c = search rules
+add_is_taken : tie.Need-overflow-add-is-taken
+add_is_taken c = search rules
 
-mul-is-taken : tie.Need-overflow-mul-is-taken
-mul-is-taken c = omega (arith, few-below _ _ _ c.before.before.before.requires.0)
+mul_is_taken : tie.Need-overflow-mul-is-taken
+mul_is_taken c = omega (arith, few_below _ _ _ c.before.before.before.requires.0)
 
-add-is-taken-2 : tie.Need-overflow-add-is-taken-2
-add-is-taken-2 c = omega (arith, few-below _ _ _ c.before.before.before.requires.0)
+add_is_taken_2 : tie.Need-overflow-add-is-taken-2
+add_is_taken_2 c = omega (arith, few_below _ _ _ c.before.before.before.requires.0)
 
-sub-is-taken : tie.Need-overflow-sub-is-taken
-sub-is-taken c = search rules
+sub_is_taken : tie.Need-overflow-sub-is-taken
+sub_is_taken c = search rules
 
-is-taken-requires : tie.Need-is-taken-requires
-is-taken-requires c κs = search rules
+is_taken_requires : tie.Need-is-taken-requires
+is_taken_requires c κs = search rules
 
-add-left-corner : tie.Need-overflow-add-left-corner
-add-left-corner c = search rules
+add_left_corner : tie.Need-overflow-add-left-corner
+add_left_corner c = search rules
 
-sub-left-corner : tie.Need-overflow-sub-left-corner
-sub-left-corner c = omega (arith, left-corner-inside _ _ _ c.before.before.before.before.before.requires.0 c.before.before.before.before.before.args.bytes.now c.before.before.before.left-corner.ensures c.before.before.if1.false)
+sub_left_corner : tie.Need-overflow-sub-left-corner
+sub_left_corner c = omega (arith, left_corner_inside _ _ _ c.before.before.before.before.before.requires.0 c.before.before.before.before.before.args.bytes.now c.before.before.before.left_corner.ensures c.before.before.if1.false)
 
-left-corner-requires-2 : tie.Need-left-corner-requires-2
-left-corner-requires-2 c κs = search rules
+left_corner_requires_2 : tie.Need-left-corner-requires-2
+left_corner_requires_2 c κs = search rules
 
-returns-2 : tie.Need-returns-2
-returns-2 c =
+returns_2 : tie.Need-returns-2
+returns_2 c =
     let start = c.before.before.before.before.before in
-    let some = left-corner-inside _ _ _ start.requires.0 start.args.bytes.now c.before.before.before.left-corner.ensures c.before.before.if1.false in
-    taken-keeps _ _ _ _ _ c.before.before.before.left-corner.ensures c.before.before.if1.false _ (left-diagonal _ _ _ start.requires.0 some) c.before.is-taken.ensures c.if2.true
+    let some = left_corner_inside _ _ _ start.requires.0 start.args.bytes.now c.before.before.before.left_corner.ensures c.before.before.if1.false in
+    taken_keeps _ _ _ _ _ c.before.before.before.left_corner.ensures c.before.before.if1.false _ (left_diagonal _ _ _ start.requires.0 some) c.before.is_taken.ensures c.if2.true
 
-returns-3 : tie.Need-returns-3
-returns-3 c =
+returns_3 : tie.Need-returns-3
+returns_3 c =
     let start = c.before.before.before.before.before.before in
-    let some = left-corner-inside _ _ _ start.requires.0 start.args.bytes.now c.before.before.before.before.left-corner.ensures c.before.before.before.if1.false in
-    same-corner-keeps _ _ _ _ _ c.before.before.before.before.left-corner.ensures c.before.before.before.if1.false _ (left-diagonal _ _ _ start.requires.0 some) c.before.before.is-taken.ensures c.before.if2.false
-    _ (left-diagonal-pad _ _ _ start.requires.0 some) c.left-corner2.ensures
+    let some = left_corner_inside _ _ _ start.requires.0 start.args.bytes.now c.before.before.before.before.left_corner.ensures c.before.before.before.if1.false in
+    same_corner_keeps _ _ _ _ _ c.before.before.before.before.left_corner.ensures c.before.before.before.if1.false _ (left_diagonal _ _ _ start.requires.0 some) c.before.before.is_taken.ensures c.before.if2.false
+    _ (left_diagonal_pad _ _ _ start.requires.0 some) c.left-corner2.ensures
 
-pub left-corner-keeps-spec : {M : Type 1} → statement M
-left-corner-keeps-spec =
+pub left_corner_keeps_spec : {M : Type 1} → statement M
+left_corner_keeps_spec =
     tie.close
     (tie.spec
-    left-corner-requires
+    left_corner_requires
     returns
-    add-is-taken
-    mul-is-taken
-    add-is-taken-2
-    sub-is-taken
-    is-taken-requires
-    add-left-corner
-    sub-left-corner
-    left-corner-requires-2
-    returns-2
-    returns-3)
+    add_is_taken
+    mul_is_taken
+    add_is_taken_2
+    sub_is_taken
+    is_taken_requires
+    add_left_corner
+    sub_left_corner
+    left_corner_requires_2
+    returns_2
+    returns_3)

@@ -1,65 +1,65 @@
 -- `lend::put_numbers` meets its contract. The loop's invariant: the first i numbers are copied. Assumes nothing.
 use mathlib.Core.Path.{refl}
-use Rattle.lend.proofs.Copies.{Copied, none-copied, one_more, all-copied}
+use Rattle.lend.proofs.Copies.{Copied, none_copied, one_more, all_copied}
 use lib.ListN.{length}
 use native.Mathlib.Omega.{arith}
 use Prim.Native.Nat.{◌-◌}
 use Rattle.lend.proofs.put_numbers.Statement.{statement}
 use Rattle.lend.proofs.put_numbers.Tie as tie
 
-abbrev invariant-loop : tie.invariant-loop
-invariant-loop target₀ place numbers i₀ target i = Copied numbers target₀ place target i
+abbrev invariant_loop : tie.invariant_loop
+invariant_loop target₀ place numbers i₀ target i = Copied numbers target₀ place target i
 
-abbrev decreases-loop : tie.decreases-loop
-decreases-loop target₀ place numbers i₀ target i = length numbers - i
+abbrev decreases_loop : tie.decreases_loop
+decreases_loop target₀ place numbers i₀ target i = length numbers - i
 
-loop-holds : tie.Need-loop-init invariant-loop decreases-loop
-loop-holds c = none-copied _ _ _ c.requires
+loop_holds : tie.Need-loop-init invariant_loop decreases_loop
+loop_holds c = none_copied _ _ _ c.requires
 
-mul-target : tie.Need-overflow-mul-target invariant-loop decreases-loop
-mul-target c = omega arith
+mul_target : tie.Need-overflow-mul-target invariant_loop decreases_loop
+mul_target c = omega arith
 
-shared-slice-read-target : tie.Need-shared-slice-read-target invariant-loop decreases-loop
-shared-slice-read-target c = c.before.loop-test.true
+shared_slice_read_target : tie.Need-shared-slice-read-target invariant_loop decreases_loop
+shared_slice_read_target c = c.before.loop-test.true
 
-add-target : tie.Need-overflow-add-target invariant-loop decreases-loop
-add-target c = omega arith
+add_target : tie.Need-overflow-add-target invariant_loop decreases_loop
+add_target c = omega arith
 
-mul-target-2 : tie.Need-overflow-mul-target-2 invariant-loop decreases-loop
-mul-target-2 c = omega arith
+mul_target_2 : tie.Need-overflow-mul-target-2 invariant_loop decreases_loop
+mul_target_2 c = omega arith
 
-slice-write-target : tie.Need-slice-write-target invariant-loop decreases-loop
-slice-write-target c = omega (arith, c.before.before.loop.invariant.same_length)
+slice_write_target : tie.Need-slice-write-target invariant_loop decreases_loop
+slice_write_target c = omega (arith, c.before.before.loop.invariant.same_length)
 
-add-i : tie.Need-overflow-add-i invariant-loop decreases-loop
-add-i c = omega arith
+add_i : tie.Need-overflow-add-i invariant_loop decreases_loop
+add_i c = omega arith
 
-loop-less : tie.Need-loop-smaller invariant-loop decreases-loop
-loop-less c = omega arith
+loop_less : tie.Need-loop-smaller invariant_loop decreases_loop
+loop_less c = omega arith
 
-loop-again : tie.Need-loop-preserved invariant-loop decreases-loop
-loop-again c = one_more _ _ _ c.before.before.before.requires 0 refl c.before.loop-test.true c.before.before.loop.invariant
+loop_again : tie.Need-loop-preserved invariant_loop decreases_loop
+loop_again c = one_more _ _ _ c.before.before.before.requires 0 refl c.before.loop-test.true c.before.before.loop.invariant
 
-same_length : tie.Need-same-length invariant-loop decreases-loop
+same_length : tie.Need-same-length invariant_loop decreases_loop
 same_length c = c.before.loop.invariant.same_length
 
-returns : tie.Need-returns invariant-loop decreases-loop
-returns c = all-copied _ _ _ c.before.before.requires c.loop-test.false c.before.loop.invariant
+returns : tie.Need-returns invariant_loop decreases_loop
+returns c = all_copied _ _ _ c.before.before.requires c.loop-test.false c.before.loop.invariant
 
-pub put-numbers-spec : {M : Type 1} → statement M
-put-numbers-spec =
+pub put_numbers_spec : {M : Type 1} → statement M
+put_numbers_spec =
     tie.close
     (tie.spec
-    invariant-loop
-    decreases-loop
-    loop-holds
-    mul-target
-    shared-slice-read-target
-    add-target
-    mul-target-2
-    slice-write-target
-    add-i
-    loop-less
-    loop-again
+    invariant_loop
+    decreases_loop
+    loop_holds
+    mul_target
+    shared_slice_read_target
+    add_target
+    mul_target_2
+    slice_write_target
+    add_i
+    loop_less
+    loop_again
     same_length
     returns)

@@ -4,52 +4,52 @@ use mathlib.Core.Path.{sym}
 use native.Mathlib.Omega.{arith}
 use borrow.Author.Rules.{rules}
 use lib.Seq.{length-take-le}
-use Rattle.reading.specs.ReadingLaws.{pads-fit, cells_fit}
-use Rattle.listing.specs.HeadLaws.{refused-head, accepted-head}
+use Rattle.reading.specs.ReadingLaws.{pads_fit, cells_fit}
+use Rattle.listing.specs.HeadLaws.{refused_head, accepted_head}
 use Rattle.listing.proofs.head.Statement.{statement}
 use Rattle.listing.proofs.head.Tie as tie
 
-read-requires : tie.Need-read-requires
-read-requires c κs = search rules
+read_requires : tie.Need-read-requires
+read_requires c κs = search rules
 
-refused-requires : tie.Need-refused-requires
-refused-requires c κs = search rules
+refused_requires : tie.Need-refused-requires
+refused_requires c κs = search rules
 
 returns : tie.Need-returns
-returns c = refused-head _ _ c.before.before.before.read.ensures _ _ c.before.if1.true _ c.refused.ensures
+returns c = refused_head _ _ c.before.before.before.read.ensures _ _ c.before.if1.true _ c.refused.ensures
 
-mul-pads : tie.Need-overflow-mul-pads
-mul-pads c = record { fits = omega (arith, pads-fit _ _ c.before.before.before.read.ensures) }
+mul_pads : tie.Need-overflow-mul-pads
+mul_pads c = record { fits = omega (arith, pads_fit _ _ c.before.before.before.read.ensures) }
 
-array-share-prefix-cells : tie.Need-array-share-prefix-cells
-array-share-prefix-cells c = omega (arith, pads-fit _ _ c.before.before.before.read.ensures, cells_fit _ _ c.before.before.before.read.ensures)
+array_share_prefix_cells : tie.Need-array-share-prefix-cells
+array_share_prefix_cells c = omega (arith, pads_fit _ _ c.before.before.before.read.ensures, cells_fit _ _ c.before.before.before.read.ensures)
 
-slice-aggregate-solve : tie.Need-slice-aggregate-solve
-slice-aggregate-solve c = sym (length-take-le _ _ (omega (arith, pads-fit _ _ c.before.before.before.before.read.ensures, cells_fit _ _ c.before.before.before.before.read.ensures)))
+slice_aggregate_solve : tie.Need-slice-aggregate-solve
+slice_aggregate_solve c = sym (length-take-le _ _ (omega (arith, pads_fit _ _ c.before.before.before.before.read.ensures, cells_fit _ _ c.before.before.before.before.read.ensures)))
 
-solve-requires : tie.Need-solve-requires
-solve-requires c κs = search rules
+solve_requires : tie.Need-solve-requires
+solve_requires c κs = search rules
 
-summary-line-requires : tie.Need-summary-line-requires
-summary-line-requires c κs = search rules
+summary_line_requires : tie.Need-summary-line-requires
+summary_line_requires c κs = search rules
 
 same_length : tie.Need-same-length
 same_length c = search rules
 
-returns-2 : tie.Need-returns-2
-returns-2 c = accepted-head _ _ c.before.before.before.before.before.before.before.before.before.before.read.ensures _ _ c.before.before.before.before.before.before.before.before.if1.false _ _ c.before.before.before.before.solve.ensures _ _ c.before.summary-line.ensures
+returns_2 : tie.Need-returns-2
+returns_2 c = accepted_head _ _ c.before.before.before.before.before.before.before.before.before.before.read.ensures _ _ c.before.before.before.before.before.before.before.before.if1.false _ _ c.before.before.before.before.solve.ensures _ _ c.before.summary_line.ensures
 
 pub head_spec : {M : Type 1} → statement M
 head_spec =
     tie.close
     (tie.spec
-    read-requires
-    refused-requires
+    read_requires
+    refused_requires
     returns
-    mul-pads
-    array-share-prefix-cells
-    slice-aggregate-solve
-    solve-requires
-    summary-line-requires
+    mul_pads
+    array_share_prefix_cells
+    slice_aggregate_solve
+    solve_requires
+    summary_line_requires
     same_length
-    returns-2)
+    returns_2)

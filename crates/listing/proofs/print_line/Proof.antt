@@ -5,27 +5,27 @@ use lib.Seq.{length-take-le}
 use Rattle.listing.proofs.print_line.Statement.{statement}
 use Rattle.listing.proofs.print_line.Tie as tie
 
-line-requires : tie.Need-line-requires
-line-requires c κs = search rules
+line_requires : tie.Need-line-requires
+line_requires c κs = search rules
 
-array-share-prefix-bytes : tie.Need-array-share-prefix-bytes
-array-share-prefix-bytes c = search rules
+array_share_prefix_bytes : tie.Need-array-share-prefix-bytes
+array_share_prefix_bytes c = search rules
 
-slice-aggregate-write-all : tie.Need-slice-aggregate-write-all
-slice-aggregate-write-all c = sym (length-take-le _ _ c.before.before.line.ensures.fits)
+slice_aggregate_write_all : tie.Need-slice-aggregate-write-all
+slice_aggregate_write_all c = sym (length-take-le _ _ c.before.before.line.ensures.fits)
 
-write-all-requires : tie.Need-write-all-requires
-write-all-requires c κs = search rules
+write_all_requires : tie.Need-write-all-requires
+write_all_requires c κs = search rules
 
 returns : tie.Need-returns
 returns c = search rules
 
-pub print-line-spec : {M : Type 1} → statement M
-print-line-spec =
+pub print_line_spec : {M : Type 1} → statement M
+print_line_spec =
     tie.close
     (tie.spec
-    line-requires
-    array-share-prefix-bytes
-    slice-aggregate-write-all
-    write-all-requires
+    line_requires
+    array_share_prefix_bytes
+    slice_aggregate_write_all
+    write_all_requires
     returns)

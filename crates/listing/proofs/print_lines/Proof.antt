@@ -4,31 +4,31 @@ use native.Mathlib.Omega.{arith}
 use Rattle.listing.proofs.print_lines.Statement.{statement}
 use Rattle.listing.proofs.print_lines.Tie as tie
 
-abbrev invariant-loop : tie.invariant-loop
-invariant-loop buffer height width layouts k₀ k = k ≤ layouts
+abbrev invariant_loop : tie.invariant_loop
+invariant_loop buffer height width layouts k₀ k = k ≤ layouts
 
-abbrev decreases-loop : tie.decreases-loop
-decreases-loop buffer height width layouts k₀ k = layouts - k
+abbrev decreases_loop : tie.decreases_loop
+decreases_loop buffer height width layouts k₀ k = layouts - k
 
-loop-holds : tie.Need-loop-init invariant-loop decreases-loop
-loop-holds c = omega arith
+loop_holds : tie.Need-loop-init invariant_loop decreases_loop
+loop_holds c = omega arith
 
-print-line-requires : tie.Need-print-line-requires invariant-loop decreases-loop
-print-line-requires c κs = tt
+print_line_requires : tie.Need-print-line-requires invariant_loop decreases_loop
+print_line_requires c κs = tt
 
-add-k : tie.Need-overflow-add-k invariant-loop decreases-loop
-add-k c = omega arith
+add_k : tie.Need-overflow-add-k invariant_loop decreases_loop
+add_k c = omega arith
 
-loop-less : tie.Need-loop-smaller invariant-loop decreases-loop
-loop-less c = omega arith
+loop_less : tie.Need-loop-smaller invariant_loop decreases_loop
+loop_less c = omega arith
 
-loop-again : tie.Need-loop-preserved invariant-loop decreases-loop
-loop-again c = omega arith
+loop_again : tie.Need-loop-preserved invariant_loop decreases_loop
+loop_again c = omega arith
 
-returns : tie.Need-returns invariant-loop decreases-loop
+returns : tie.Need-returns invariant_loop decreases_loop
 returns c = tt
 
-pub print-lines-spec : {M : Type 1} → statement M
-print-lines-spec =
+pub print_lines_spec : {M : Type 1} → statement M
+print_lines_spec =
     tie.close
-    (tie.spec invariant-loop decreases-loop loop-holds print-line-requires add-k loop-less loop-again returns)
+    (tie.spec invariant_loop decreases_loop loop_holds print_line_requires add_k loop_less loop_again returns)

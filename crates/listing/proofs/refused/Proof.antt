@@ -4,11 +4,11 @@ use borrow.Author.Rules.{rules}
 use Rattle.listing.proofs.refused.Statement.{statement}
 use Rattle.listing.proofs.refused.Tie as tie
 
-refusal-line-requires : tie.Need-refusal-line-requires
-refusal-line-requires c κs = search rules
+refusal_line_requires : tie.Need-refusal-line-requires
+refusal_line_requires c κs = search rules
 
 returns : tie.Need-returns
-returns c = record { text = c.before.refusal-line.ensures; its-number = refl; height = refl; width = refl; outcome = refl; layouts = refl; visited = refl }
+returns c = record { text = c.before.refusal_line.ensures; its_number = refl; height = refl; width = refl; outcome = refl; layouts = refl; visited = refl }
 
-pub refused-spec : {M : Type 1} → statement M
-refused-spec = tie.close (tie.spec refusal-line-requires returns)
+pub refused_spec : {M : Type 1} → statement M
+refused_spec = tie.close (tie.spec refusal_line_requires returns)

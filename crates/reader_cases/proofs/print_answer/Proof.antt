@@ -6,47 +6,47 @@ use borrow.Author.Rules.{rules}
 use Rattle.reader_cases.proofs.print_answer.Statement.{statement}
 use Rattle.reader_cases.proofs.print_answer.Tie as tie
 
-ask-requires : tie.Need-ask-requires
-ask-requires c κs = search rules
+ask_requires : tie.Need-ask-requires
+ask_requires c κs = search rules
 
-print-refusal-requires : tie.Need-print-refusal-requires
-print-refusal-requires c κs = search rules
+print_refusal_requires : tie.Need-print-refusal-requires
+print_refusal_requires c κs = search rules
 
 returns : tie.Need-returns
 returns c = search rules
 
-mul-pads : tie.Need-overflow-mul-pads
-mul-pads c = omega arith
+mul_pads : tie.Need-overflow-mul-pads
+mul_pads c = omega arith
 
-array-share-prefix-cells : tie.Need-array-share-prefix-cells
-array-share-prefix-cells c = omega arith
+array_share_prefix_cells : tie.Need-array-share-prefix-cells
+array_share_prefix_cells c = omega arith
 
-slice-aggregate-print-grid : tie.Need-slice-aggregate-print-grid
-slice-aggregate-print-grid c = sym (length-take-le _ _ (omega arith))
+slice_aggregate_print_grid : tie.Need-slice-aggregate-print-grid
+slice_aggregate_print_grid c = sym (length-take-le _ _ (omega arith))
 
-print-grid-requires : tie.Need-print-grid-requires
-print-grid-requires c κs = search rules
+print_grid_requires : tie.Need-print-grid-requires
+print_grid_requires c κs = search rules
 
-slice-aggregate-print-past : tie.Need-slice-aggregate-print-past
-slice-aggregate-print-past c = search rules
+slice_aggregate_print_past : tie.Need-slice-aggregate-print-past
+slice_aggregate_print_past c = search rules
 
-print-past-requires : tie.Need-print-past-requires
-print-past-requires c κs = search rules
+print_past_requires : tie.Need-print-past-requires
+print_past_requires c κs = search rules
 
-returns-2 : tie.Need-returns-2
-returns-2 c = search rules
+returns_2 : tie.Need-returns-2
+returns_2 c = search rules
 
-pub print-answer-spec : {M : Type 1} → statement M
-print-answer-spec =
+pub print_answer_spec : {M : Type 1} → statement M
+print_answer_spec =
     tie.close
     (tie.spec
-    ask-requires
-    print-refusal-requires
+    ask_requires
+    print_refusal_requires
     returns
-    mul-pads
-    array-share-prefix-cells
-    slice-aggregate-print-grid
-    print-grid-requires
-    slice-aggregate-print-past
-    print-past-requires
-    returns-2)
+    mul_pads
+    array_share_prefix_cells
+    slice_aggregate_print_grid
+    print_grid_requires
+    slice_aggregate_print_past
+    print_past_requires
+    returns_2)

@@ -6,51 +6,51 @@ use borrow.Author.Rules.{rules}
 use Rattle.reader_cases.proofs.print_past.Statement.{statement}
 use Rattle.reader_cases.proofs.print_past.Tie as tie
 
-abbrev invariant-loop : tie.invariant-loop
-invariant-loop cells pads index₀ t3 index = Unit {0}
+abbrev invariant_loop : tie.invariant_loop
+invariant_loop cells pads index₀ t3 index = Unit {0}
 
-abbrev decreases-loop : tie.decreases-loop
-decreases-loop cells pads index₀ t3 index = length cells - index
+abbrev decreases_loop : tie.decreases_loop
+decreases_loop cells pads index₀ t3 index = length cells - index
 
-loop-holds : tie.Need-loop-init invariant-loop decreases-loop
-loop-holds c = tt
+loop_holds : tie.Need-loop-init invariant_loop decreases_loop
+loop_holds c = tt
 
-mul-if1 : tie.Need-overflow-mul-if1 invariant-loop decreases-loop
-mul-if1 c = omega arith
+mul_if1 : tie.Need-overflow-mul-if1 invariant_loop decreases_loop
+mul_if1 c = omega arith
 
-shared-slice-copy-out-if1 : tie.Need-shared-slice-copy-out-if1 invariant-loop decreases-loop
-shared-slice-copy-out-if1 c = omega arith
+shared_slice_copy_out_if1 : tie.Need-shared-slice-copy-out-if1 invariant_loop decreases_loop
+shared_slice_copy_out_if1 c = omega arith
 
-slice-aggregate-write-all : tie.Need-slice-aggregate-write-all invariant-loop decreases-loop
-slice-aggregate-write-all c = search rules
+slice_aggregate_write_all : tie.Need-slice-aggregate-write-all invariant_loop decreases_loop
+slice_aggregate_write_all c = search rules
 
-write-all-requires : tie.Need-write-all-requires invariant-loop decreases-loop
-write-all-requires c κs = search rules
+write_all_requires : tie.Need-write-all-requires invariant_loop decreases_loop
+write_all_requires c κs = search rules
 
-add-index : tie.Need-overflow-add-index invariant-loop decreases-loop
-add-index c = omega arith
+add_index : tie.Need-overflow-add-index invariant_loop decreases_loop
+add_index c = omega arith
 
-loop-less : tie.Need-loop-smaller invariant-loop decreases-loop
-loop-less c = omega arith
+loop_less : tie.Need-loop-smaller invariant_loop decreases_loop
+loop_less c = omega arith
 
-loop-again : tie.Need-loop-preserved invariant-loop decreases-loop
-loop-again c = tt
+loop_again : tie.Need-loop-preserved invariant_loop decreases_loop
+loop_again c = tt
 
-returns : tie.Need-returns invariant-loop decreases-loop
+returns : tie.Need-returns invariant_loop decreases_loop
 returns c = search rules
 
-pub print-past-spec : {M : Type 1} → statement M
-print-past-spec =
+pub print_past_spec : {M : Type 1} → statement M
+print_past_spec =
     tie.close
     (tie.spec
-    invariant-loop
-    decreases-loop
-    loop-holds
-    mul-if1
-    shared-slice-copy-out-if1
-    slice-aggregate-write-all
-    write-all-requires
-    add-index
-    loop-less
-    loop-again
+    invariant_loop
+    decreases_loop
+    loop_holds
+    mul_if1
+    shared_slice_copy_out_if1
+    slice_aggregate_write_all
+    write_all_requires
+    add_index
+    loop_less
+    loop_again
     returns)

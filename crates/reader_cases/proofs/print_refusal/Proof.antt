@@ -5,27 +5,27 @@ use borrow.Author.Rules.{rules}
 use Rattle.reader_cases.proofs.print_refusal.Statement.{statement}
 use Rattle.reader_cases.proofs.print_refusal.Tie as tie
 
-refusal-line-requires : tie.Need-refusal-line-requires
-refusal-line-requires c κs = search rules
+refusal_line_requires : tie.Need-refusal-line-requires
+refusal_line_requires c κs = search rules
 
-array-share-prefix-bytes : tie.Need-array-share-prefix-bytes
-array-share-prefix-bytes c = search rules
+array_share_prefix_bytes : tie.Need-array-share-prefix-bytes
+array_share_prefix_bytes c = search rules
 
-slice-aggregate-write-all : tie.Need-slice-aggregate-write-all
-slice-aggregate-write-all c = sym (length-take-le _ _ c.before.before.refusal-line.ensures.fits)
+slice_aggregate_write_all : tie.Need-slice-aggregate-write-all
+slice_aggregate_write_all c = sym (length-take-le _ _ c.before.before.refusal_line.ensures.fits)
 
-write-all-requires : tie.Need-write-all-requires
-write-all-requires c κs = search rules
+write_all_requires : tie.Need-write-all-requires
+write_all_requires c κs = search rules
 
 returns : tie.Need-returns
 returns c = search rules
 
-pub print-refusal-spec : {M : Type 1} → statement M
-print-refusal-spec =
+pub print_refusal_spec : {M : Type 1} → statement M
+print_refusal_spec =
     tie.close
     (tie.spec
-    refusal-line-requires
-    array-share-prefix-bytes
-    slice-aggregate-write-all
-    write-all-requires
+    refusal_line_requires
+    array_share_prefix_bytes
+    slice_aggregate_write_all
+    write_all_requires
     returns)

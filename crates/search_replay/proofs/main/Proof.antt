@@ -4,63 +4,63 @@ use borrow.Author.Rules.{rules}
 use Rattle.search_replay.proofs.main.Statement.{statement}
 use Rattle.search_replay.proofs.main.Tie as tie
 
-abbrev invariant-loop : tie.invariant-loop
-invariant-loop length stream place₀ grid₀ place grid = Unit {0}
+abbrev invariant_loop : tie.invariant_loop
+invariant_loop length stream place₀ grid₀ place grid = Unit {0}
 
-abbrev decreases-loop : tie.decreases-loop
-decreases-loop length stream place₀ grid₀ place grid = 100000 - grid
+abbrev decreases_loop : tie.decreases_loop
+decreases_loop length stream place₀ grid₀ place grid = 100000 - grid
 
-large-buffer-requires : tie.Need-large-buffer-requires invariant-loop decreases-loop
-large-buffer-requires c κs = search rules
+large_buffer_requires : tie.Need-large-buffer-requires invariant_loop decreases_loop
+large_buffer_requires c κs = search rules
 
-slice-aggregate-read-full : tie.Need-slice-aggregate-read-full invariant-loop decreases-loop
-slice-aggregate-read-full c = search rules
+slice_aggregate_read_full : tie.Need-slice-aggregate-read-full invariant_loop decreases_loop
+slice_aggregate_read_full c = search rules
 
-read-full-requires : tie.Need-read-full-requires invariant-loop decreases-loop
-read-full-requires c κs = search rules
+read_full_requires : tie.Need-read-full-requires invariant_loop decreases_loop
+read_full_requires c κs = search rules
 
-array-share-prefix-buffer : tie.Need-array-share-prefix-buffer invariant-loop decreases-loop
-array-share-prefix-buffer c = search rules
+array_share_prefix_buffer : tie.Need-array-share-prefix-buffer invariant_loop decreases_loop
+array_share_prefix_buffer c = search rules
 
-slice-aggregate-stream : tie.Need-slice-aggregate-stream invariant-loop decreases-loop
-slice-aggregate-stream c = search rules
+slice_aggregate_stream : tie.Need-slice-aggregate-stream invariant_loop decreases_loop
+slice_aggregate_stream c = search rules
 
-loop-holds : tie.Need-loop-init invariant-loop decreases-loop
-loop-holds c = search rules
+loop_holds : tie.Need-loop-init invariant_loop decreases_loop
+loop_holds c = search rules
 
-runs-at-requires : tie.Need-runs-at-requires invariant-loop decreases-loop
-runs-at-requires c κs = search rules
+runs_at_requires : tie.Need-runs-at-requires invariant_loop decreases_loop
+runs_at_requires c κs = search rules
 
-add-grid : tie.Need-overflow-add-grid invariant-loop decreases-loop
-add-grid c = search rules
+add_grid : tie.Need-overflow-add-grid invariant_loop decreases_loop
+add_grid c = search rules
 
-loop-less : tie.Need-loop-smaller invariant-loop decreases-loop
-loop-less c = search rules
+loop_less : tie.Need-loop-smaller invariant_loop decreases_loop
+loop_less c = search rules
 
-loop-again : tie.Need-loop-preserved invariant-loop decreases-loop
-loop-again c = search rules
+loop_again : tie.Need-loop-preserved invariant_loop decreases_loop
+loop_again c = search rules
 
-returns : tie.Need-returns invariant-loop decreases-loop
+returns : tie.Need-returns invariant_loop decreases_loop
 returns c = search rules
 
-returns-2 : tie.Need-returns-2 invariant-loop decreases-loop
-returns-2 c = search rules
+returns_2 : tie.Need-returns-2 invariant_loop decreases_loop
+returns_2 c = search rules
 
 pub main_spec : {M : Type 1} → statement M
 main_spec =
     tie.close
     (tie.spec
-    invariant-loop
-    decreases-loop
-    large-buffer-requires
-    slice-aggregate-read-full
-    read-full-requires
-    array-share-prefix-buffer
-    slice-aggregate-stream
-    loop-holds
-    runs-at-requires
-    add-grid
-    loop-less
-    loop-again
+    invariant_loop
+    decreases_loop
+    large_buffer_requires
+    slice_aggregate_read_full
+    read_full_requires
+    array_share_prefix_buffer
+    slice_aggregate_stream
+    loop_holds
+    runs_at_requires
+    add_grid
+    loop_less
+    loop_again
     returns
-    returns-2)
+    returns_2)

@@ -7,21 +7,21 @@ use borrow.Author.Rules.{rules}
 use Rattle.searchparts.proofs.first_of_last_row.Statement.{statement}
 use Rattle.searchparts.proofs.first_of_last_row.Tie as tie
 
-height-requires : tie.Need-height-requires
-height-requires c κs = search rules
+height_requires : tie.Need-height-requires
+height_requires c κs = search rules
 
-sub-result : tie.Need-overflow-sub-result
-sub-result c = search rules
+sub_result : tie.Need-overflow-sub-result
+sub_result c = search rules
 
-width-requires : tie.Need-width-requires
-width-requires c κs = search rules
+width_requires : tie.Need-width-requires
+width_requires c κs = search rules
 
-mul-result : tie.Need-overflow-mul-result
-mul-result c = let a : c.before.height.result - 1 ≤ 15 = omega arith in let b : c.width.result ≤ 16 = omega arith in let k = mul-le-mul a b in omega arith
+mul_result : tie.Need-overflow-mul-result
+mul_result c = let a : c.before.height.result - 1 ≤ 15 = omega arith in let b : c.width.result ≤ 16 = omega arith in let k = mul-le-mul a b in omega arith
 
 returns : tie.Need-returns
 returns c = rw (c.before.height.ensures, c.width.ensures) refl
 
-pub first-of-last-row-spec : {M : Type 1} → statement M
-first-of-last-row-spec =
-    tie.close (tie.spec height-requires sub-result width-requires mul-result returns)
+pub first_of_last_row_spec : {M : Type 1} → statement M
+first_of_last_row_spec =
+    tie.close (tie.spec height_requires sub_result width_requires mul_result returns)

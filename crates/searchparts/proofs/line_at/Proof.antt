@@ -3,14 +3,14 @@ use borrow.Author.Rules.{rules}
 use Rattle.searchparts.proofs.line_at.Statement.{statement}
 use Rattle.searchparts.proofs.line_at.Tie as tie
 
-element-copy-out-one-if : tie.Need-element-copy-out-one-if
-element-copy-out-one-if c = search rules
+element_copy_out_one_if : tie.Need-element-copy-out-one-if
+element_copy_out_one_if c = search rules
 
-one-if-requires : tie.Need-one-if-requires
-one-if-requires c κs = search rules
+one_if_requires : tie.Need-one-if-requires
+one_if_requires c κs = search rules
 
 returns : tie.Need-returns
-returns c = c.one-if.ensures
+returns c = c.one_if.ensures
 
-pub line-at-spec : {M : Type 1} → statement M
-line-at-spec = tie.close (tie.spec element-copy-out-one-if one-if-requires returns)
+pub line_at_spec : {M : Type 1} → statement M
+line_at_spec = tie.close (tie.spec element_copy_out_one_if one_if_requires returns)

@@ -3,38 +3,38 @@
 use lib.ListN.{replicate, length-replicate}
 use lib.IntN.{pos}
 use native.Mathlib.Omega.{arith}
-use Rattle.solver.specs.SolveLaws.{counted_none, scan-fits, begins-there, counted-all}
+use Rattle.solver.specs.SolveLaws.{counted_none, scan_fits, begins_there, counted_all}
 use borrow.Author.Rules.{rules}
 use Rattle.solver.proofs.search_from.Statement.{statement}
 use Rattle.solver.proofs.search_from.Tie as tie
 
-fresh-board-requires : tie.Need-fresh-board-requires
-fresh-board-requires c κs = c.before.requires.accepted
+fresh_board_requires : tie.Need-fresh-board-requires
+fresh_board_requires c κs = c.before.requires.accepted
 
 returns : tie.Need-returns
-returns c = counted_none _ _ _ _ _ c.before.before.before.requires _ _ _ _ c.before.fresh-board.ensures (replicate 1440 (pos 0)) (length-replicate 1440 (pos 0)) (omega (arith, c.if1.true)) _
+returns c = counted_none _ _ _ _ _ c.before.before.before.requires _ _ _ _ c.before.fresh_board.ensures (replicate 1440 (pos 0)) (length-replicate 1440 (pos 0)) (omega (arith, c.if1.true)) _
 
-first-of-last-row-requires : tie.Need-first-of-last-row-requires
-first-of-last-row-requires c κs = c.before.before.before.before.before.before.fresh-board.ensures.kinds
+first_of_last_row_requires : tie.Need-first-of-last-row-requires
+first_of_last_row_requires c κs = c.before.before.before.before.before.before.fresh_board.ensures.kinds
 
-next-pad-requires : tie.Need-next-pad-requires
-next-pad-requires c κs = let fresh = c.before.before.before.before.before.before.before in
-    scan-fits _ _ _ _ _ fresh.before.before.requires _ _ _ _ fresh.fresh-board.ensures (replicate 1440 (pos 0)) (length-replicate 1440 (pos 0)) _ c.first-of-last-row.ensures
+next_pad_requires : tie.Need-next-pad-requires
+next_pad_requires c κs = let fresh = c.before.before.before.before.before.before.before in
+    scan_fits _ _ _ _ _ fresh.before.before.requires _ _ _ _ fresh.fresh_board.ensures (replicate 1440 (pos 0)) (length-replicate 1440 (pos 0)) _ c.first-of-last-row.ensures
 
-backtrack-requires : tie.Need-backtrack-requires
-backtrack-requires c κs = let found = c.before.before.before.before.before.before.before.before in
+backtrack_requires : tie.Need-backtrack-requires
+backtrack_requires c κs = let found = c.before.before.before.before.before.before.before.before in
     let fresh = found.before.before.before.before.before.before.before.before in
-    begins-there _ _ _ _ _ fresh.before.before.requires _ _ _ _ fresh.fresh-board.ensures _ (length-replicate 1440 (pos 0))
-    found.before.before.before.before.before.before.before.if1.false _ found.before.first-of-last-row.ensures _ found.next-pad.ensures
+    begins_there _ _ _ _ _ fresh.before.before.requires _ _ _ _ fresh.fresh_board.ensures _ (length-replicate 1440 (pos 0))
+    found.before.before.before.before.before.before.before.if1.false _ found.before.first-of-last-row.ensures _ found.next_pad.ensures
 
 same_length : tie.Need-same-length
 same_length c = search rules
 
-returns-2 : tie.Need-returns-2
-returns-2 c = let found = c.before.before.before.before.before.before.before.before.before.before.before in
+returns_2 : tie.Need-returns-2
+returns_2 c = let found = c.before.before.before.before.before.before.before.before.before.before.before in
     let fresh = found.before.before.before.before.before.before.before.before in
-    counted-all _ _ _ _ _ fresh.before.before.requires _ _ _ _ fresh.fresh-board.ensures _ (length-replicate 1440 (pos 0))
-    found.before.before.before.before.before.before.before.if1.false _ found.before.first-of-last-row.ensures _ found.next-pad.ensures _ _ _ _ _ _ _ c.before.before.backtrack.ensures
+    counted_all _ _ _ _ _ fresh.before.before.requires _ _ _ _ fresh.fresh_board.ensures _ (length-replicate 1440 (pos 0))
+    found.before.before.before.before.before.before.before.if1.false _ found.before.first-of-last-row.ensures _ found.next_pad.ensures _ _ _ _ _ _ _ c.before.before.backtrack.ensures
 
-pub search-from-spec : {M : Type 1} → statement M
-search-from-spec = tie.close (tie.spec fresh-board-requires returns first-of-last-row-requires next-pad-requires backtrack-requires same_length returns-2)
+pub search_from_spec : {M : Type 1} → statement M
+search_from_spec = tie.close (tie.spec fresh_board_requires returns first_of_last_row_requires next_pad_requires backtrack_requires same_length returns_2)

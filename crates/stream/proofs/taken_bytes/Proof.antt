@@ -6,47 +6,47 @@ use native.Mathlib.Omega.{arith}
 use Rattle.stream.proofs.taken_bytes.Statement.{statement}
 use Rattle.stream.proofs.taken_bytes.Tie as tie
 
-abbrev invariant-loop : tie.invariant-loop
-invariant-loop sum bytes after₀ i₀ after i = Unit {0}
+abbrev invariant_loop : tie.invariant_loop
+invariant_loop sum bytes after₀ i₀ after i = Unit {0}
 
-abbrev decreases-loop : tie.decreases-loop
-decreases-loop sum bytes after₀ i₀ after i = length bytes - i
+abbrev decreases_loop : tie.decreases_loop
+decreases_loop sum bytes after₀ i₀ after i = length bytes - i
 
-loop-holds : tie.Need-loop-init invariant-loop decreases-loop
-loop-holds c = search rules
+loop_holds : tie.Need-loop-init invariant_loop decreases_loop
+loop_holds c = search rules
 
-shared-slice-read-taken : tie.Need-shared-slice-read-taken invariant-loop decreases-loop
-shared-slice-read-taken c = search rules
+shared_slice_read_taken : tie.Need-shared-slice-read-taken invariant_loop decreases_loop
+shared_slice_read_taken c = search rules
 
-cast-taken : tie.Need-overflow-cast-taken invariant-loop decreases-loop
-cast-taken c = omega (arith, c.shared-slice-known2.given c.before.before.loop.i)
+cast_taken : tie.Need-overflow-cast-taken invariant_loop decreases_loop
+cast_taken c = omega (arith, c.shared-slice-known2.given c.before.before.loop.i)
 
-taken-requires : tie.Need-taken-requires invariant-loop decreases-loop
-taken-requires c κs = search rules
+taken_requires : tie.Need-taken-requires invariant_loop decreases_loop
+taken_requires c κs = search rules
 
-add-i : tie.Need-overflow-add-i invariant-loop decreases-loop
-add-i c = search rules
+add_i : tie.Need-overflow-add-i invariant_loop decreases_loop
+add_i c = search rules
 
-loop-less : tie.Need-loop-smaller invariant-loop decreases-loop
-loop-less c = search rules
+loop_less : tie.Need-loop-smaller invariant_loop decreases_loop
+loop_less c = search rules
 
-loop-again : tie.Need-loop-preserved invariant-loop decreases-loop
-loop-again c = search rules
+loop_again : tie.Need-loop-preserved invariant_loop decreases_loop
+loop_again c = search rules
 
-returns : tie.Need-returns invariant-loop decreases-loop
+returns : tie.Need-returns invariant_loop decreases_loop
 returns c = search rules
 
-pub taken-bytes-spec : {M : Type 1} → statement M
-taken-bytes-spec =
+pub taken_bytes_spec : {M : Type 1} → statement M
+taken_bytes_spec =
     tie.close
     (tie.spec
-    invariant-loop
-    decreases-loop
-    loop-holds
-    shared-slice-read-taken
-    cast-taken
-    taken-requires
-    add-i
-    loop-less
-    loop-again
+    invariant_loop
+    decreases_loop
+    loop_holds
+    shared_slice_read_taken
+    cast_taken
+    taken_requires
+    add_i
+    loop_less
+    loop_again
     returns)

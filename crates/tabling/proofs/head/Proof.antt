@@ -4,62 +4,62 @@ use mathlib.Core.Path.{sym}
 use native.Mathlib.Omega.{arith}
 use borrow.Author.Rules.{rules}
 use lib.Seq.{length-take-le}
-use Rattle.reading.specs.ReadingLaws.{pads-fit, cells_fit}
-use Rattle.tabling.specs.HeadLaws.{refused-head, tall, accepted-head}
+use Rattle.reading.specs.ReadingLaws.{pads_fit, cells_fit}
+use Rattle.tabling.specs.HeadLaws.{refused_head, tall, accepted_head}
 use Rattle.tabling.proofs.head.Statement.{statement}
 use Rattle.tabling.proofs.head.Tie as tie
 
-read-requires : tie.Need-read-requires
-read-requires c κs = search rules
+read_requires : tie.Need-read-requires
+read_requires c κs = search rules
 
-refused-requires : tie.Need-refused-requires
-refused-requires c κs = search rules
+refused_requires : tie.Need-refused-requires
+refused_requires c κs = search rules
 
 returns : tie.Need-returns
-returns c = refused-head _ _ c.before.before.before.read.ensures _ _ (λ none. omega (arith, c.before.if1.true)) _ c.refused.ensures
+returns c = refused_head _ _ c.before.before.before.read.ensures _ _ (λ none. omega (arith, c.before.if1.true)) _ c.refused.ensures
 
-mul-pads : tie.Need-overflow-mul-pads
-mul-pads c = record { fits = omega (arith, pads-fit _ _ c.before.before.before.read.ensures) }
+mul_pads : tie.Need-overflow-mul-pads
+mul_pads c = record { fits = omega (arith, pads_fit _ _ c.before.before.before.read.ensures) }
 
-array-share-prefix-cells : tie.Need-array-share-prefix-cells
-array-share-prefix-cells c = omega (arith, pads-fit _ _ c.before.before.before.read.ensures, cells_fit _ _ c.before.before.before.read.ensures)
+array_share_prefix_cells : tie.Need-array-share-prefix-cells
+array_share_prefix_cells c = omega (arith, pads_fit _ _ c.before.before.before.read.ensures, cells_fit _ _ c.before.before.before.read.ensures)
 
-slice-aggregate-common : tie.Need-slice-aggregate-common
-slice-aggregate-common c = sym (length-take-le _ _ (omega (arith, pads-fit _ _ c.before.before.before.before.read.ensures, cells_fit _ _ c.before.before.before.before.read.ensures)))
+slice_aggregate_common : tie.Need-slice-aggregate-common
+slice_aggregate_common c = sym (length-take-le _ _ (omega (arith, pads_fit _ _ c.before.before.before.before.read.ensures, cells_fit _ _ c.before.before.before.before.read.ensures)))
 
-common-requires : tie.Need-common-requires
-common-requires c κs = search rules
+common_requires : tie.Need-common-requires
+common_requires c κs = search rules
 
-summary-line-requires : tie.Need-summary-line-requires
-summary-line-requires c κs = search rules
+summary_line_requires : tie.Need-summary-line-requires
+summary_line_requires c κs = search rules
 
-rows-printed-requires : tie.Need-rows-printed-requires
-rows-printed-requires c κs = tall _ _ c.before.before.before.before.before.before.before.before.before.before.before.before.before.read.ensures (omega (arith, c.before.before.before.before.before.before.before.before.before.before.before.if1.false))
+rows_printed_requires : tie.Need-rows-printed-requires
+rows_printed_requires c κs = tall _ _ c.before.before.before.before.before.before.before.before.before.before.before.before.before.read.ensures (omega (arith, c.before.before.before.before.before.before.before.before.before.before.before.if1.false))
 
 same_length : tie.Need-same-length
 same_length c = search rules
 
-same-length-2 : tie.Need-same-length-2
-same-length-2 c = search rules
+same_length_2 : tie.Need-same-length-2
+same_length_2 c = search rules
 
-returns-2 : tie.Need-returns-2
-returns-2 c =
-    accepted-head _ _ c.before.before.before.before.before.before.before.before.before.before.before.before.before.before.read.ensures (omega (arith, c.before.before.before.before.before.before.before.before.before.before.before.before.if1.false)) _ _ _ _ _ c.before.before.before.before.before.before.before.common.ensures
-    _ _ c.before.before.summary-line.ensures _ c.rows-printed.ensures
+returns_2 : tie.Need-returns-2
+returns_2 c =
+    accepted_head _ _ c.before.before.before.before.before.before.before.before.before.before.before.before.before.before.read.ensures (omega (arith, c.before.before.before.before.before.before.before.before.before.before.before.before.if1.false)) _ _ _ _ _ c.before.before.before.before.before.before.before.common.ensures
+    _ _ c.before.before.summary_line.ensures _ c.rows_printed.ensures
 
 pub head_spec : {M : Type 1} → statement M
 head_spec =
     tie.close
     (tie.spec
-    read-requires
-    refused-requires
+    read_requires
+    refused_requires
     returns
-    mul-pads
-    array-share-prefix-cells
-    slice-aggregate-common
-    common-requires
-    summary-line-requires
-    rows-printed-requires
+    mul_pads
+    array_share_prefix_cells
+    slice_aggregate_common
+    common_requires
+    summary_line_requires
+    rows_printed_requires
     same_length
-    same-length-2
-    returns-2)
+    same_length_2
+    returns_2)

@@ -4,11 +4,11 @@ use borrow.Author.Rules.{rules}
 use Rattle.text.proofs.put_field.Statement.{statement}
 use Rattle.text.proofs.put_field.Tie as tie
 
-put-decimal-requires : tie.Need-put-decimal-requires
-put-decimal-requires c κs = search rules
+put_decimal_requires : tie.Need-put-decimal-requires
+put_decimal_requires c κs = search rules
 
-put-byte-requires : tie.Need-put-byte-requires
-put-byte-requires c κs = search rules
+put_byte_requires : tie.Need-put-byte-requires
+put_byte_requires c κs = search rules
 
 same_length : tie.Need-same-length
 same_length c = search rules
@@ -16,5 +16,5 @@ same_length c = search rules
 returns : tie.Need-returns
 returns c = put_both c.before.before.before.before.before.before.put-decimal.ensures c.before.before.put_byte.ensures
 
-pub put-field-spec : {M : Type 1} → statement M
-put-field-spec = tie.close (tie.spec put-decimal-requires put-byte-requires same_length returns)
+pub put_field_spec : {M : Type 1} → statement M
+put_field_spec = tie.close (tie.spec put_decimal_requires put_byte_requires same_length returns)

@@ -1,75 +1,75 @@
 -- The byte of the edge to the right is put at its place, where the edge is on the board. Assumes nothing.
 use native.Mathlib.Omega.{arith}
-use Rattle.walking.proofs.Small.{small_row, small-column, few_bytes, right-inside, right-written, right-left-out}
+use Rattle.walking.proofs.Small.{small_row, small_column, few_bytes, right_inside, right_written, right_left_out}
 use borrow.Author.Rules.{rules}
 use Rattle.walking.proofs.set_right.Statement.{statement}
 use Rattle.walking.proofs.set_right.Tie as tie
 
-rem-if1 : tie.Need-nonzero-rem-if1
-rem-if1 c = search rules
+rem_if1 : tie.Need-nonzero-rem-if1
+rem_if1 c = search rules
 
-add-if1 : tie.Need-overflow-add-if1
-add-if1 c = omega (arith, small-column _ _ _ c.before.requires.0)
+add_if1 : tie.Need-overflow-add-if1
+add_if1 c = omega (arith, small_column _ _ _ c.before.requires.0)
 
-edge-byte-requires : tie.Need-edge-byte-requires
-edge-byte-requires c κs = search rules
+edge_byte_requires : tie.Need-edge-byte-requires
+edge_byte_requires c κs = search rules
 
-div-bytes : tie.Need-nonzero-div-bytes
-div-bytes c = search rules
+div_bytes : tie.Need-nonzero-div-bytes
+div_bytes c = search rules
 
-mul-bytes : tie.Need-overflow-mul-bytes
-mul-bytes c = omega (arith, small_row _ _ _ c.before.before.before.requires.0)
+mul_bytes : tie.Need-overflow-mul-bytes
+mul_bytes c = omega (arith, small_row _ _ _ c.before.before.before.requires.0)
 
-mul-bytes-2 : tie.Need-overflow-mul-bytes-2
-mul-bytes-2 c = search rules
+mul_bytes_2 : tie.Need-overflow-mul-bytes-2
+mul_bytes_2 c = search rules
 
-sub-bytes : tie.Need-overflow-sub-bytes
-sub-bytes c = search rules
+sub_bytes : tie.Need-overflow-sub-bytes
+sub_bytes c = search rules
 
-mul-bytes-3 : tie.Need-overflow-mul-bytes-3
-mul-bytes-3 c = omega (arith, right-inside _ _ _ c.before.before.before.requires.0 c.before.if1.true, few_bytes _ _ _ c.before.before.before.requires.0)
+mul_bytes_3 : tie.Need-overflow-mul-bytes-3
+mul_bytes_3 c = omega (arith, right_inside _ _ _ c.before.before.before.requires.0 c.before.if1.true, few_bytes _ _ _ c.before.before.before.requires.0)
 
-rem-bytes : tie.Need-nonzero-rem-bytes
-rem-bytes c = search rules
+rem_bytes : tie.Need-nonzero-rem-bytes
+rem_bytes c = search rules
 
-mul-bytes-4 : tie.Need-overflow-mul-bytes-4
-mul-bytes-4 c = search rules
+mul_bytes_4 : tie.Need-overflow-mul-bytes-4
+mul_bytes_4 c = search rules
 
-add-bytes : tie.Need-overflow-add-bytes
-add-bytes c = search rules
+add_bytes : tie.Need-overflow-add-bytes
+add_bytes c = search rules
 
-add-bytes-2 : tie.Need-overflow-add-bytes-2
-add-bytes-2 c = omega (arith, right-inside _ _ _ c.before.before.before.requires.0 c.before.if1.true, few_bytes _ _ _ c.before.before.before.requires.0)
+add_bytes_2 : tie.Need-overflow-add-bytes-2
+add_bytes_2 c = omega (arith, right_inside _ _ _ c.before.before.before.requires.0 c.before.if1.true, few_bytes _ _ _ c.before.before.before.requires.0)
 
-slice-write-bytes : tie.Need-slice-write-bytes
-slice-write-bytes c = omega (arith, right-inside _ _ _ c.before.before.before.requires.0 c.before.if1.true, c.before.before.before.requires.1)
+slice_write_bytes : tie.Need-slice-write-bytes
+slice_write_bytes c = omega (arith, right_inside _ _ _ c.before.before.before.requires.0 c.before.if1.true, c.before.before.before.requires.1)
 
 same_length : tie.Need-same-length
 same_length c = search rules
 
 returns : tie.Need-returns
-returns c = right-written _ _ _ _ _ c.before.if1.true _ c.edge-byte.ensures
+returns c = right_written _ _ _ _ _ c.before.if1.true _ c.edge_byte.ensures
 
-returns-2 : tie.Need-returns-2
-returns-2 c = right-left-out _ _ _ _ _ c.if1.false
+returns_2 : tie.Need-returns-2
+returns_2 c = right_left_out _ _ _ _ _ c.if1.false
 
-pub set-right-spec : {M : Type 1} → statement M
-set-right-spec =
+pub set_right_spec : {M : Type 1} → statement M
+set_right_spec =
     tie.close
     (tie.spec
-    rem-if1
-    add-if1
-    edge-byte-requires
-    div-bytes
-    mul-bytes
-    mul-bytes-2
-    sub-bytes
-    mul-bytes-3
-    rem-bytes
-    mul-bytes-4
-    add-bytes
-    add-bytes-2
-    slice-write-bytes
+    rem_if1
+    add_if1
+    edge_byte_requires
+    div_bytes
+    mul_bytes
+    mul_bytes_2
+    sub_bytes
+    mul_bytes_3
+    rem_bytes
+    mul_bytes_4
+    add_bytes
+    add_bytes_2
+    slice_write_bytes
     same_length
     returns
-    returns-2)
+    returns_2)
