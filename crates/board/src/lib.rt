@@ -77,8 +77,8 @@ fn decide_pads(
     line: bool,
     count: usize,
 ) -> usize
-    requires { IfEdge (place_of pads) (λ e. OnBoard (grid_in kind.now) e) × Kinds kind.now × Ready (grid_in kind.now) (record { edges = edges.now; ends = ends.old; log = log.old; count = count }) }
-    ensures { IfEdge (place_of pads) (λ e. Decided (grid_in kind.now) (record { edges = edges.entry.now; ends = ends.old; log = log.old; count = count }) e (line_or_none line) (record { edges = edges.exit.now; ends = ends.new; log = log.new; count = result })) }
+    requires { IfEdge (place_of pads) (λ e. OnBoard (grid_in kind.now) e) × Kinds kind.now × Ready (grid_in kind.now) (record { edges = edges.old; ends = ends.old; log = log.old; count = count }) }
+    ensures { IfEdge (place_of pads) (λ e. Decided (grid_in kind.now) (record { edges = edges.old; ends = ends.old; log = log.old; count = count }) e (line_or_none line) (record { edges = edges.new; ends = ends.new; log = log.new; count = result })) }
 {
     match pads {
         Pads::Beside(v, _) => decision::decide_right(edges, ends, log, kind, v, line, count),

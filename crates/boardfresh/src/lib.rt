@@ -35,9 +35,9 @@ fn shut_edge(
     slot: usize,
     count: usize,
 ) -> usize
-    requires { (slot < 1024) × Kinds kind.now × Ready (grid_in kind.now) (record { edges = edges.now; ends = ends.old; log = log.old; count = count }) }
-    ensures { Shown (grid_in kind.now) (record { edges = edges.exit.now; ends = ends.new; log = log.new; count = result })
-        (shut_slot (grid_in kind.now) slot (view (record { edges = edges.entry.now; ends = ends.old; log = log.old; count = count }))) }
+    requires { (slot < 1024) × Kinds kind.now × Ready (grid_in kind.now) (record { edges = edges.old; ends = ends.old; log = log.old; count = count }) }
+    ensures { Shown (grid_in kind.now) (record { edges = edges.new; ends = ends.new; log = log.new; count = result })
+        (shut_slot (grid_in kind.now) slot (view (record { edges = edges.old; ends = ends.old; log = log.old; count = count }))) }
 {
     if edges[slot] == NONE {
         return count;
@@ -54,9 +54,9 @@ fn shut_pad(
     v: usize,
     count: usize,
 ) -> usize
-    requires { (v < pads (grid_in kind.now)) × Kinds kind.now × Ready (grid_in kind.now) (record { edges = edges.now; ends = ends.old; log = log.old; count = count }) }
-    ensures { Shown (grid_in kind.now) (record { edges = edges.exit.now; ends = ends.new; log = log.new; count = result })
-        (shut_at (grid_in kind.now) v (view (record { edges = edges.entry.now; ends = ends.old; log = log.old; count = count }))) }
+    requires { (v < pads (grid_in kind.now)) × Kinds kind.now × Ready (grid_in kind.now) (record { edges = edges.old; ends = ends.old; log = log.old; count = count }) }
+    ensures { Shown (grid_in kind.now) (record { edges = edges.new; ends = ends.new; log = log.new; count = result })
+        (shut_at (grid_in kind.now) v (view (record { edges = edges.old; ends = ends.old; log = log.old; count = count }))) }
 {
     if !is_hole(kind, v) {
         return count;
@@ -75,9 +75,9 @@ fn shut_holes(
     log: &mut [i64; 1440],
     kind: &[u8; 1024],
 ) -> usize
-    requires { Kinds kind.now × Ready (grid_in kind.now) (record { edges = edges.now; ends = ends.old; log = log.old; count = 0 }) }
-    ensures { Shown (grid_in kind.now) (record { edges = edges.exit.now; ends = ends.new; log = log.new; count = result })
-        (prepared (grid_in kind.now) (pads (grid_in kind.now)) 0 (view (record { edges = edges.entry.now; ends = ends.old; log = log.old; count = 0 }))) }
+    requires { Kinds kind.now × Ready (grid_in kind.now) (record { edges = edges.old; ends = ends.old; log = log.old; count = 0 }) }
+    ensures { Shown (grid_in kind.now) (record { edges = edges.new; ends = ends.new; log = log.new; count = result })
+        (prepared (grid_in kind.now) (pads (grid_in kind.now)) 0 (view (record { edges = edges.old; ends = ends.old; log = log.old; count = 0 }))) }
 {
     let pads = boardparts::height(kind) * boardparts::width(kind);
     let mut count = 0;

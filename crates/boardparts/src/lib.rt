@@ -256,8 +256,8 @@ pub fn begin_line(
     count: usize,
 ) -> usize
     requires { (slot < 1024) × (v < 512) × (q < 512) × (count < 3072) × (count % 1024 < 480) × (length ends.old ≡ 512) }
-    ensures { LineBegun (record { edges = edges.entry.now; ends = ends.old; log = log.old; count = count }) slot v q
-        (record { edges = edges.exit.now; ends = ends.new; log = log.new; count = result }) }
+    ensures { LineBegun (record { edges = edges.old; ends = ends.old; log = log.old; count = count }) slot v q
+        (record { edges = edges.new; ends = ends.new; log = log.new; count = result }) }
 {
     if cannot_join(ends, v, q) {
         store(edges, log, slot, LINE, count);

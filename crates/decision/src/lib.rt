@@ -30,8 +30,8 @@ pub fn decide_none(
     slot: usize,
     count: usize,
 ) -> usize
-    requires { (slot < 1024) × Kinds kind.now × Ready (grid_in kind.now) (record { edges = edges.now; ends = ends.old; log = log.old; count = count }) }
-    ensures { NoneAt (grid_in kind.now) (record { edges = edges.entry.now; ends = ends.old; log = log.old; count = count }) slot (record { edges = edges.exit.now; ends = ends.new; log = log.new; count = result }) }
+    requires { (slot < 1024) × Kinds kind.now × Ready (grid_in kind.now) (record { edges = edges.old; ends = ends.old; log = log.old; count = count }) }
+    ensures { NoneAt (grid_in kind.now) (record { edges = edges.old; ends = ends.old; log = log.old; count = count }) slot (record { edges = edges.new; ends = ends.new; log = log.new; count = result }) }
 {
     let state = edges[slot];
     if state == UNDECIDED {
@@ -57,8 +57,8 @@ pub fn decide_line_right(
     v: usize,
     count: usize,
 ) -> usize
-    requires { (on_board (grid_in kind.now) (right v) ≡ true) × (v < 256) × Kinds kind.now × Ready (grid_in kind.now) (record { edges = edges.now; ends = ends.old; log = log.old; count = count }) }
-    ensures { Decided (grid_in kind.now) (record { edges = edges.entry.now; ends = ends.old; log = log.old; count = count }) (right v) line (record { edges = edges.exit.now; ends = ends.new; log = log.new; count = result }) }
+    requires { (on_board (grid_in kind.now) (right v) ≡ true) × (v < 256) × Kinds kind.now × Ready (grid_in kind.now) (record { edges = edges.old; ends = ends.old; log = log.old; count = count }) }
+    ensures { Decided (grid_in kind.now) (record { edges = edges.old; ends = ends.old; log = log.old; count = count }) (right v) line (record { edges = edges.new; ends = ends.new; log = log.new; count = result }) }
 {
     let slot = 32 + 2 * v;
     let old = edges[slot];
@@ -110,8 +110,8 @@ pub fn decide_line_down(
     v: usize,
     count: usize,
 ) -> usize
-    requires { (on_board (grid_in kind.now) (down v) ≡ true) × (v < 256) × Kinds kind.now × Ready (grid_in kind.now) (record { edges = edges.now; ends = ends.old; log = log.old; count = count }) }
-    ensures { Decided (grid_in kind.now) (record { edges = edges.entry.now; ends = ends.old; log = log.old; count = count }) (down v) line (record { edges = edges.exit.now; ends = ends.new; log = log.new; count = result }) }
+    requires { (on_board (grid_in kind.now) (down v) ≡ true) × (v < 256) × Kinds kind.now × Ready (grid_in kind.now) (record { edges = edges.old; ends = ends.old; log = log.old; count = count }) }
+    ensures { Decided (grid_in kind.now) (record { edges = edges.old; ends = ends.old; log = log.old; count = count }) (down v) line (record { edges = edges.new; ends = ends.new; log = log.new; count = result }) }
 {
     let slot = 33 + 2 * v;
     let old = edges[slot];
@@ -167,8 +167,8 @@ pub fn detour(
     c: usize,
     count: usize,
 ) -> usize
-    requires { (a < 1024) × (b < 1024) × (c < 1024) × (slot_on (grid_in kind.now) a ≡ true → (slot_on (grid_in kind.now) b ≡ true) × (slot_on (grid_in kind.now) c ≡ true)) × Kinds kind.now × Ready (grid_in kind.now) (record { edges = edges.now; ends = ends.old; log = log.old; count = count }) }
-    ensures { Done (grid_in kind.now) 1 (record { edges = edges.entry.now; ends = ends.old; log = log.old; count = count }) (detour_at (grid_in kind.now) a b c) (record { edges = edges.exit.now; ends = ends.new; log = log.new; count = result }) }
+    requires { (a < 1024) × (b < 1024) × (c < 1024) × (slot_on (grid_in kind.now) a ≡ true → (slot_on (grid_in kind.now) b ≡ true) × (slot_on (grid_in kind.now) c ≡ true)) × Kinds kind.now × Ready (grid_in kind.now) (record { edges = edges.old; ends = ends.old; log = log.old; count = count }) }
+    ensures { Done (grid_in kind.now) 1 (record { edges = edges.old; ends = ends.old; log = log.old; count = count }) (detour_at (grid_in kind.now) a b c) (record { edges = edges.new; ends = ends.new; log = log.new; count = result }) }
 {
     if ENDED <= count {
         return count;
@@ -194,8 +194,8 @@ pub fn corner_right(
     a: usize,
     count: usize,
 ) -> usize
-    requires { (a < 1024) × (q < 512) × (slot_on (grid_in kind.now) a ≡ true → q < pads (grid_in kind.now)) × Kinds kind.now × Ready (grid_in kind.now) (record { edges = edges.now; ends = ends.old; log = log.old; count = count }) }
-    ensures { Done (grid_in kind.now) 1 (record { edges = edges.entry.now; ends = ends.old; log = log.old; count = count }) (corner_at (grid_in kind.now) on_right q a) (record { edges = edges.exit.now; ends = ends.new; log = log.new; count = result }) }
+    requires { (a < 1024) × (q < 512) × (slot_on (grid_in kind.now) a ≡ true → q < pads (grid_in kind.now)) × Kinds kind.now × Ready (grid_in kind.now) (record { edges = edges.old; ends = ends.old; log = log.old; count = count }) }
+    ensures { Done (grid_in kind.now) 1 (record { edges = edges.old; ends = ends.old; log = log.old; count = count }) (corner_at (grid_in kind.now) on_right q a) (record { edges = edges.new; ends = ends.new; log = log.new; count = result }) }
 {
     if ENDED <= count {
         return count;
@@ -225,8 +225,8 @@ pub fn corner_left(
     a: usize,
     count: usize,
 ) -> usize
-    requires { (a < 1024) × (q < 512) × (slot_on (grid_in kind.now) a ≡ true → q < pads (grid_in kind.now)) × Kinds kind.now × Ready (grid_in kind.now) (record { edges = edges.now; ends = ends.old; log = log.old; count = count }) }
-    ensures { Done (grid_in kind.now) 1 (record { edges = edges.entry.now; ends = ends.old; log = log.old; count = count }) (corner_at (grid_in kind.now) on_left q a) (record { edges = edges.exit.now; ends = ends.new; log = log.new; count = result }) }
+    requires { (a < 1024) × (q < 512) × (slot_on (grid_in kind.now) a ≡ true → q < pads (grid_in kind.now)) × Kinds kind.now × Ready (grid_in kind.now) (record { edges = edges.old; ends = ends.old; log = log.old; count = count }) }
+    ensures { Done (grid_in kind.now) 1 (record { edges = edges.old; ends = ends.old; log = log.old; count = count }) (corner_at (grid_in kind.now) on_left q a) (record { edges = edges.new; ends = ends.new; log = log.new; count = result }) }
 {
     if ENDED <= count {
         return count;
@@ -257,8 +257,8 @@ pub fn bar(
     slot: usize,
     count: usize,
 ) -> usize
-    requires { (v < 512) × (slot < 1024) × (has_bit kind.now v bit ≡ true → slot_on (grid_in kind.now) slot ≡ true) × Kinds kind.now × Ready (grid_in kind.now) (record { edges = edges.now; ends = ends.old; log = log.old; count = count }) }
-    ensures { Done (grid_in kind.now) 1 (record { edges = edges.entry.now; ends = ends.old; log = log.old; count = count }) (bar_at (grid_in kind.now) (has_bit kind.now v bit) slot) (record { edges = edges.exit.now; ends = ends.new; log = log.new; count = result }) }
+    requires { (v < 512) × (slot < 1024) × (has_bit kind.now v bit ≡ true → slot_on (grid_in kind.now) slot ≡ true) × Kinds kind.now × Ready (grid_in kind.now) (record { edges = edges.old; ends = ends.old; log = log.old; count = count }) }
+    ensures { Done (grid_in kind.now) 1 (record { edges = edges.old; ends = ends.old; log = log.old; count = count }) (bar_at (grid_in kind.now) (has_bit kind.now v bit) slot) (record { edges = edges.new; ends = ends.new; log = log.new; count = result }) }
 {
     if ENDED <= count {
         return count;
@@ -279,8 +279,8 @@ pub fn check(
     v: usize,
     count: usize,
 ) -> usize
-    requires { (v ≤ 512) × (v < 512 → v < pads (grid_in kind.now)) × Kinds kind.now × Ready (grid_in kind.now) (record { edges = edges.now; ends = ends.old; log = log.old; count = count }) }
-    ensures { Done (grid_in kind.now) 1 (record { edges = edges.entry.now; ends = ends.old; log = log.old; count = count }) (check_at v) (record { edges = edges.exit.now; ends = ends.new; log = log.new; count = result }) }
+    requires { (v ≤ 512) × (v < 512 → v < pads (grid_in kind.now)) × Kinds kind.now × Ready (grid_in kind.now) (record { edges = edges.old; ends = ends.old; log = log.old; count = count }) }
+    ensures { Done (grid_in kind.now) 1 (record { edges = edges.old; ends = ends.old; log = log.old; count = count }) (check_at v) (record { edges = edges.new; ends = ends.new; log = log.new; count = result }) }
 {
     if ENDED <= count {
         return count;
@@ -327,9 +327,9 @@ pub fn decide_right(
     line: bool,
     count: usize,
 ) -> usize
-    requires { (v < 256) × Kinds kind.now × Ready (grid_in kind.now) (record { edges = edges.now; ends = ends.old; log = log.old; count = count }) × (on_board (grid_in kind.now) (right v) ≡ true) }
-    ensures { Decided (grid_in kind.now) (record { edges = edges.entry.now; ends = ends.old; log = log.old; count = count })
-        (right v) (line_or_none line) (record { edges = edges.exit.now; ends = ends.new; log = log.new; count = result }) }
+    requires { (v < 256) × Kinds kind.now × Ready (grid_in kind.now) (record { edges = edges.old; ends = ends.old; log = log.old; count = count }) × (on_board (grid_in kind.now) (right v) ≡ true) }
+    ensures { Decided (grid_in kind.now) (record { edges = edges.old; ends = ends.old; log = log.old; count = count })
+        (right v) (line_or_none line) (record { edges = edges.new; ends = ends.new; log = log.new; count = result }) }
 {
     if line {
         return decide_line_right(edges, ends, log, kind, v, count);
@@ -347,9 +347,9 @@ pub fn decide_down(
     line: bool,
     count: usize,
 ) -> usize
-    requires { (v < 256) × Kinds kind.now × Ready (grid_in kind.now) (record { edges = edges.now; ends = ends.old; log = log.old; count = count }) × (on_board (grid_in kind.now) (down v) ≡ true) }
-    ensures { Decided (grid_in kind.now) (record { edges = edges.entry.now; ends = ends.old; log = log.old; count = count })
-        (down v) (line_or_none line) (record { edges = edges.exit.now; ends = ends.new; log = log.new; count = result }) }
+    requires { (v < 256) × Kinds kind.now × Ready (grid_in kind.now) (record { edges = edges.old; ends = ends.old; log = log.old; count = count }) × (on_board (grid_in kind.now) (down v) ≡ true) }
+    ensures { Decided (grid_in kind.now) (record { edges = edges.old; ends = ends.old; log = log.old; count = count })
+        (down v) (line_or_none line) (record { edges = edges.new; ends = ends.new; log = log.new; count = result }) }
 {
     if line {
         return decide_line_down(edges, ends, log, kind, v, count);
