@@ -126,7 +126,7 @@ module _ (g : Grid) (proper : Proper g) where
   prepared_after : {start S : State} {decisions : List Decision} (n v : ℕ) → v + n ≤ pads g → After g start S decisions → After g start (prepared g n v S) (hole_nones g n v decisions)
   unfolding prepared hole_nones
   prepared_after zero v inside after = after
-  prepared_after (suc n) v inside after = prepared_after n (v + 1) (omega arith) (hole_after v (omega arith) after)
+  prepared_after {S = S} (suc n) v inside after = prepared_after {S = shut_at g v S} n (v + 1) (omega arith) (hole_after v (omega arith) after)
 
   fresh_after : After g (bare g) (fresh g) (hole_decisions g)
   unfolding fresh hole_decisions
