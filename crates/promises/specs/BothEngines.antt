@@ -5,7 +5,7 @@
 -- nothing of boards and propagation, the search's on the crate `exact`; that they meet is that a grid has one exact list (runs' ExactLists.antt).
 use Rattle.std.specs.Prelude.{ℕ, ◌*◌, ◌≤◌, ◌<◌, ◌≡◌, refl, ◌↔◌, length, take, get_or, ℤ}
 use Rattle.std.proofs.Common.{sym, ap, ◌∙◌, arith, zero-mul, length-append, take_at}
-use Rattle.std.proofs.Math.Logic.{Iff.symm, Iff.trans}
+use Rattle.std.proofs.Math.Logic.Iff
 use mathlib.Core.List.Memᴰ
 use mathlib.Core.List.{List, [], ◌++◌, Memᴰ}
 use Rattle.std.proofs.Math.Decide.{ℕ_discrete}
