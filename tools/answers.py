@@ -68,6 +68,7 @@ class Function:
         for (old, new), at in zip(data["needs"], data["asked_at"]):
             self.needs[norm(old)] = (new, at[0])
         self.places = {p[0]: p for p in data["places"]}
+        self.arms = {p[0]: a for p, a in zip(data["places"], data["arms"]) if a}
         self.loops = {norm(l[0][0]): (l, c) for l, c in zip(data["loops"], data["changed"])}
 
     def steps(self, place):
@@ -76,8 +77,12 @@ class Function:
             p = self.places.get(place)
             if not p:
                 break
+            for field, step, prefix in (self.arms.get(place) or [None, 0, []])[2]:
+                table.setdefault((norm(step), tuple(prefix)), (self.arms[place][0], field))
             if p[2] and p[2][0]:
                 table.setdefault(norm(p[2][0]), p[2][1])
+                if p[4]:
+                    table.setdefault(("raw", p[2][1]), [q[0] for q in p[4]])
             place = p[1]
         return table
 
@@ -91,14 +96,23 @@ def paths(body, var, table, lost):
     pat = re.compile(r"(?<![\w.'-])(" + "|".join(sorted(map(re.escape, names), key=len, reverse=True)) + r")((?:\.[\w'-]+)*)(?![\w'-])")
 
     def one(m):
-        parts = [p for p in m.group(2).split(".")[1:] if p != "before"]
+        parts = [p.replace("type-inv", "type_inv") for p in m.group(2).split(".")[1:] if p != "before"]
         if parts:
             new = table.get(norm(parts[0]))
-            if new:
+            arm = [(k, v) for k, v in table.items() if isinstance(k, tuple) and k[0] == norm(parts[0]) and tuple(parts[1 : 1 + len(k[1])]) == k[1]]
+            if arm:
+                k, v = max(arm, key=lambda kv: len(kv[0][1]))
+                parts = list(v) + parts[1 + len(k[1]) :]
+            elif new:
                 parts[0] = new
             elif parts[0] not in ("args", "requires", "ranges", "lifetimes", "type_inv", "utf8"):
                 lost.append(m.group(0))
-        return ".".join([m.group(1)] + parts)
+        whole = ".".join([m.group(1)] + parts)
+        # of `!t` a step says what `t` is now, and not what `!t` is
+        if len(parts) > 1 and parts[1] in table.get(("raw", parts[0]), []) and re.search(r"(^|-)not-", parts[0]):
+            head = ".".join([m.group(1)] + parts[:2])
+            return f"(ap not {head})" + whole[len(head) :]
+        return whole
 
     return pat.sub(one, body)
 
@@ -209,9 +223,11 @@ def turn(crate, folder, names, said):
             f = members.get(norm(m.group(1) or ""))
             old = norm(m.group(2))
             got = None
-            for o in (old, re.sub(r"^overflow-", "", old), re.sub(r"^index-", "", old)):
+            for o in (old, re.sub(r"^(overflow|nonzero|index)-", "", old), re.sub(r"^slice-bounds-", "part-", old), norm(name)):
                 got = got or (f and f.needs.get(o))
             b = "\n".join(body)
+            if not got and re.search(r"= search rules\s*$", b):
+                continue
             if not got:
                 said.append(f"{where}: goal {m.group(2)} is gone: {b[:200]!r}")
                 continue
@@ -292,6 +308,11 @@ def write(crate, folder, head, imports, invs, answers, helpers):
         lines = import_lines(imports, text) + [f"use {path}.Given as goal"]
         with open(os.path.join(base, "Invariants.antt"), "w", encoding="utf-8") as f:
             f.write("\n".join(head) + "\n" + "\n".join(lines) + "\n\n" + text + "\n")
+    if any("(ap not " in b for _, _, b, _ in answers):
+        if not any(ns and "ap" in ns for _, ns, _ in imports):
+            imports = imports + [("mathlib.Core.Path", ["ap"], None)]
+        if not any(ns and "not" in ns for _, ns, _ in imports):
+            imports = imports + [("mathlib.Core.Bool", ["not"], None)]
     if answers:
         ans_text = "\n".join(b for _, _, b, _ in answers)
         need = tokens(ans_text)
