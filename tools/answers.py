@@ -98,7 +98,12 @@ def paths(body, var, table, lost):
                 parts[0] = new
             elif parts[0] not in ("args", "requires", "ranges", "lifetimes", "type_inv", "utf8"):
                 lost.append(m.group(0))
-        return ".".join([m.group(1)] + parts)
+        whole = ".".join([m.group(1)] + parts)
+        # of `!t` a step says what `t` is now, and not what `!t` is
+        if len(parts) > 1 and parts[1] in ("true", "false") and re.match(r"(if|loop)-(\w+-)?not-", parts[0]):
+            head = ".".join([m.group(1)] + parts[:2])
+            return f"(ap not {head})" + whole[len(head) :]
+        return whole
 
     return pat.sub(one, body)
 
@@ -292,6 +297,11 @@ def write(crate, folder, head, imports, invs, answers, helpers):
         lines = import_lines(imports, text) + [f"use {path}.Given as goal"]
         with open(os.path.join(base, "Invariants.antt"), "w", encoding="utf-8") as f:
             f.write("\n".join(head) + "\n" + "\n".join(lines) + "\n\n" + text + "\n")
+    if any("(ap not " in b for _, _, b, _ in answers):
+        if not any(ns and "ap" in ns for _, ns, _ in imports):
+            imports = imports + [("mathlib.Core.Path", ["ap"], None)]
+        if not any(ns and "not" in ns for _, ns, _ in imports):
+            imports = imports + [("mathlib.Core.Bool", ["not"], None)]
     if answers:
         ans_text = "\n".join(b for _, _, b, _ in answers)
         need = tokens(ans_text)
