@@ -214,9 +214,11 @@ def turn(crate, folder, names, said):
             f = members.get(norm(m.group(1) or ""))
             old = norm(m.group(2))
             got = None
-            for o in (old, re.sub(r"^overflow-", "", old), re.sub(r"^index-", "", old)):
+            for o in (old, re.sub(r"^(overflow|nonzero|index)-", "", old), re.sub(r"^slice-bounds-", "part-", old), norm(name)):
                 got = got or (f and f.needs.get(o))
             b = "\n".join(body)
+            if not got and re.search(r"= search rules\s*$", b):
+                continue
             if not got:
                 said.append(f"{where}: goal {m.group(2)} is gone: {b[:200]!r}")
                 continue
