@@ -68,6 +68,7 @@ class Function:
         for (old, new), at in zip(data["needs"], data["asked_at"]):
             self.needs[norm(old)] = (new, at[0])
         self.places = {p[0]: p for p in data["places"]}
+        self.arms = {p[0]: a for p, a in zip(data["places"], data["arms"]) if a}
         self.loops = {norm(l[0][0]): (l, c) for l, c in zip(data["loops"], data["changed"])}
 
     def steps(self, place):
@@ -76,8 +77,12 @@ class Function:
             p = self.places.get(place)
             if not p:
                 break
+            for field, step, prefix in (self.arms.get(place) or [None, 0, []])[2]:
+                table.setdefault((norm(step), tuple(prefix)), (self.arms[place][0], field))
             if p[2] and p[2][0]:
                 table.setdefault(norm(p[2][0]), p[2][1])
+                if p[4]:
+                    table.setdefault(("raw", p[2][1]), [q[0] for q in p[4]])
             place = p[1]
         return table
 
@@ -91,16 +96,20 @@ def paths(body, var, table, lost):
     pat = re.compile(r"(?<![\w.'-])(" + "|".join(sorted(map(re.escape, names), key=len, reverse=True)) + r")((?:\.[\w'-]+)*)(?![\w'-])")
 
     def one(m):
-        parts = [p for p in m.group(2).split(".")[1:] if p != "before"]
+        parts = [p.replace("type-inv", "type_inv") for p in m.group(2).split(".")[1:] if p != "before"]
         if parts:
             new = table.get(norm(parts[0]))
-            if new:
+            arm = [(k, v) for k, v in table.items() if isinstance(k, tuple) and k[0] == norm(parts[0]) and tuple(parts[1 : 1 + len(k[1])]) == k[1]]
+            if arm:
+                k, v = max(arm, key=lambda kv: len(kv[0][1]))
+                parts = list(v) + parts[1 + len(k[1]) :]
+            elif new:
                 parts[0] = new
             elif parts[0] not in ("args", "requires", "ranges", "lifetimes", "type_inv", "utf8"):
                 lost.append(m.group(0))
         whole = ".".join([m.group(1)] + parts)
         # of `!t` a step says what `t` is now, and not what `!t` is
-        if len(parts) > 1 and parts[1] in ("true", "false") and re.match(r"(if|loop)-(\w+-)?not-", parts[0]):
+        if len(parts) > 1 and parts[1] in table.get(("raw", parts[0]), []) and re.search(r"(^|-)not-", parts[0]):
             head = ".".join([m.group(1)] + parts[:2])
             return f"(ap not {head})" + whole[len(head) :]
         return whole
