@@ -1,6 +1,6 @@
 -- `boardrecord::byte_at` meets its contract: undecided where there is no edge, else the byte of the edge's slot. Assumes nothing.
 use Rattle.boardrecord.proofs.SlotLaws.{told_small, nothing_there, byte_there}
-use Rattle.rules.specs.Places.{first_small}
+use Rattle.rules.proofs.Places.{first_small}
 use borrow.Author.Rules.{rules}
 use Rattle.boardrecord.proofs.byte_at.Statement.{statement}
 use Rattle.boardrecord.proofs.byte_at.Tie as tie
