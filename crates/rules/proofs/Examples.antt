@@ -7,7 +7,8 @@ use Rattle.std.proofs.Common.{ap, inl, inr, ⊎_elim, arith}
 use Rattle.rules.specs.Grid.{cell_of, blank_cell, hole_cell, CellInRange, grid_of}
 use Rattle.rules.specs.Drawing.{Drawing, Line, rightward, leftward, downward, upward, here, more, Ordinary, Listed, on_left, on_right}
 use Rattle.rules.specs.Checked.{elem, lines_at, checked, checked_ordinary}
-use Rattle.rules.specs.CheckedListed.{corners_checked, squares_checked, checked_listed}
+use Rattle.rules.specs.CheckedListed.{corners_checked, squares_checked}
+use Rattle.rules.proofs.CheckedListed.{checked_listed}
 use Rattle.rules.specs.Places.{zero≢one}
 
 -- the cells of a grid, row by row: blank, a hole, and clues of code 5, 6 and 7

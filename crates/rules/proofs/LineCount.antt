@@ -10,8 +10,8 @@ use Rattle.rules.specs.Grid.{right, down, place_at, places, field_side, Grid, pa
 use Rattle.rules.specs.Drawing.{Drawing, drawn, num, Placed, count, number_of_lines}
 use Rattle.rules.specs.Record.{line_byte, byte_of, tabulate, byte_at_place, field, record_of, record_lines}
 use Rattle.rules.specs.Tests.{num_small}
-use Rattle.rules.specs.Places.{place_right, place_down, place_of_pad, place_in_the_middle, column_of_pad}
-use Rattle.rules.specs.RecordLaws.{off_line, is_line_byte}
+use Rattle.rules.proofs.Places.{place_right, place_down, place_of_pad, place_in_the_middle, column_of_pad}
+use Rattle.rules.proofs.RecordLaws.{off_line, is_line_byte}
 use Rattle.rules.specs.Sums.{sum, sum_same, sum_last, sum_shift, sum_add, sum_bound, sum_rows, sum_pairs}
 
 count_sum : (f : ℕ → Bool) (n : ℕ) → count f n ≡ sum (λ v. num (f v)) 0 n
