@@ -1,6 +1,6 @@
 -- `boardrecord::byte_at` meets its contract: undecided where there is no edge, else the byte of the edge's slot. Assumes nothing.
 use Rattle.boardrecord.proofs.SlotLaws.{told_small, nothing_there, byte_there}
-use Rattle.rules.specs.Places.{first_small}
+use Rattle.rules.proofs.Places.{first_small}
 use Rattle.boardrecord.proofs.byte_at.Goals as goal
 
 pub slot_of-slot-requires : goal.slot_of-slot-requires

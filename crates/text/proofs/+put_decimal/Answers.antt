@@ -1,7 +1,7 @@
 -- `text::put_decimal` meets its contract, with the number as the measure: the digits of the tenth part, and then the last
 -- digit. Assumes nothing.
 use Rattle.text.specs.PutLaws.{put_both, put_length, put_same}
-use Rattle.model.specs.DecimalLaws.{decimal_short, decimal_long}
+use Rattle.model.proofs.DecimalLaws.{decimal_short, decimal_long}
 use Rattle.model.specs.Decimal.{digit_byte}
 use lib.ListN.{length-append}
 use mathlib.Core.Path.{sym, ◌∙◌}
