@@ -12,7 +12,8 @@ use Rattle.std.specs.Int.Bits.{bit_or}
 use Rattle.std.proofs.Math.ListN.{replicate}
 use Rattle.rules.specs.Grid.{Edge, Place, edge, no_edge, place_at, field_side, places, Grid, grid_of, Accepted}
 use Rattle.rules.specs.Record.{byte_of, tabulate, byte_at_place, field, record_of, drawing_of}
-use Rattle.rules.specs.RecordLaws.{tabulate_same, record_shows, drawing_determines}
+use Rattle.rules.specs.RecordLaws.{tabulate_same}
+use Rattle.rules.proofs.RecordLaws.{record_shows, drawing_determines}
 use Rattle.model.specs.Records.{record_at}
 use Rattle.model.specs.Runs.{scan, Solved}
 use Rattle.model.specs.Search.{search, solve}

@@ -15,7 +15,7 @@ use Rattle.std.proofs.Math.Dec.{eqb}
 use Rattle.rules.specs.Grid.{Edge, right, down, first, Grid, pads, OnBoard}
 use Rattle.rules.specs.Drawing.{Drawing, drawn, Placed, Listed}
 use Rattle.rules.specs.Record.{undecided_byte, line_byte, byte_of, place_number, record_of, pad_code, Ascending}
-use Rattle.rules.specs.RecordLaws.{field_edge, is_line_byte, drawing_determines}
+use Rattle.rules.proofs.RecordLaws.{field_edge, is_line_byte, drawing_determines}
 use Rattle.rules.specs.Places.{first_inside}
 use Rattle.rules.specs.ProperGrid.{Proper}
 use Rattle.rules.specs.Tests.{both, both_on, conflict, not_so}

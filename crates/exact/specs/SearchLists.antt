@@ -11,7 +11,7 @@ use mathlib.Core.List.Memᴰ
 use Rattle.rules.specs.Grid.{Edge, Grid, pads, OnBoard, right, down}
 use Rattle.rules.specs.Drawing.{Drawing, drawn}
 use Rattle.rules.specs.Record.{byte_of, record_of, Ascending}
-use Rattle.rules.specs.RecordLaws.{field_same}
+use Rattle.rules.proofs.RecordLaws.{field_same}
 use Rattle.rules.specs.Tests.{conflict}
 use Rattle.rules.specs.Places.{first_inside}
 use Rattle.model.specs.PadTests.{has_down}

@@ -5,7 +5,7 @@ use native.Mathlib.Omega.{arith}
 use native.Mathlib.Nat.{mul-le-mul, suc-mul}
 use native.Mathlib.Numerals.{add-one}
 use Rattle.rules.specs.Grid.{pad_index, place_at}
-use Rattle.rules.specs.Places.{place_right, place_down, place_of_pad, place_in_the_middle}
+use Rattle.rules.proofs.Places.{place_right, place_down, place_of_pad, place_in_the_middle}
 use Rattle.grid.specs.PadsAt.{pads_of}
 use Rattle.grid.specs.declared.Pads.TheVariants.{Beside, Above, NoEdge}
 

@@ -6,7 +6,8 @@ use Rattle.std.proofs.Math.Path.{refl, ap}
 use Rattle.std.proofs.Common.{◌∙◌, inl, inr}
 use Rattle.rules.specs.Grid.{Edge, right, down, first, second, field_side, Place, edge, no_edge, place_at, Grid}
 use Rattle.rules.specs.Places.{zero≢one}
-use Rattle.rules.specs.PadsOfEdges.{Neighbours, Joins, Gives, OnePlace, edge_place_gives_its_pads, other_place_gives_none, neighbours_have_one_place}
+use Rattle.rules.specs.PadsOfEdges.{Neighbours, Joins, Gives, OnePlace}
+use Rattle.rules.proofs.PadsOfEdges.{edge_place_gives_its_pads, other_place_gives_none, neighbours_have_one_place}
 use Rattle.grid.specs.PadsAt.{pads_of}
 use Rattle.grid.specs.declared.Pads.{Pads}
 use Rattle.grid.specs.declared.Pads.TheVariants.{Beside, Above, NoEdge}

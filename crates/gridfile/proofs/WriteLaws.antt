@@ -25,7 +25,7 @@ use Rattle.model.specs.Writing.{cell_text, rows_text, grid_text, turned_away, wr
 use Rattle.text.specs.Put.{Put}
 use Rattle.text.specs.PutLaws.{put_both, put_length, put_same, put_none, put_front, put_next}
 use Rattle.reading.specs.ReadBack.{longest_text}
-use Rattle.reading.specs.WriteRead.{refused_grid, no_room, has_room}
+use Rattle.reading.proofs.WriteRead.{refused_grid, no_room, has_room}
 
 -- ## The field of a pad
 

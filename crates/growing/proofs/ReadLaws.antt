@@ -12,7 +12,7 @@ use lib.Seq.{take-suc, take_all, split_at}
 use borrow.Author.Tests.{le-leb, lt-leb}
 use Rattle.model.specs.GridFile.{is_digit}
 use Rattle.model.specs.RoutesTo.{largest_limit, most_limit_digits, all_digits, value_after, is_limit, boards, no_limit, limit_of}
-use Rattle.model.specs.LimitLaws.{digits_append, value_append}
+use Rattle.model.proofs.LimitLaws.{digits_append, value_append}
 
 -- more digits make no less
 value_grows : (text : List ℕ) (value : ℕ) → value ≤ value_after value text

@@ -10,7 +10,7 @@ use Rattle.std.proofs.Math.Dec.{leb}
 use borrow.Author.Tests.{leb-false}
 use Rattle.model.specs.Printed.{handed_over}
 use Rattle.model.specs.RoutesTo.{boards, no_limit, is_limit, limit_of, limit_line, routes_to_room, routes_to_text}
-use Rattle.model.specs.LimitLaws.{too_long}
+use Rattle.model.proofs.LimitLaws.{too_long}
 use Rattle.printed.specs.declared.LayoutLine.{LayoutLine}
 use Rattle.listing.specs.declared.Heading.{Heading}
 use Rattle.listing.specs.Listing.{Headed, Lined}

@@ -17,8 +17,9 @@ use Rattle.std.proofs.Math.ListN.{get_or, length}
 use Rattle.rules.specs.Grid.{Edge, right, down, Grid, grid_of, pads, places, OnBoard, Accepted}
 use Rattle.rules.specs.Drawing.{Drawing, drawn, num, Placed}
 use Rattle.rules.specs.Record.{undecided_byte, line_byte, byte_of, tabulate, place_number, drawing_of, record_of, pad_code, record_lines, ListedRecord}
-use Rattle.rules.specs.LineCount.{record_lines_of}
-use Rattle.rules.specs.RecordLaws.{length_tabulate, get_or_from_zero, field_same, off_line, record_shows}
+use Rattle.rules.proofs.LineCount.{record_lines_of}
+use Rattle.rules.specs.RecordLaws.{length_tabulate, get_or_from_zero}
+use Rattle.rules.proofs.RecordLaws.{field_same, off_line, record_shows}
 use Rattle.rules.specs.Places.{first_inside}
 use Rattle.rules.specs.Tests.{both_on, all_below_so, num_small}
 use Rattle.model.specs.Decimal.{digit_byte}

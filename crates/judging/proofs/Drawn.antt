@@ -16,7 +16,7 @@ use Rattle.rules.specs.Grid.{pad_index, blank, Grid}
 use Rattle.rules.specs.Drawing.{Drawing, num, Side, on_left, on_right}
 use Rattle.rules.specs.Record.{undecided_byte, line_byte, drawing_of}
 use Rattle.rules.specs.Tests.{both, both_off, conflict}
-use Rattle.rules.specs.Places.{row_of_pad, column_of_pad}
+use Rattle.rules.proofs.Places.{row_of_pad, column_of_pad}
 use Rattle.rules.specs.CheckedListed.{has_corner, diagonal}
 use Rattle.judging.specs.Shape.{InColumn, taken_at, lines_around, square_keeps, corner_keeps}
 

@@ -11,7 +11,8 @@ use Rattle.rules.specs.Places.{some_places}
 use Rattle.model.specs.Bounds.{is_size}
 use Rattle.model.specs.RefusalLaws.{size_of_test}
 use Rattle.model.specs.Records.{has_record, record_at}
-use Rattle.model.specs.HasRecord.{HasRecord, what_a_record_has, record_is_there, that_part, this_record, record_here}
+use Rattle.model.specs.HasRecord.{HasRecord, what_a_record_has, record_is_there}
+use Rattle.model.proofs.HasRecord.{that_part, this_record, record_here}
 use Rattle.model.specs.Runs.{concat}
 use Rattle.model.specs.Printed.{layout_line, layout_lines}
 use Rattle.printed.specs.Written.{Written, layout_text}

@@ -7,7 +7,8 @@ use Rattle.std.proofs.Math.Dec.{ltb}
 use borrow.Author.Tests.{lt-ltb, le-ltb, ltb-true}
 use Rattle.rules.specs.Grid.{Edge, edge, no_edge, place_at, field_side, Grid, OnBoard}
 use Rattle.rules.specs.Tests.{both}
-use Rattle.rules.specs.Places.{zero≢one, edge_of_place}
+use Rattle.rules.specs.Places.{zero≢one}
+use Rattle.rules.proofs.Places.{edge_of_place}
 use Rattle.model.specs.Calls.{edge_at}
 
 module _ (g : Grid) (row column : ℕ) where

@@ -1,16 +1,15 @@
 -- The known grids K1 to K12 of the documents, proved together as one fact of the definitions, by computation: `known_grids`, at the end.
 -- Nothing else is assumed; the definitions are those of the search, the ends and the grid file.
-use Rattle.std.specs.Prelude.{ℕ, ◌*◌, ◌≡◌, refl, List, [], ◌∷◌, replicate, ℤ, pos, negsuc}
-use Rattle.rules.specs.Grid.{cell_of, blank_cell, grid_of, places, place_at, parity}
-use Rattle.rules.specs.Record.{codes, drawing_of, field, record_lines, tabulate}
-use Rattle.model.specs.JoinedEnds.{end_number, unjoinable, joined_ends, put_end, put_end_at}
-use Rattle.model.specs.Board.{fresh, prepared, shut_at, shut, bare, decide, check, after_store, cannot_join, join_ends, check_items, settled, decide_first, degree, undecideds, lines, keep_aparts, around, do_item, do_items, shape_items, barred, set_flag, set_edge, enough}
-use Rattle.model.specs.KnownFiles.{K10 as Largest-code-read, K11 as Letter-refused, K12 as One-row-refused, known_files}
-use Rattle.model.specs.Bounds.{is_size}
-use Rattle.model.specs.Refusals.{grid_refusal, is_cell, first_bad_cell}
-use Rattle.model.specs.Records.{has_record, record_length, record_at}
-use Rattle.model.specs.Runs.{Solved, listed_by, concat, scan, fewest}
-use Rattle.model.specs.Search.{solve, search, search_from, backtrack, try, degree_so_far, next_pad, board_record}
+-- What is proved of them stands in proofs/Known.antt.
+use Rattle.std.specs.Prelude.{ℕ, ◌*◌, ◌≡◌, List, [], ◌∷◌, replicate, ℤ, pos, negsuc}
+use Rattle.rules.specs.Grid.{blank_cell, grid_of, places}
+use Rattle.rules.specs.Record.{codes, drawing_of, tabulate}
+use Rattle.model.specs.JoinedEnds.{end_number}
+use Rattle.model.specs.Board.{fresh}
+use Rattle.model.specs.KnownFiles.{K10 as Largest-code-read, K11 as Letter-refused, K12 as One-row-refused}
+use Rattle.model.specs.Records.{record_at}
+use Rattle.model.specs.Runs.{Solved, fewest}
+use Rattle.model.specs.Search.{solve}
 
 -- what the documents tell of a grid: layouts, visited, fewest, and the codes of each layout
 pub record Known : Type 0 where
@@ -64,7 +63,3 @@ pub record KnownGrids : Type 0 where
   pub K11 : Letter-refused
   -- header `1,2` gives 5, line 1, field 1
   pub K12 : One-row-refused
-
-pub known_grids : KnownGrids
-unfolding known solve listed_by concat grid_refusal is_size is_cell first_bad_cell has_record record_length record_at grid_of cell_of codes drawing_of field record_lines tabulate place_at parity scan search search_from fewest backtrack try degree_so_far next_pad board_record fresh prepared shut_at shut bare end_number decide check after_store cannot_join unjoinable join_ends check_items settled decide_first degree undecideds lines keep_aparts around do_item do_items shape_items barred joined_ends put_end put_end_at set_flag set_edge enough
-known_grids = record { K1 = refl; K2 = refl; K3 = refl; K4 = refl; K5 = refl; K6 = refl; K7 = refl; K8 = refl; K1Spent = refl; K1Full = refl; K9 = (refl, refl); K10 = known_files.0; K11 = known_files.1; K12 = known_files.2 }

@@ -19,7 +19,6 @@ pub mod Records
 pub mod HasRecord
 pub mod GridFile
 pub mod Decimal
-pub mod DecimalLaws
 pub mod Writing
 pub mod Packed
 pub mod Printed

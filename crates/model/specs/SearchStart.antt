@@ -1,6 +1,6 @@
 -- Where the search of a board starts, by its flag: nowhere, or at the first pad with its right edge undecided, or in the last row. Two laws
 -- of `search_from` (Search.antt).
-use Rattle.std.specs.Prelude.{ℕ, ◌≡◌, Bool, true, false, List, []}
+use Rattle.std.specs.Prelude.{◌≡◌, Bool, true, false, List, []}
 use Rattle.std.proofs.Math.Path.{ap}
 use Rattle.rules.specs.Grid.{Grid, pads}
 use Rattle.model.specs.Board.{State}

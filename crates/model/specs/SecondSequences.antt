@@ -2,7 +2,7 @@
 -- they say was computed by a second board and search, oracle/holes.py, which is written from the documents; the calls stand there as well.
 -- Sequences: the new board and then each call, with its answer, the edges as a record, the ends and the flag. Each is told apart from some
 -- wrong version, which its comment names; fresh boards whose flag is set are among them.
-use Rattle.std.specs.Prelude.{ℕ, ◌≡◌, refl, Bool, true, false, List, [], ◌∷◌, replicate, ℤ, pos, negsuc}
+use Rattle.std.specs.Prelude.{ℕ, ◌≡◌, refl, true, false, List, [], ◌∷◌, replicate, ℤ, pos, negsuc}
 use Rattle.rules.specs.Grid.{cell_of, blank_cell, hole_cell, grid_of, place_at, parity}
 use Rattle.rules.specs.Record.{codes, drawing_of, field, record_lines, tabulate}
 use Rattle.model.specs.Bounds.{is_size}
@@ -13,7 +13,7 @@ use Rattle.model.specs.Calls.{shown, fresh_board, new, edge_at, decide_edge, rea
 use Rattle.model.specs.Records.{has_record, record_length, record_at}
 use Rattle.model.specs.Runs.{listed_by, concat, scan, fewest}
 use Rattle.model.specs.Search.{solve, search, search_from, backtrack, try, degree_so_far, next_pad, board_record}
-use Rattle.model.specs.Known.{Known, known}
+use Rattle.model.specs.Known.{known}
 use Rattle.model.specs.Sequences.{Call, decide_call, read_call, checkpoint_call, undo_call, do_call, Seen, seen, replay, after}
 
 -- a new board and the calls on it one after another, with what is seen after each

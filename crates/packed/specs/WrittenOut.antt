@@ -6,7 +6,8 @@ use Rattle.model.specs.GridFile as model
 use Rattle.model.specs.Writing as writer
 use Rattle.model.specs.Packed.{read_packed}
 use Rattle.reading.specs.WrittenBack.{pads_read}
-use Rattle.reading.specs.SlicesAndFiles.{WrittenAndRead, slice_written, slice_to_any}
+use Rattle.reading.specs.SlicesAndFiles.{WrittenAndRead, slice_written}
+use Rattle.reading.proofs.SlicesAndFiles.{slice_to_any}
 use Rattle.gridfile.specs.declared.Reading.{Reading}
 use Rattle.gridfile.specs.declared.Writing.{Writing}
 use Rattle.gridfile.specs.Answers.{reading_says, writing_says}

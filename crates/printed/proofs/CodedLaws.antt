@@ -16,7 +16,7 @@ use Rattle.rules.specs.Grid.{Edge, right, down, first, Place, edge, no_edge, pla
 use Rattle.rules.specs.Drawing.{num}
 use Rattle.rules.specs.Record.{place_number}
 use Rattle.rules.specs.Places.{zero≢one, first_inside}
-use Rattle.rules.specs.RecordLaws.{edge_number_in_field, edge_at_number, number_of_edge}
+use Rattle.rules.proofs.RecordLaws.{edge_number_in_field, edge_at_number, number_of_edge}
 use Rattle.model.specs.Bounds.{is_size}
 use Rattle.model.specs.RefusalLaws.{size_of_test}
 use Rattle.model.specs.Printed.{line_at, right_line, down_line, code_of_pad}

@@ -5,7 +5,7 @@ use Rattle.std.proofs.lemmas.List.{length-replicate}
 use Rattle.std.specs.Int.{w8, w64}
 use Rattle.model.specs.Lists.{drop_replicate}
 use Rattle.model.specs.Decimal.{decimal}
-use Rattle.model.specs.DecimalLaws.{decimal_length}
+use Rattle.model.proofs.DecimalLaws.{decimal_length}
 use Rattle.text.specs.Put.{Put}
 use Rattle.text.specs.PutLaws.{put_both, put_length, put_same, put_front, put_next}
 use Rattle.printed.specs.Written.{zeros, Written}

@@ -13,7 +13,7 @@ use Rattle.std.proofs.Math.ListN.{get_or, get_or-append}
 use Rattle.rules.specs.Grid.{Edge, no_edge, place_at, places, field_side, Grid, grid_of, Accepted, OnBoard}
 use Rattle.rules.specs.Drawing.{Drawing, drawn, Ordinary, Listed}
 use Rattle.rules.specs.Record.{undecided_byte, line_byte, none_byte, byte_of, byte_at_place, record_of, place_number, ListedRecord}
-use Rattle.rules.specs.RecordLaws.{edge_number_in_field, edge_at_number, field_edge, record_shows, is_line_byte}
+use Rattle.rules.proofs.RecordLaws.{edge_number_in_field, edge_at_number, field_edge, record_shows, is_line_byte}
 use Rattle.model.specs.Refusals.{grid_refusal}
 use Rattle.model.specs.RefusalLaws.{not_refused, accepted_is_not_refused}
 use Rattle.model.specs.Records.{record_at}

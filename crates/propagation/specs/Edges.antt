@@ -8,7 +8,7 @@ use Rattle.rules.specs.Places.{zero≢one}
 use Rattle.rules.specs.Tests.{conflict}
 use Rattle.model.specs.Board.{EdgeState, is_line, is_undecided, same_state, same_edge, State, set_edge, line_or_none, undecided, line, none}
 use Rattle.propagation.specs.Undecided.{DecidedStay}
-use Rattle.rules.specs.Chains.{edge_of_line, line_forward, line_of_edge}
+use Rattle.rules.proofs.Chains.{edge_of_line, line_forward, line_of_edge}
 
 same_edge-true : (x e : Edge) → same_edge x e ≡ true → x ≡ e
 same_edge-true (right a) (right b) h = ap right (eqb-true a b h)

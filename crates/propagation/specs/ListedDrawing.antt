@@ -11,7 +11,7 @@ use Rattle.model.specs.PadTests.{is_blank, has_down, on_board}
 use Rattle.model.specs.Board.{State, has_side, barred, shape_items, around, detour, corner, bar}
 use Rattle.model.specs.BoardLaws.{blank_of, on_board_of_test}
 use Rattle.propagation.specs.Edges.{board_lines, edge_of}
-use Rattle.rules.specs.Chains.{line_forward}
+use Rattle.rules.proofs.Chains.{line_forward}
 use Rattle.propagation.specs.Squares.{SquareAt, upper_right, lower_right, left_down, right_down, upper_in, lower_in, Role, square_edge, detours_at, corner_pad, lower_pad, edge_beside, Standing, standing, one_of_three, detours_only, detour_parts, corner_parts, bar_parts, detour_no_corner, detour_no_bar, corner_no_bar, upper_edge, left_edge, right_edge, lower_edge, in_square, corner_across, corner_downward, bar_across, bar_downward}
 use Rattle.propagation.specs.Counting.{among, none_among, one_to, two_to, some_among, two_among, around_apart, right_column, right_in, down_in, beside, leads}
 use Rattle.propagation.specs.Bars.{line_beside, no_barred_corner}

@@ -10,7 +10,8 @@ use mathlib.Core.List.{List, [], ◌∷◌, Memᴰ}
 use Rattle.std.proofs.Math.Nat.{add-mod_right, mod-le}
 use Rattle.rules.specs.Grid.{Edge, first, second, Grid, pads, right, down}
 use Rattle.rules.specs.Drawing.{Side, on_left, on_right}
-use Rattle.rules.specs.Places.{zero≢one, pads_apart, one_edge, next_in_row, previous_column}
+use Rattle.rules.specs.Places.{zero≢one, next_in_row, previous_column}
+use Rattle.rules.proofs.Places.{pads_apart, one_edge}
 use Rattle.rules.specs.Tests.{both, both_on}
 use Rattle.model.specs.PadTests.{has_right, has_left, has_down, has_up, on_board}
 use Rattle.model.specs.Board.{Item, detours, when, with_edge, has_side, barred, corner_right, corner_left, shape_items, around, detour, corner, bar}

@@ -17,7 +17,7 @@ use Rattle.model.specs.Text.{bytes, comma, line_end, hole_sign}
 use Rattle.model.specs.Bounds.{most_digits}
 use Rattle.model.specs.RefusalLaws.{test_of_size}
 use Rattle.model.specs.Decimal.{digit_byte, decimal}
-use Rattle.model.specs.DecimalLaws.{decimal_short, decimal_long, decimal_length, decimal_some, digit_is_digit}
+use Rattle.model.proofs.DecimalLaws.{decimal_short, decimal_long, decimal_length, decimal_some, digit_is_digit}
 use Rattle.model.specs.GridFile.{Standing, Reading, is_zero_alone, blank, hole, no_cells, start, in_header, is_complete, accepted, grid_reading, read_from, read}
 use Rattle.model.specs.Writing.{cell_text, rows_text, grid_text}
 use Rattle.reading.specs.FieldSteps.{Part, some_digits, hole_alone, field_start, in_field, cell_of, end_complete, digit_read, hole_read, row_open, row_ends, row_goes_on, header_goes_on, header_ends, header_open}

@@ -16,7 +16,7 @@ use borrow.Author.Tests.{not-true, ne_eqb, eq-eqb, eqb-true, eqb-false}
 use Rattle.rules.specs.Grid.{Size}
 use Rattle.model.specs.Text.{bytes, comma, line_end, hole_sign}
 use Rattle.model.specs.Decimal.{digit_byte, decimal}
-use Rattle.model.specs.DecimalLaws.{decimal_short, decimal_long}
+use Rattle.model.proofs.DecimalLaws.{decimal_short, decimal_long}
 use Rattle.model.specs.GridFile.{Standing, Reading, is_digit, is_comma, is_hole_sign, blank, hole, no_cells, start, in_header, fields_due, is_complete, field_cell, refusal, with_digit, with_hole, begun, after, accepted, declined, read_from, read}
 use Rattle.model.specs.Writing.{cell_text, rows_text, grid_text}
 use Rattle.reading.specs.FieldSteps.{digit_bounds}

@@ -1,1 +1,3 @@
+#![tactic(auto)]
+
 // Laws of reading and writing a grid file, about the model alone: everything stands in specs/.

@@ -1,9 +1,9 @@
 -- Chains of lines, whatever the lines are: set end to end, turned round, carried over to more lines; and the lines of a drawing, which
 -- lead both ways and are the edges that it draws. Small laws that the definitions of Drawing.antt leave unsaid.
+-- What is proved of them stands in proofs/Chains.antt.
 use Rattle.std.specs.Prelude.{ℕ, ◌≡◌, refl, ◌≢◌, ◌⊎◌, true}
-use Rattle.std.proofs.Common.{inl, inr, ⊎_elim}
 use Rattle.std.proofs.Math.Decide.{ℕ_discrete}
-use Rattle.rules.specs.Grid.{Edge, first, second, right, down}
+use Rattle.rules.specs.Grid.{Edge, first, second}
 use Rattle.rules.specs.Drawing.{Drawing, drawn, Relation, Line, Joined, rightward, leftward, downward, upward, here, more}
 
 -- lines lead both ways
@@ -43,18 +43,3 @@ module _ (width : ℕ) (D : Drawing) where
     pub edge : Edge
     pub is : drawn D edge ≡ true
     pub ends : ((x ≡ first edge) × (y ≡ second width edge)) ⊎ ((x ≡ second width edge) × (y ≡ first edge))
-
-  pub edge_of_line : (x y : ℕ) → Line width D x y → Along x y
-  edge_of_line x y (rightward p h) = record { edge = right x; is = h; ends = inl (refl, p) }
-  edge_of_line x y (leftward p h) = record { edge = right y; is = h; ends = inr (p, refl) }
-  edge_of_line x y (downward p h) = record { edge = down x; is = h; ends = inl (refl, p) }
-  edge_of_line x y (upward p h) = record { edge = down y; is = h; ends = inr (p, refl) }
-
-  pub line_forward : (e : Edge) → drawn D e ≡ true → Line width D (first e) (second width e)
-  line_forward (right v) h = rightward refl h
-  line_forward (down v) h = downward refl h
-
-  pub line_of_edge : (x y : ℕ) → Along x y → Line width D x y
-  line_of_edge x y t = ⊎_elim
-      (λ (p, q). rw (p, q) (line_forward t.edge t.is))
-      (λ (p, q). rw (p, q) (line_back width D _ _ (line_forward t.edge t.is))) t.ends

@@ -8,9 +8,7 @@ pub mod Places
 pub mod PadsOfEdges
 pub mod RecordLaws
 pub mod Sums
-pub mod LineCount
 pub mod Checked
 pub mod CheckedListed
-pub mod Examples
 pub mod Loops
 pub mod ProperGrid

@@ -1,1 +1,3 @@
+#![tactic(auto)]
+
 // The rules of document 01 as definitions: grids, drawings, layouts, records. There is no code here; everything stands in specs/.

@@ -13,10 +13,13 @@ use Rattle.std.proofs.Math.ListN.{get_or}
 use Rattle.rules.specs.Grid.{Edge, right, down, first, second, Place, edge, no_edge, place_at, field_side, places, Cell, blank, clue, hole, Grid, pads, OnBoard}
 use Rattle.rules.specs.Drawing.{Drawing, drawn, Line, Placed, Ordinary}
 use Rattle.rules.specs.Record.{undecided_byte, line_byte, none_byte, byte_of, byte_at_place, field, record_of, place_number}
-use Rattle.rules.specs.Places.{zero≢one, pads_apart, one_edge}
+use Rattle.rules.specs.Places.{zero≢one}
+use Rattle.rules.proofs.Places.{pads_apart, one_edge}
 use Rattle.rules.specs.Tests.{both, both_on, conflict, not_so}
-use Rattle.rules.specs.Chains.{Along, edge_of_line, line_forward, line_of_edge, line_back}
-use Rattle.rules.specs.RecordLaws.{edge_number_in_field, edge_at_number, number_of_edge, get_or_from_zero}
+use Rattle.rules.specs.Chains.{Along, line_back}
+use Rattle.rules.proofs.Chains.{edge_of_line, line_forward, line_of_edge}
+use Rattle.rules.specs.RecordLaws.{get_or_from_zero}
+use Rattle.rules.proofs.RecordLaws.{edge_number_in_field, edge_at_number, number_of_edge}
 use Rattle.model.specs.Choice.{if◌then◌else◌}
 use Rattle.model.specs.JoinedEnds.{End, at_pad, bare_end, unjoinable, joined_ends}
 use Rattle.model.specs.PadTests.{is_clue, on_board}

@@ -12,9 +12,12 @@ use Rattle.rules.specs.Drawing.{Drawing, drawn, Line, NoLine, TwoLines, Joined, 
 use Rattle.rules.specs.Record.{undecided_byte, byte_of, byte_at_place, field, record_of, drawing_of, OrdinaryRecord, ListedRecord}
 use Rattle.rules.specs.Places.{zero≢one, first_inside, second_inside}
 use Rattle.rules.specs.Tests.{both, both_on, either, either_on, not_so, all_below, all_below_at, all_below_so}
-use Rattle.rules.specs.CheckedListed.{squares_checked, corners_checked, checked_listed, listed_squares, listed_corners}
-use Rattle.rules.specs.Chains.{edge_of_line, line_of_edge, first_line}
-use Rattle.rules.specs.RecordLaws.{edge_number_in_field, edge_at_number, number_of_edge, get_or_from_zero, length_field, record_shows}
+use Rattle.rules.specs.CheckedListed.{squares_checked, corners_checked}
+use Rattle.rules.proofs.CheckedListed.{checked_listed, listed_squares, listed_corners}
+use Rattle.rules.specs.Chains.{first_line}
+use Rattle.rules.proofs.Chains.{edge_of_line, line_of_edge}
+use Rattle.rules.specs.RecordLaws.{get_or_from_zero, length_field}
+use Rattle.rules.proofs.RecordLaws.{edge_number_in_field, edge_at_number, number_of_edge, record_shows}
 use Rattle.model.specs.JoinedEnds.{End, through, at_pad, at_clue, is_through, is_pad}
 use Rattle.model.specs.PadTests.{is_clue}
 use Rattle.model.specs.BoardLaws.{clue_is_clue, is_through-true, is_pad-true}

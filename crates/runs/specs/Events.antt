@@ -7,7 +7,7 @@ use mathlib.Core.List.{List, [], ◌∷◌, ◌++◌, Memᴰ, map}
 use Rattle.rules.specs.Grid.{Grid}
 use Rattle.rules.specs.Drawing.{Drawing, Placed}
 use Rattle.rules.specs.Record.{record_of, drawing_of, codes, Before, Ascending, lower, later}
-use Rattle.rules.specs.RecordLaws.{record_shows, codes_same}
+use Rattle.rules.proofs.RecordLaws.{record_shows, codes_same}
 use Rattle.model.specs.Runs.{Event, visit, layout}
 
 -- the records of the layout events

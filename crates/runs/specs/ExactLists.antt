@@ -11,7 +11,7 @@ use Rattle.rules.specs.Grid.{places, Grid, grid_of, Accepted}
 use Rattle.rules.specs.Drawing.{Drawing, drawn, Listed}
 use Rattle.rules.specs.Record.{byte_of, record_of, ListedRecord, record_lines, Before, Ascending, lower, later}
 use Rattle.rules.specs.RecordLaws.{length_field}
-use Rattle.rules.specs.LineCount.{record_lines_of, lines_bound}
+use Rattle.rules.proofs.LineCount.{record_lines_of, lines_bound}
 use Rattle.model.specs.Refusals.{grid_refusal}
 use Rattle.model.specs.RefusalLaws.{accepted_is_not_refused}
 use Rattle.model.specs.Runs.{Event, Run, scan, fewest, solved, declined_search, listed_by}

@@ -17,7 +17,7 @@ use Rattle.rules.specs.Record.{tabulate, byte_of, record_of}
 use Rattle.rules.specs.RecordLaws.{length_field}
 use Rattle.model.specs.RefusalLaws.{test_of_size}
 use Rattle.model.specs.Records.{record_at}
-use Rattle.model.specs.HasRecord.{records_there}
+use Rattle.model.proofs.HasRecord.{records_there}
 use Rattle.model.specs.Runs.{Event, Run, scan, Solved, listed_by}
 use Rattle.runs.specs.Events.{layouts_of}
 use Rattle.runs.specs.ExactLists.{Exact, exact_run, call_is_run}

@@ -6,7 +6,8 @@ use Rattle.std.proofs.Math.Logic.{ite, if_pos, if_neg}
 use Rattle.std.proofs.Math.Decide.{ℕ_discrete}
 use Rattle.rules.specs.Grid.{Edge, right, down, first, second, Grid}
 use Rattle.rules.specs.Drawing.{Drawing, drawn, Line, rightward, leftward, downward, upward}
-use Rattle.rules.specs.Places.{zero≢one, edge_of_pads, no_edge_back}
+use Rattle.rules.specs.Places.{zero≢one}
+use Rattle.rules.proofs.Places.{edge_of_pads, no_edge_back}
 use Rattle.shortest.specs.Shortcut.{Pair}
 
 -- edge e joins the pads x and y: x is its first pad and y its second, or the other way round

@@ -6,7 +6,7 @@ use mathlib.Core.List.{List, [], ◌∷◌, Memᴰ}
 use Rattle.rules.specs.Grid.{Edge, Grid}
 use Rattle.rules.specs.Drawing.{Drawing, drawn, Placed, Joined, here, more, Line, SamePairs}
 use Rattle.rules.specs.Record.{record_of, drawing_of}
-use Rattle.rules.specs.RecordLaws.{record_shows}
+use Rattle.rules.proofs.RecordLaws.{record_shows}
 use Rattle.shortest.specs.Edges.{line_edge, edge_line}
 
 -- drawings that agree on every edge have the same chains

@@ -8,7 +8,7 @@ use mathlib.Core.List.{List, [], Memᴰ}
 use Rattle.rules.specs.Grid.{Grid}
 use Rattle.rules.specs.Drawing.{Drawing, Ordinary, Listed, SamePairs, number_of_lines}
 use Rattle.rules.specs.Record.{record_of, drawing_of, record_lines, OrdinaryRecord, ListedRecord}
-use Rattle.rules.specs.LineCount.{record_lines_of}
+use Rattle.rules.proofs.LineCount.{record_lines_of}
 use Rattle.shortest.specs.Descent.{listed_no_worse}
 use Rattle.shortest.specs.Records.{records_show_same_pairs, no_member_empty}
 use Rattle.shortest.specs.Fewest.{Fewest, same_fewest}

@@ -12,7 +12,7 @@ use lib.IntN.{ℤ}
 use Rattle.rules.specs.Grid.{right, down, places, grid_of, OnBoard}
 use Rattle.rules.specs.Places.{few_places}
 use Rattle.rules.specs.Record.{byte_of, place_number}
-use Rattle.rules.specs.RecordLaws.{edge_number_in_field}
+use Rattle.rules.proofs.RecordLaws.{edge_number_in_field}
 use Rattle.model.specs.Walk.{may_give}
 use Rattle.walking.specs.Given.{PadOf, put_right, put_down}
 

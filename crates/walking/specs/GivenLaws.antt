@@ -12,7 +12,8 @@ use Rattle.std.proofs.Math.Seq.{ext_get_or}
 use Rattle.rules.specs.Grid.{Edge, right, down, first, Place, edge, no_edge, place_at, field_side, places, Grid, pads, OnBoard}
 use Rattle.rules.specs.Drawing.{Drawing, drawn}
 use Rattle.rules.specs.Record.{undecided_byte, byte_of, byte_at_place, field, record_of, place_number}
-use Rattle.rules.specs.RecordLaws.{edge_number_in_field, edge_at_number, number_of_edge, get_or_from_zero, length_field}
+use Rattle.rules.specs.RecordLaws.{get_or_from_zero, length_field}
+use Rattle.rules.proofs.RecordLaws.{edge_number_in_field, edge_at_number, number_of_edge}
 use Rattle.rules.specs.Places.{zero≢one, first_inside}
 use Rattle.model.specs.PadTests.{has_right, has_down}
 use Rattle.model.specs.Walk.{with_code}

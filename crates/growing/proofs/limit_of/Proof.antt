@@ -6,7 +6,7 @@ use borrow.Author.Tests.{not-true, not-false}
 use lib.ListN.{length}
 use native.Mathlib.Omega.{arith}
 use Rattle.reading.specs.FieldSteps.{digit_bounds}
-use Rattle.model.specs.LimitLaws.{too_long}
+use Rattle.model.proofs.LimitLaws.{too_long}
 use Rattle.growing.proofs.ReadLaws.{Passed, none_passed, one_passed, all_passed, no_digit, too_large, no_text}
 use Rattle.growing.proofs.limit_of.Statement.{statement}
 use Rattle.growing.proofs.limit_of.Tie as tie

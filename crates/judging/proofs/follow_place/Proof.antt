@@ -1,6 +1,6 @@
 -- `judging::follow_place` meets its contract: each kind of pads is a case of the definition. Assumes nothing.
 use mathlib.Core.Path.{sym, ◌∙◌}
-use Rattle.rules.specs.Places.{first_small}
+use Rattle.rules.proofs.Places.{first_small}
 use Rattle.judging.proofs.Lines.{place_beside, place_above, place_nowhere, beside_small, above_small}
 use borrow.Author.Rules.{rules}
 use Rattle.judging.proofs.follow_place.Statement.{statement}

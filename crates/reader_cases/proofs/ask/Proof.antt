@@ -3,7 +3,7 @@
 use Rattle.model.specs.GridFile.{Reading, read}
 use Rattle.model.specs.Packed.{read_packed}
 use Rattle.reading.specs.ReadingLaws.{SoundReading, read_sound}
-use Rattle.reading.specs.PackedSlices.{packed_sound}
+use Rattle.reading.proofs.PackedSlices.{packed_sound}
 use mathlib.Core.Path.{◌≡◌}
 use mathlib.Core.List.{List}
 use Prim.Native.Nat.{ℕ}

@@ -1,6 +1,6 @@
 -- `reader_cases::print_grid` is safe: what is written lies in its array. Assumes nothing.
 use Rattle.model.specs.Writing.{Writing, write}
-use Rattle.reading.specs.WriteRead.{written_within}
+use Rattle.reading.proofs.WriteRead.{written_within}
 use lib.ListN.{length}
 use lib.IntN.{ℤ}
 use lib.Seq.{length-take-le}
