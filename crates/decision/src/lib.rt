@@ -3,6 +3,8 @@
 // is true of the arrays of every board, and logs what it stores, so that undoing the log's entries gives back the arrays.
 // `count` is the log's length, plus 1024 if the flag is set, plus 2048 if it is set and the decision has ended; an ended decision goes
 // through every part unchanged.
+#![tactic(auto)]
+
 ghost use Rattle.std.specs.Prelude.{◌≡◌, true, ◌+◌, ◌*◌, ◌-◌, ◌≤◌, ◌<◌};
 ghost use Rattle.rules.specs.Grid.{right, down, pads};
 ghost use Rattle.rules.specs.Drawing.{on_left, on_right};
