@@ -59,14 +59,15 @@ def tokens(s):
 
 def word_sub(body, table):
     """Puts new names for old ones where they stand alone or at the head of a path."""
-    return re.sub(r"(?<![\w.'₀-])([^\W\d]['\w₀-]*)", lambda m: table.get(m.group(1), m.group(1)), body)
+    return re.sub(r"(?<![\w.'₀-])([^\W\d]['\w₀-]*)(?!['\w₀-])(?! = )", lambda m: table.get(m.group(1), m.group(1)), body)
 
 
 class Function:
     def __init__(self, data):
         self.needs = {}
+        self.stem = data["stem"]
         for (old, new), at in zip(data["needs"], data["asked_at"]):
-            self.needs[norm(old)] = (new, at[0])
+            self.needs[norm(old)] = (self.stem + new, at[0])
         self.places = {p[0]: p for p in data["places"]}
         self.arms = {p[0]: a for p, a in zip(data["places"], data["arms"]) if a}
         self.loops = {norm(l[0][0]): (l, c) for l, c in zip(data["loops"], data["changed"])}
@@ -166,6 +167,8 @@ def turn(crate, folder, names, said):
     inv_uses = []
     for item in blocks(rest):
         sig = signature(item)
+        if not sig and re.match(r"(--[^\n]*\n)*pub \+" + IDENT + r"(\s|$)", item):
+            continue  # the closing of a cycle
         if not sig:
             said.append(f"{where}: not read: {item[:80]!r}")
             return
@@ -214,7 +217,7 @@ def turn(crate, folder, names, said):
                     table[params[j]] = "l." + v
             b = "\n".join(body)
             at = b.index(" =", b.index(name)) + 2
-            made = f"{m.group(2)}-{new}"
+            made = f"{m.group(2)}-{f.stem}{new}"
             pre = b[: b.index(name)]
             invs.append(("\n".join(comment), made, pre + made + " l =" + word_sub(b[at:], table)))
             continue
@@ -223,7 +226,7 @@ def turn(crate, folder, names, said):
             f = members.get(norm(m.group(1) or ""))
             old = norm(m.group(2))
             got = None
-            for o in (old, re.sub(r"^(overflow|nonzero|index)-", "", old), re.sub(r"^slice-bounds-", "part-", old), norm(name)):
+            for o in (old, re.sub(r"^(overflow|nonzero|index)-", "", old), re.sub(r"^slice-bounds-", "part-", old), norm(name), norm(name).removeprefix(norm(f.stem) if f else "")):
                 got = got or (f and f.needs.get(o))
             b = "\n".join(body)
             if not got and re.search(r"= search rules\s*$", b):
