@@ -2,12 +2,11 @@
 -- listed drawing of the grid has a line there, 2 exactly where none has, 3 exactly where one has and another has none; and the same of the
 -- records that the search has left in the buffer. An empty list that is complete means that nobody can draw by the ordinary rules. What is
 -- answered in every other case stands at the end. It rests on TableLaws.antt, HeldRecords.antt and what a search promises.
-use Rattle.std.specs.Prelude.{ℕ, suc, ◌%◌, ◌/◌, ◌≤◌, ◌<◌, ◌≡◌, refl, ◌⊎◌, ◌↔◌, Bool, true, false, length, drop, ℤ}
+use Rattle.std.specs.Prelude.{ℕ, ◌%◌, ◌/◌, ◌≤◌, ◌<◌, ◌≡◌, refl, ◌⊎◌, ◌↔◌, Bool, true, false, length, drop, ℤ}
 use Rattle.std.proofs.Math.Path.{sym, ap}
 use Rattle.std.proofs.Common.{◌∙◌, arith, length-append, length-drop, drop_at}
 use Rattle.std.proofs.Math.Logic.Iff
 use mathlib.Core.List.{List, ◌++◌, Memᴰ}
-use Rattle.std.proofs.Math.Decide.{dec_lt, ℕ_discrete}
 use Rattle.std.proofs.Math.Dec.{eqb}
 use Rattle.std.proofs.Math.ListN.{get_or, get_or-append}
 use Rattle.rules.specs.Grid.{Edge, no_edge, place_at, places, field_side, Grid, grid_of, Accepted, OnBoard}
@@ -15,7 +14,7 @@ use Rattle.rules.specs.Drawing.{Drawing, drawn, Ordinary, Listed}
 use Rattle.rules.specs.Record.{undecided_byte, line_byte, none_byte, byte_of, byte_at_place, record_of, place_number, ListedRecord}
 use Rattle.rules.specs.RecordLaws.{edge_number_in_field, edge_at_number, field_edge, record_shows, is_line_byte}
 use Rattle.model.specs.Refusals.{grid_refusal}
-use Rattle.model.specs.RefusalLaws.{not_refused, accepted_is_not_refused}
+use Rattle.model.specs.RefusalLaws.{accepted_is_not_refused}
 use Rattle.model.specs.Records.{record_at}
 use Rattle.model.specs.Runs.{Run, scan, Solved, solved, declined_search}
 use Rattle.model.specs.Search.{search, solve}

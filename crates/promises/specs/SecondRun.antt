@@ -1,22 +1,10 @@
 -- A SECOND RUN: one grid is searched twice, the second time with at least the limit and at least the buffer of the first. `SecondRun` is what a
 -- caller can rely on who has the two results and the two buffers; that it holds of every pair of calls is `second_run` in
 -- proofs/SecondRun.antt.
-use Rattle.std.specs.Prelude.{ℕ, ◌*◌, ◌≤◌, ◌<◌, ◌≡◌, refl, List, [], ◌++◌, length, take, get_or, ℤ}
-use Rattle.std.proofs.Common.{sym, ap, ◌∙◌, append_assoc, arith, zero-mul, length-append, take_at}
-use Rattle.std.proofs.Math.Decide.{ℕ_discrete}
-use Rattle.std.proofs.Math.ListN.{get_or-append}
-use Rattle.rules.specs.Grid.{grid_of, places, Accepted}
-use Rattle.rules.specs.RecordLaws.{get_or_from_zero}
-use Rattle.model.specs.Refusals.{grid_refusal}
-use Rattle.model.specs.RefusalLaws.{not_refused}
+use Rattle.std.specs.Prelude.{ℕ, ◌*◌, ◌≤◌, ◌<◌, ◌≡◌, length, take}
+use Rattle.rules.specs.Grid.{places}
 use Rattle.model.specs.Records.{record_at}
-use Rattle.model.specs.HasRecord.{concat_length, concat_append}
-use Rattle.model.specs.Runs.{Run, scan, concat, Solved}
-use Rattle.model.specs.Search.{search, solve}
-use Rattle.exact.specs.Exact.{solve_is_run, solve_is_declined}
-use Rattle.runs.specs.Runs.{fewest_append}
-use Rattle.runs.specs.TwoRuns.{Continued, continued}
-use Rattle.promises.specs.HeldRecords.{records_long, records_left}
+use Rattle.model.specs.Runs.{Solved}
 
 -- two searches answer the same
 pub record SameResult (first second : Solved) : Type 0 where
