@@ -1,5 +1,7 @@
 // The leaves of a decision: what only reads the board's lent arrays and chooses, and what stores one entry. Each equals a definition of
 // boardview's View.antt. Nothing here calls a decision.
+#![tactic(auto)]
+
 ghost use Rattle.std.specs.Prelude.{◌≡◌, true, false, ℕ, ◌+◌, ◌*◌, ◌-◌, ◌/◌, ◌%◌, ◌≤◌, ◌<◌, get_or, set, length, eqb, ltb, pos};
 ghost use Rattle.rules.specs.Drawing.{num};
 ghost use Rattle.model.specs.JoinedEnds.{is_through, unjoinable};

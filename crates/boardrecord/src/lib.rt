@@ -1,5 +1,7 @@
 // The record of a board's edges, the field row by row, laid out once: for the search and for what a board shows. Which pads a place joins
 // is told by grid::pads_at; the byte of an edge stands at the slot of these pads. What the record is stands in boardview's ShownRecord.antt.
+#![tactic(auto)]
+
 ghost use Rattle.std.specs.Prelude.{◌≡◌, ℕ, ◌+◌, ◌*◌, ◌≤◌, ◌<◌, length, get_or};
 ghost use Rattle.rules.specs.Grid.{first, field_side, places, place_at};
 ghost use Rattle.rules.specs.Record.{byte_at_place, record_lines};

@@ -2,6 +2,8 @@
 // is said by `read` of the crate `model`, specs/GridFile.antt there; specs/Fields.antt says what one field gives.
 // Writing one: the text of a grid goes to a lent buffer, in shortest digits; the answer and every byte of the buffer are said by
 // `write` of the crate `model`, specs/Writing.antt there.
+#![tactic(auto)]
+
 ghost use Rattle.std.specs.Prelude.{◌≡◌, true, ◌+◌, ◌-◌, ◌*◌, ◌≤◌, ◌<◌, length, get_or, drop, set};
 ghost use Rattle.rules.specs.Grid.{largest_code};
 ghost use Rattle.model.specs.Bounds.{is_size};

@@ -1,6 +1,8 @@
 // Writing what `routes` prints: the line that begins it, which is the summary line or the line of a refused file, and a layout's line; and what
 // `routes_to` says of a run; each into an array that the longest such line fits. What the lines say is in the crate `model`,
 // specs/Printed.antt and specs/RoutesTo.antt there.
+#![tactic(auto)]
+
 ghost use Rattle.std.specs.Prelude.{◌≡◌, true, ◌+◌, ◌*◌, ◌-◌, ◌/◌, ◌≤◌, ◌<◌, length};
 ghost use Rattle.rules.specs.Grid.{first, field_side};
 ghost use Rattle.model.specs.Bounds.{is_size};

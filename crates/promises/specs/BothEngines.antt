@@ -5,7 +5,7 @@
 -- nothing of boards and propagation, the search's on the crate `exact`; that they meet is that a grid has one exact list (runs' ExactLists.antt).
 use Rattle.std.specs.Prelude.{ℕ, ◌*◌, ◌≤◌, ◌<◌, ◌≡◌, refl, ◌↔◌, length, take, get_or, ℤ}
 use Rattle.std.proofs.Common.{sym, ap, ◌∙◌, arith, zero-mul, length-append, take_at}
-use Rattle.std.proofs.Math.Logic.{Iff·symm, Iff·trans}
+use Rattle.std.proofs.Math.Logic.Iff
 use mathlib.Core.List.Memᴰ
 use mathlib.Core.List.{List, [], ◌++◌, Memᴰ}
 use Rattle.std.proofs.Math.Decide.{ℕ_discrete}
@@ -69,7 +69,7 @@ module _ (height width : ℕ) (cells : List ℤ) (accepted : Accepted height wid
         ((λ l. Memᴰ.cast l.shown (all.nothing_lost l.drawing l.listed)), all.nothing_added bytes)
 
     pub walk_holds : (verdict (grid_of height width cells) bytes ≡ 2) ↔ Holds height width (walk height width cells limit buffer) bytes
-    walk_holds = Iff·trans (Iff·trans (listed_verdict g (accepted_proper height width cells accepted) bytes) listed_walked) (Iff·symm (walk_held_exactly bytes))
+    walk_holds = Iff.trans (Iff.trans (listed_verdict g (accepted_proper height width cells accepted) bytes) listed_walked) (Iff.symm (walk_held_exactly bytes))
 
 -- ONE LIST, in two results with their buffers
 pub record SameList (height width : ℕ) (walked searched : Solved) : Type 0 where

@@ -5,7 +5,7 @@
 use Rattle.std.specs.Prelude.{ℕ, suc, ◌%◌, ◌/◌, ◌≤◌, ◌<◌, ◌≡◌, refl, ◌⊎◌, ◌↔◌, Bool, true, false, length, drop, ℤ}
 use Rattle.std.proofs.Math.Path.{sym, ap}
 use Rattle.std.proofs.Common.{◌∙◌, arith, length-append, length-drop, drop_at}
-use Rattle.std.proofs.Math.Logic.{Iff·and, Iff·trans}
+use Rattle.std.proofs.Math.Logic.Iff
 use mathlib.Core.List.{List, ◌++◌, Memᴰ}
 use Rattle.std.proofs.Math.Decide.{dec_lt, ℕ_discrete}
 use Rattle.std.proofs.Math.Dec.{eqb}
@@ -119,15 +119,15 @@ module _ (g : Grid) (wide : 2 ≤ g.width) (records : List (List ℕ)) (exactly 
   tells : (byte : ℕ) → TellsOfList g.width e records byte → Tells g e byte × TellsOfBuffer g.height g.width left_by (place_number g.width e) byte
   tells byte t = (
     record {
-      every = Iff·trans t.every (all_drawings true);
-      none = Iff·trans t.none (all_drawings false);
-      some = Iff·trans t.some (Iff·and (one_drawing true) (one_drawing false));
+      every = Iff.trans t.every (all_drawings true);
+      none = Iff.trans t.none (all_drawings false);
+      some = Iff.trans t.some (Iff.and (one_drawing true) (one_drawing false));
       one_of_three = t.one_of_three;
     },
     record {
-      every = Iff·trans t.every (all_held true);
-      none = Iff·trans t.none (all_held false);
-      some = Iff·trans t.some (Iff·and (one_held true) (one_held false));
+      every = Iff.trans t.every (all_held true);
+      none = Iff.trans t.none (all_held false);
+      some = Iff.trans t.some (Iff.and (one_held true) (one_held false));
     },
   )
 

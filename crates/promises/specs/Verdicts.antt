@@ -5,7 +5,7 @@
 use Rattle.std.specs.Prelude.{ℕ, ◌≤◌, ◌≡◌, ◌↔◌, length, ℤ, eqb}
 use Rattle.std.proofs.Math.Path.{refl}
 use Rattle.std.proofs.Common.{◌∙◌, ap, arith, eq-eqb, ne_eqb}
-use Rattle.std.proofs.Math.Logic.{Iff·symm, Iff·trans}
+use Rattle.std.proofs.Math.Logic.Iff
 use mathlib.Core.List.Memᴰ
 use mathlib.Core.List.{List, Memᴰ}
 use Rattle.rules.specs.Grid.{Grid, grid_of, places, Accepted}
@@ -63,7 +63,7 @@ module _ (height width : ℕ) (cells : List ℤ) (accepted : Accepted height wid
         ((λ l. Memᴰ.cast l.shown (all.nothing_lost l.drawing l.listed)), all.nothing_added bytes)
 
     pub listed_held : (its_verdict ≡ 2) ↔ Holds height width (solve height width cells limit buffer) bytes
-    listed_held = Iff·trans (Iff·trans (listed_verdict g proper bytes) listed_member) (Iff·symm (held_exactly height width cells accepted limit buffer bytes))
+    listed_held = Iff.trans (Iff.trans (listed_verdict g proper bytes) listed_member) (Iff.symm (held_exactly height width cells accepted limit buffer bytes))
 
   -- the lines of its drawing
   drawing_lines : (D : Drawing) → Ordinary g D → bytes ≡ record_of g D → (if eqb its_verdict 0 then 0 else record_lines bytes) ≡ number_of_lines g D

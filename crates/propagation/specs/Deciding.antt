@@ -12,7 +12,7 @@ use Rattle.rules.specs.Grid.{Edge, first, second, Grid}
 use Rattle.rules.specs.Places.{zero≢one}
 use Rattle.model.specs.JoinedEnds.{End, through, at_pad, at_clue}
 use Rattle.model.specs.PadTests.{on_board}
-use Rattle.model.specs.Board.{EdgeState, is_undecided, State, set_edge, set_flag, Item, check_end, Decide, Check, shape_items, do_items, cannot_join, after_store, line, none, detour, corner, bar, check_pad}
+use Rattle.model.specs.Board.{EdgeState, is_undecided, State, set_edge, set_flag, Item, check_end, Decide, Check, shape_items, do_items, cannot_join, after_store, line, none, detour, corner, bar, check_pad, keep_apart, settle}
 use Rattle.propagation.specs.Undecided.{DecidedStay}
 use Rattle.propagation.specs.Edges.{same_or_not, set_here, set_elsewhere, decided_elsewhere, set_stays}
 use Rattle.propagation.specs.Objects.{AtRest, Achieved, Object, Holds, guard, Plain, Geometry, same_rest, rule, pad, chains, board, is_detour, is_corner, is_bar}
@@ -36,6 +36,9 @@ module _ (g : Grid) (geo : Geometry g) where
   rule_stays S T x (corner q a o b c) is_corner stay hx ha ok tx = λ bl ta. let (y, p, r) = ok (hx tx) bl (ha ta) in
       (y, stay b (ap is_undecided p) ∙ p, stay c (ap is_undecided r) ∙ r)
   rule_stays S T x (bar o a) is_bar stay hx ha ok tx = tt
+  rule_stays S T x (check_pad _) plain stay hx ha ok tx = elim plain [ ]
+  rule_stays S T x (keep_apart code e u) plain stay hx ha ok tx = elim plain [ ]
+  rule_stays S T x (settle _) plain stay hx ha ok tx = elim plain [ ]
 
   -- and can be read from the line that guards it
   rule_turned : (T : State) (e x : Edge) (it : Item) → Plain it → Memᴰ it (shape_items g x) → guard it ≡ e
@@ -46,6 +49,9 @@ module _ (g : Grid) (geo : Geometry g) where
       (λ n. let (y, z) = all (detour x c b) (rw q at n) tx in (z, y)) (geo.detour_turned x a b c m)
   rule_turned T e x (corner d a o b c) is_corner m q all tx = λ bl ta. all (corner d x o b c) (rw q at (geo.corner_turned x d a o b c m)) bl tx
   rule_turned T e x (bar o a) is_bar m q all tx = tt
+  rule_turned T e x (check_pad _) plain m q all tx = elim plain [ ]
+  rule_turned T e x (keep_apart code _ u) plain m q all tx = elim plain [ ]
+  rule_turned T e x (settle _) plain m q all tx = elim plain [ ]
 
   -- an item after the store is one of steps d and e, and then the edge is a line, or it is a pad check
   abbrev AfterStore : State → Edge → Item → Type 0

@@ -16,7 +16,7 @@ use Rattle.rules.specs.Drawing.{Drawing, drawn, Listed}
 use Rattle.rules.specs.Places.{zero≢one}
 use Rattle.rules.specs.Tests.{conflict, not_so}
 use Rattle.model.specs.PadTests.{is_hole}
-use Rattle.model.specs.Board.{State, none, around, bare, shut, shut_at, prepared, fresh}
+use Rattle.model.specs.Board.{State, none, around, bare, shut, shut_at, prepared, fresh, decide, enough, line_or_none}
 use Rattle.model.specs.BoardLaws.{on_board_of_test, hole_of}
 use Rattle.propagation.specs.Objects.{AllHold}
 use Rattle.propagation.specs.Squares.{around_on}
@@ -113,7 +113,7 @@ module _ (g : Grid) (proper : Proper g) where
       → After g start S decisions → After g start (shut g l S) (nones l decisions)
   unfolding shut nones
   shut_after [] on after = after
-  shut_after (p ∷ l) on after = shut_after l (λ q m. on q (Memᴰ.tail m)) (one_more p.0 false (on p (Memᴰ.head refl)) after)
+  shut_after {S = S} (p ∷ l) on after = shut_after {S = decide g (enough g) p.0 (line_or_none false) S} l (λ q m. on q (Memᴰ.tail m)) (one_more p.0 false (on p (Memᴰ.head refl)) after)
 
   hole_after : {start S : State} {decisions : List Decision} (v : ℕ) → v < pads g → After g start S decisions → After g start (shut_at g v S) (nones_at g v decisions)
   unfolding shut_at nones_at
@@ -126,7 +126,7 @@ module _ (g : Grid) (proper : Proper g) where
   prepared_after : {start S : State} {decisions : List Decision} (n v : ℕ) → v + n ≤ pads g → After g start S decisions → After g start (prepared g n v S) (hole_nones g n v decisions)
   unfolding prepared hole_nones
   prepared_after zero v inside after = after
-  prepared_after (suc n) v inside after = prepared_after n (v + 1) (omega arith) (hole_after v (omega arith) after)
+  prepared_after {S = S} (suc n) v inside after = prepared_after {S = shut_at g v S} n (v + 1) (omega arith) (hole_after v (omega arith) after)
 
   fresh_after : After g (bare g) (fresh g) (hole_decisions g)
   unfolding fresh hole_decisions

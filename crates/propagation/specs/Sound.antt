@@ -238,6 +238,9 @@ module _ (g : Grid) (wide : 2 ≤ g.width) (D : Drawing) (listed : Listed g D) w
     shapes_sound e d (detour a p q) is_detour m = sound_detour dec chk calls f 2 (omega arith) sound_decide a p q (detours_right g wide D listed e a p q d m)
     shapes_sound e d (corner x a exist p q) is_corner m = sound_corner dec chk calls f 2 (omega arith) sound_decide x a exist p q (corners_right g wide D listed e x a exist p q d m)
     shapes_sound e d (bar barred a) is_bar m = sound_bar dec chk calls f 2 (omega arith) sound_decide barred a (bars_right g wide D listed e a barred d m)
+    shapes_sound e d (check_pad _) plain m = elim plain [ ]
+    shapes_sound e d (keep_apart code _ u) plain m = elim plain [ ]
+    shapes_sound e d (settle _) plain m = elim plain [ ]
 
     none_sound : (e : Edge) (S : State) → on_board g e ≡ true → drawn D e ≡ false → Fits g D S → 2 * undecided_edges g S + 1 ≤ suc f → is_undecided (S.edge e) ≡ true → Fits g D (decide g (suc f) e none S)
     unfolding decide after_store

@@ -1,5 +1,7 @@
 // The record calls: layout k as a part of the lent answer buffer, the lines of a record, and the shorter of two lent records.
 // Each result equals the definition of the same name in the crate `model`, specs/Records.antt there, for every input.
+#![tactic(auto)]
+
 ghost use Rattle.std.specs.Prelude.{◌≡◌, true, ◌+◌, ◌*◌, ◌-◌, ◌<◌};
 ghost use Rattle.model.specs.Bounds.{is_size};
 ghost use Rattle.model.specs.Records.{record_length, has_record, record_at, shorter};

@@ -64,10 +64,23 @@ unfoldable pub Distinct : List (List ℕ) → Type 0
 Distinct [] = Unit {0}
 Distinct (x ∷ l) = (Memᴰ x l → ⊥) × Distinct l
 
+-- (the proof takes two lists that are equal: antt matches `Before` only at two different lists)
+abbrev pub leading : List ℕ → ℕ
+leading [] = 0
+leading (a ∷ k) = a
+
+abbrev pub following : List ℕ → List ℕ
+following [] = []
+following (a ∷ k) = k
+
+before_differs : (k l : List ℕ) → Before k l → k ≡ l → ⊥
+before_differs [] l b e = elim b [ ]
+before_differs (a ∷ k) [] b e = elim b [ ]
+before_differs (a ∷ k) (c ∷ l) (lower h) e = let s = ap leading e in omega (arith, h, s)
+before_differs (a ∷ k) (c ∷ l) (later b) e = before_differs k l b (ap following e)
+
 pub not_before_itself : (k : List ℕ) → Before k k → ⊥
-not_before_itself [] b = elim b [ ]
-not_before_itself (a ∷ k) (lower h) = omega arith
-not_before_itself (a ∷ k) (later b) = not_before_itself k b
+not_before_itself k b = before_differs k k b refl
 
 pub ascending_distinct : (f : List ℕ → List ℕ) (l : List (List ℕ)) → Ascending (map f l) → Distinct l
 unfolding Ascending Distinct

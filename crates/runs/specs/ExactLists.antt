@@ -15,7 +15,7 @@ use Rattle.rules.proofs.LineCount.{record_lines_of, lines_bound}
 use Rattle.model.specs.Refusals.{grid_refusal}
 use Rattle.model.specs.RefusalLaws.{accepted_is_not_refused}
 use Rattle.model.specs.Runs.{Event, Run, scan, fewest, solved, declined_search, listed_by}
-use Rattle.runs.specs.Events.{layouts_of, visits_of, layouts_append, shown_codes, Distinct, not_before_itself, mem_map}
+use Rattle.runs.specs.Events.{layouts_of, visits_of, layouts_append, shown_codes, Distinct, not_before_itself, mem_map, leading, following}
 use Rattle.runs.specs.Runs.{RunSays, run_says, FewestOf, fewest_of}
 
 -- EXACT: the list holds each listed layout once, ascending, and nothing else
@@ -36,14 +36,22 @@ exact_long g layouts whole r m = let l = whole.nothing_added r m in ap length l.
 
 -- ## One list a grid
 
+-- (the proof takes four lists, equal in pairs: antt matches `Before` only at two different lists)
+one_way : (k l : List ℕ) → Before k l → (m n : List ℕ) → Before m n → l ≡ m → k ≡ n → ⊥
+one_way [] l p m n q e f = elim p [ ]
+one_way (a ∷ k) [] p m n q e f = elim p [ ]
+one_way (a ∷ k) (b ∷ l) (lower h) [] n q e f = elim q [ ]
+one_way (a ∷ k) (b ∷ l) (later p) [] n q e f = elim q [ ]
+one_way (a ∷ k) (b ∷ l) (lower h) (c ∷ m) [] q e f = elim q [ ]
+one_way (a ∷ k) (b ∷ l) (later p) (c ∷ m) [] q e f = elim q [ ]
+one_way (a ∷ k) (b ∷ l) (lower h) (c ∷ m) (d ∷ n) (lower j) e f = let s = ap leading e in let t = ap leading f in omega (arith, h, j, s, t)
+one_way (a ∷ k) (b ∷ l) (lower h) (c ∷ m) (d ∷ n) (later q) e f = let s = ap leading e in let t = ap leading f in omega (arith, h, s, t)
+one_way (a ∷ k) (b ∷ l) (later p) (c ∷ m) (d ∷ n) (lower j) e f = let s = ap leading e in let t = ap leading f in omega (arith, j, s, t)
+one_way (a ∷ k) (b ∷ l) (later p) (c ∷ m) (d ∷ n) (later q) e f = one_way k l p m n q (ap following e) (ap following f)
+
 -- of two different codes only one comes before the other
 before_one_way : (k l : List ℕ) → Before k l → Before l k → ⊥
-before_one_way [] l p q = elim p [ ]
-before_one_way (a ∷ k) [] p q = elim q [ ]
-before_one_way (a ∷ k) (b ∷ l) (lower h) (lower j) = omega arith
-before_one_way (a ∷ k) (b ∷ l) (lower h) (later q) = omega arith
-before_one_way (a ∷ k) (b ∷ l) (later p) (lower j) = omega arith
-before_one_way (a ∷ k) (b ∷ l) (later p) (later q) = before_one_way k l p q
+before_one_way k l p q = one_way k l p l k q refl refl
 
 -- ascending lists with the same members are equal
 module _ (f : List ℕ → List ℕ) where

@@ -4,7 +4,8 @@
 use Rattle.std.specs.Prelude.{ℕ, ◌+◌, ◌-◌, ◌%◌, ◌≤◌, ◌<◌, ◌≡◌, ◌⊎◌, Bool, true, false}
 use Rattle.std.proofs.Math.Path.{refl, sym}
 use Rattle.std.proofs.Common.{◌∙◌}
-use Rattle.std.proofs.Math.Logic.{inl, inr, ⊎_elim, Dec·and}
+use Rattle.std.proofs.Math.Logic.Dec
+use Rattle.std.proofs.Math.Logic.{inl, inr, ⊎_elim}
 use Rattle.std.proofs.Math.Decide.{dec_lt}
 use native.Mathlib.Omega.{arith}
 use Rattle.rules.specs.Grid.{right, down, blank, Grid, pads, UnitSquare, OnBoard}
@@ -236,7 +237,7 @@ module _ (g : Grid) (wide : 2 ≤ g.width) (D : Drawing) (ordinary : Ordinary g 
   look v = go (in_square v)
     where
       in_square : (v : ℕ) → Dec (UnitSquare g v)
-      in_square v = Dec·and (Dec·and (dec_lt v (pads g)) (dec_lt (v % g.width + 1) g.width)) (dec_lt (v + g.width) (pads g))
+      in_square v = Dec.and (Dec.and (dec_lt v (pads g)) (dec_lt (v % g.width + 1) g.width)) (dec_lt (v + g.width) (pads g))
 
       go : Dec (UnitSquare g v) → Fine g D v ⊎ Better g D
       go (yes u) = look_in_square v u

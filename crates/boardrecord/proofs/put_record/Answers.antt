@@ -1,0 +1,79 @@
+-- `boardrecord::put_record` meets its contract. The loop has put the first rows of the record, and counted their lines; the rows that are
+-- left fall. Assumes nothing.
+use mathlib.Core.Path.{refl}
+use native.Mathlib.Omega.{arith}
+use Rattle.rules.specs.Places.{few_places}
+use Rattle.boardview.specs.View.{grid_in}
+use Rattle.boardview.specs.ShownRecordLaws.{no_row_written, few_lines, few_in_row, row_put, all_rows, row_fits}
+use Rattle.boardrecord.proofs.put_record.Goals as goal
+
+pub width-width-requires : goal.width-width-requires
+width-width-requires c = tt
+
+pub height-requires : goal.height-requires
+height-requires c = tt
+
+pub overflow_mul-rows : goal.overflow_mul-rows
+overflow_mul-rows c = omega arith
+
+pub overflow_sub-rows : goal.overflow_sub-rows
+overflow_sub-rows c = omega arith
+
+pub overflow_mul-side : goal.overflow_mul-side
+overflow_mul-side c = omega arith
+
+pub overflow_sub-side : goal.overflow_sub-side
+overflow_sub-side c = omega arith
+
+pub loop-row-init : goal.loop-row-init
+loop-row-init c = (omega arith, no_row_written _ _ _ _)
+
+pub overflow_mul-row : goal.overflow_mul-row
+overflow_mul-row c = omega (arith, row_fits _ _ _ _ _ c.height.ensures c.width-width.ensures c.loop-row-test.true, c.requires.3)
+
+pub overflow_add-at : goal.overflow_add-at
+overflow_add-at c = omega (arith, row_fits _ _ _ _ _ c.height.ensures c.width-width.ensures c.loop-row-test.true, c.requires.3)
+
+pub put_row-lines-requires : goal.put_row-lines-requires
+put_row-lines-requires c =
+    let start = c in (
+      omega (arith, c.width-width.ensures, start.requires.0.least_width),
+      omega (arith, c.width-width.ensures, start.requires.0.largest_width),
+      omega (arith, c.height.ensures, start.requires.0.largest_height, c.loop-row-test.true),
+      start.requires.1,
+      start.requires.2,
+      omega (arith, row_fits _ _ _ _ _ c.height.ensures c.width-width.ensures c.loop-row-test.true, start.requires.3, c.loop-row.invariant.1.same_length),
+    )
+
+pub overflow_add-lines : goal.overflow_add-lines
+overflow_add-lines c =
+    let start = c in
+    omega (
+      arith,
+      few_lines _ _ _ _ _ _ _ c.loop-row.invariant.1,
+      c.put_row-lines.ensures.1,
+      few_in_row c.width-width.result start.args.edges.now c.loop-row.row,
+      row_fits _ (grid_in start.args.kind.now).width _ (grid_in start.args.kind.now).width _ c.height.ensures refl c.loop-row-test.true,
+      c.width-width.ensures,
+      start.requires.0.largest_width,
+      few_places _ _ start.requires.0.largest_height start.requires.0.largest_width,
+    )
+
+pub overflow_add-row : goal.overflow_add-row
+overflow_add-row c = omega (arith, c.loop-row-test.true, c.height.ensures, c.requires.0.largest_height)
+
+pub loop-row-smaller : goal.loop-row-smaller
+loop-row-smaller c = omega arith
+
+pub loop-row-preserved : goal.loop-row-preserved
+loop-row-preserved c =
+    let start = c in (
+      omega (arith, c.loop-row-test.true),
+      row_put _ _ _ _ _ _ _ c.loop-row.invariant.1 (omega (arith, start.requires.0.least_width)) (omega (arith, row_fits _ (grid_in start.args.kind.now).width _ (grid_in start.args.kind.now).width _ c.height.ensures refl c.loop-row-test.true, start.requires.3)) _ c.width-width.ensures c.put_row-lines.ensures.0 c.put_row-lines.ensures.1,
+    )
+
+pub shape_of-buffer : goal.shape_of-buffer
+shape_of-buffer c = c.loop-row.invariant.1.same_length
+
+pub returns : goal.returns
+returns c = all_rows _ _ _ _ _ _ _ c.loop-row.invariant.1 (omega (arith, c.loop-row.invariant.0, c.loop-row-test.false, c.height.ensures))
