@@ -1,13 +1,13 @@
 -- Ends on alike grids: where a line joins ends in one grid, it joins ends that are alike in the other, and where it cannot, it cannot there
 -- either. Boards and the judge of a drawing both follow these laws. It rests on Alike.antt and on the model's JoinedEnds.antt.
-use Rattle.std.specs.Prelude.{ℕ, ◌≡◌, Bool, true, false, ◌||◌, eqb}
-use Rattle.std.proofs.Math.Path.{refl, ap}
-use Rattle.std.proofs.Common.{sym, true≢false}
-use Rattle.std.proofs.Math.Bool.{not}
+-- What is proved of them stands in proofs/AlikeEnds.antt.
+use Rattle.std.specs.Prelude.{ℕ, ◌≡◌, Bool, true, false, eqb}
+use Rattle.std.proofs.Math.Path.{refl}
+use Rattle.std.proofs.Common.{true≢false}
 use Rattle.std.proofs.lemmas.Bool.{false≢true}
 use Rattle.rules.specs.Grid.{Cell, blank, clue, hole, Grid}
 use Rattle.model.specs.PadTests.{is_blank, is_hole}
-use Rattle.model.specs.JoinedEnds.{End, through, at_pad, at_clue, bare_end, unjoinable, pick_end, put_end, put_end_at, joined_ends}
+use Rattle.model.specs.JoinedEnds.{End, through, at_pad, at_clue, bare_end, pick_end, put_end, put_end_at, joined_ends}
 use Rattle.alike.specs.Alike.{Alike}
 
 -- ALIKE ENDS: both are through, both at the same pad, or both at clues whose codes one pad carries in the two grids
@@ -43,17 +43,6 @@ module _ {g h : Grid} where
   joined_alike u v all p x = put_at_alike (put_at_alike (put_alike v (put_alike u all both_through) both_through) p x) x p
 
 module _ {g h : Grid} (alike : Alike g h) where
-  -- ENDS THAT CANNOT BE JOINED: here equal codes count
-  pub unjoinable_alike : {A B C D : End} → AlikeEnds g h A C → AlikeEnds g h B D → (v : ℕ) → unjoinable C D v ≡ unjoinable A B v
-  unfolding unjoinable
-  unjoinable_alike both_through b v = refl
-  unjoinable_alike (both_at_pad u) both_through v = refl
-  unjoinable_alike (both_at_pad u) (both_at_pad w) v = refl
-  unjoinable_alike (both_at_pad u) (both_at_clue w p q) v = refl
-  unjoinable_alike (both_at_clue u m n) both_through v = refl
-  unjoinable_alike (both_at_clue u m n) (both_at_pad w) v = refl
-  unjoinable_alike (both_at_clue u m n) (both_at_clue w p q) v = ap (λ b. not b || false) (sym (alike.equal_codes u w _ _ _ _ m p n q))
-
   -- THE ENDS WHERE THERE IS NO LINE YET
   pub bare_end_alike : AlikeEverywhere g h (λ v. bare_end v (g.cell v)) (λ v. bare_end v (h.cell v))
   bare_end_alike v = go (g.cell v) refl (h.cell v) refl (alike.same_blanks v) (alike.same_holes v)

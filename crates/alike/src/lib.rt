@@ -1,1 +1,3 @@
+#![tactic(auto)]
+
 // The router depends on the codes of a grid only by which pads carry equal codes: theory only, in specs/.

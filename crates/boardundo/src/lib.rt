@@ -1,5 +1,7 @@
 // Undoing entries of the board's log: the edges they decided are undecided again, and the ends that they joined are as before.
 // The result equals boardview's unwinding of the log (View.antt, unwound); with SINCE this is the state before the entries were made.
+#![tactic(auto)]
+
 ghost use Rattle.std.specs.Prelude.{◌≡◌, ℕ, ◌+◌, ◌*◌, ◌-◌, ◌≤◌, ◌<◌, get_or, length, pos};
 ghost use Rattle.rules.specs.Grid.{pads};
 ghost use Rattle.boardview.specs.View.{end_of, grid_in, Kinds, Entry, pad_number, slot_logged, unjoined, undone_one, unwound};

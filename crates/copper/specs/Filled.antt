@@ -3,7 +3,8 @@
 use Rattle.std.specs.Prelude.{ℕ, ◌≡◌, List, ℤ}
 use Rattle.std.proofs.Common.{sym, ap, subst, ◌∙◌}
 use Rattle.model.specs.Common.{Common, common}
-use Rattle.promises.specs.CommonCopper.{CommonSays, common_filled}
+use Rattle.promises.specs.CommonCopper.{CommonSays}
+use Rattle.promises.proofs.CommonCopper.{common_filled}
 use Rattle.solver.specs.declared.Solved.{Solved}
 use Rattle.copper.specs.Answers.{common_says}
 

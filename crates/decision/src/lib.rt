@@ -3,6 +3,8 @@
 // is true of the arrays of every board, and logs what it stores, so that undoing the log's entries gives back the arrays.
 // `count` is the log's length, plus 1024 if the flag is set, plus 2048 if it is set and the decision has ended; an ended decision goes
 // through every part unchanged.
+#![tactic(auto)]
+
 ghost use Rattle.std.specs.Prelude.{◌≡◌, true, ◌+◌, ◌*◌, ◌-◌, ◌≤◌, ◌<◌};
 ghost use Rattle.rules.specs.Grid.{right, down, pads};
 ghost use Rattle.rules.specs.Drawing.{on_left, on_right};
@@ -21,7 +23,7 @@ const LINE: u8 = Edge::LINE.0;
 const NONE: u8 = Edge::NONE.0;
 
 // Steps a, b and f: an edge is to have no line. At a slot off the board nothing changes.
-#[cycle(bar_check_corner_left_corner_right_decide_line_down_decide_line_right_decide_none_detour)]
+#[cycle(deciding)]
 pub fn decide_none(
     edges: &mut [u8; 1024],
     ends: &mut [i64; 512],
@@ -48,7 +50,7 @@ pub fn decide_none(
 }
 
 // Steps a to f: the edge to the right of pad v is to be a line.
-#[cycle(bar_check_corner_left_corner_right_decide_line_down_decide_line_right_decide_none_detour)]
+#[cycle(deciding)]
 pub fn decide_line_right(
     edges: &mut [u8; 1024],
     ends: &mut [i64; 512],
@@ -101,7 +103,7 @@ pub fn decide_line_right(
 }
 
 // Steps a to f: the edge downward from pad v is to be a line.
-#[cycle(bar_check_corner_left_corner_right_decide_line_down_decide_line_right_decide_none_detour)]
+#[cycle(deciding)]
 pub fn decide_line_down(
     edges: &mut [u8; 1024],
     ends: &mut [i64; 512],
@@ -156,7 +158,7 @@ pub fn decide_line_down(
 }
 
 // Step d, one third of a unit square: if the edge at slot a is a line, those at b and c become none.
-#[cycle(bar_check_corner_left_corner_right_decide_line_down_decide_line_right_decide_none_detour)]
+#[cycle(deciding)]
 pub fn detour(
     edges: &mut [u8; 1024],
     ends: &mut [i64; 512],
@@ -184,7 +186,7 @@ pub fn detour(
 }
 
 // Step e: the right and down corner above pad q, if the edge at slot a completes it and q is blank.
-#[cycle(bar_check_corner_left_corner_right_decide_line_down_decide_line_right_decide_none_detour)]
+#[cycle(deciding)]
 pub fn corner_right(
     edges: &mut [u8; 1024],
     ends: &mut [i64; 512],
@@ -215,7 +217,7 @@ pub fn corner_right(
 }
 
 // Step e: the left and down corner above pad q, if the edge at slot a completes it and q is blank.
-#[cycle(bar_check_corner_left_corner_right_decide_line_down_decide_line_right_decide_none_detour)]
+#[cycle(deciding)]
 pub fn corner_left(
     edges: &mut [u8; 1024],
     ends: &mut [i64; 512],
@@ -246,7 +248,7 @@ pub fn corner_left(
 }
 
 // Step e: if pad v is barred, by this bit of its kind, the edge at the slot becomes none.
-#[cycle(bar_check_corner_left_corner_right_decide_line_down_decide_line_right_decide_none_detour)]
+#[cycle(deciding)]
 pub fn bar(
     edges: &mut [u8; 1024],
     ends: &mut [i64; 512],
@@ -270,7 +272,7 @@ pub fn bar(
 }
 
 // The pad check; a pad number of 512 stands for no pad.
-#[cycle(bar_check_corner_left_corner_right_decide_line_down_decide_line_right_decide_none_detour)]
+#[cycle(deciding)]
 pub fn check(
     edges: &mut [u8; 1024],
     ends: &mut [i64; 512],

@@ -19,7 +19,8 @@ use Rattle.model.specs.Walk.{no_lines, with_code, may_give, tested, give, walk_o
 use Rattle.runs.specs.Events.{layouts_of, shown_codes, ascending_distinct}
 use Rattle.runs.specs.Branches.{Lists}
 use Rattle.runs.specs.Progress.{Sized, sized_append}
-use Rattle.runs.specs.ExactLists.{Exact, ExactRun, exact_run, call_is_run, call_is_declined}
+use Rattle.runs.specs.ExactLists.{Exact, ExactRun, call_is_run, call_is_declined}
+use Rattle.runs.proofs.ExactLists.{exact_run}
 use Rattle.everycode.specs.WalkLists.{AgreesBefore, every_code_lists}
 
 -- the layouts of the walk with no limit

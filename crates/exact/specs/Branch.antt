@@ -24,7 +24,7 @@ use Rattle.propagation.specs.Counting.{among}
 use Rattle.propagation.specs.Agreement.{Agrees, drawn_degree}
 use Rattle.propagation.specs.ListedDrawing.{its_degree}
 use Rattle.rules.specs.ProperGrid.{Proper}
-use Rattle.propagation.specs.Decisions.{one_decision_sound}
+use Rattle.propagation.proofs.Decisions.{one_decision_sound}
 use Rattle.propagation.specs.Preparing.{HolesShut}
 use Rattle.runs.specs.Branches.{Lists, Coded, lists_none, lists_alike}
 use Rattle.exact.specs.Passed.{Passed, left_decided, up_decided}

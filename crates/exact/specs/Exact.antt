@@ -14,12 +14,15 @@ use Rattle.model.specs.Search.{search, solve}
 use Rattle.propagation.specs.BoardAtRest.{BoardAtRest, board_at_rest}
 use Rattle.propagation.specs.Agreement.{Agrees}
 use Rattle.propagation.specs.Decisions.{Decision, AgreesWith}
-use Rattle.propagation.specs.Preparing.{HolesShut, agrees_with_fresh}
-use Rattle.propagation.specs.Standing.{at_rest, holes_shut, decisions_sound, flag_means_none}
+use Rattle.propagation.specs.Preparing.{HolesShut}
+use Rattle.propagation.proofs.Preparing.{agrees_with_fresh}
+use Rattle.propagation.specs.Standing.{at_rest, holes_shut}
+use Rattle.propagation.proofs.Standing.{decisions_sound, flag_means_none}
 use Rattle.propagation.specs.BoardCalls.{Made}
 use Rattle.runs.specs.Events.{layouts_of, shown_codes, ascending_distinct}
 use Rattle.runs.specs.Branches.{Lists}
-use Rattle.runs.specs.ExactLists.{Exact, ExactRun, exact_run, call_is_run, call_is_declined}
+use Rattle.runs.specs.ExactLists.{Exact, ExactRun, call_is_run, call_is_declined}
+use Rattle.runs.proofs.ExactLists.{exact_run}
 use Rattle.exact.specs.SearchLists.{search_lists}
 
 -- the layouts of the search with no limit

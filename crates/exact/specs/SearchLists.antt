@@ -23,7 +23,8 @@ use Rattle.model.specs.SearchStart.{flagged_search, clear_search}
 use Rattle.propagation.specs.Edges.{drawing}
 use Rattle.propagation.specs.Agreement.{Agrees}
 use Rattle.rules.specs.ProperGrid.{Proper}
-use Rattle.propagation.specs.Preparing.{fresh_rests, agrees_with_fresh, fresh_shuts_holes}
+use Rattle.propagation.specs.Preparing.{fresh_rests, fresh_shuts_holes}
+use Rattle.propagation.proofs.Preparing.{agrees_with_fresh}
 use Rattle.runs.specs.Events.{layouts_of}
 use Rattle.runs.specs.Branches.{Lists, lists_none, lists_counted, four_branches}
 use Rattle.exact.specs.Passed.{Passed, passed_edge, pass_last_row}

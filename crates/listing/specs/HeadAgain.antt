@@ -14,7 +14,7 @@ use Rattle.model.specs.Search.{search}
 use Rattle.model.specs.GridFile.{Reading, read}
 use Rattle.model.specs.Routes.{found_within}
 use Rattle.runs.specs.Events.{Beginning}
-use Rattle.runs.specs.Runs.{records_fit}
+use Rattle.runs.proofs.Runs.{records_fit}
 use Rattle.runs.specs.TwoRuns.{Continued, continued}
 use Rattle.promises.specs.HeldRecords.{records_long}
 use Rattle.reading.specs.ReadingLaws.{SoundReading, read_sound}

@@ -1,6 +1,8 @@
 // Reading packed decimal, as controller memories hold it: one byte H, one byte W, then five bytes for each pad, two digits to a byte. The
 // answer is that of a grid file: H, W and 256 cells, or one numbered refusal with its line and field. The whole answer is said by
 // `read_packed` of the crate `model`, specs/Packed.antt there.
+#![tactic(auto)]
+
 ghost use Rattle.std.specs.Prelude.{◌≡◌, true, [], ◌+◌, ◌*◌, ◌≤◌, length, drop};
 ghost use Rattle.model.specs.Bounds.{is_size};
 ghost use Rattle.model.specs.Packed.{all_FF, packed_pad, declined_pad, read_pads, read_packed};

@@ -24,7 +24,7 @@ use Rattle.model.specs.Walk.{every_code, walk}
 use Rattle.ruletest.specs.Verdict.{listed_verdict}
 use Rattle.runs.specs.Events.{layouts_of}
 use Rattle.runs.specs.ExactLists.{Exact, exact_same}
-use Rattle.runs.specs.HeldRecords as held
+use Rattle.runs.proofs.HeldRecords as held
 use Rattle.runs.specs.HeldRecords.{Holds}
 use Rattle.exact.specs.Exact.{search_run, solve_is_run, solve_is_declined}
 use Rattle.everycode.specs.EveryCode.{every_code_exact, walk_run, walk_is_run, walk_is_declined}

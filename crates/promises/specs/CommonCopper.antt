@@ -2,12 +2,11 @@
 -- listed drawing of the grid has a line there, 2 exactly where none has, 3 exactly where one has and another has none; and the same of the
 -- records that the search has left in the buffer. An empty list that is complete means that nobody can draw by the ordinary rules. What is
 -- answered in every other case stands at the end. It rests on TableLaws.antt, HeldRecords.antt and what a search promises.
-use Rattle.std.specs.Prelude.{ℕ, suc, ◌%◌, ◌/◌, ◌≤◌, ◌<◌, ◌≡◌, refl, ◌⊎◌, ◌↔◌, Bool, true, false, length, drop, ℤ}
+use Rattle.std.specs.Prelude.{ℕ, ◌%◌, ◌/◌, ◌≤◌, ◌<◌, ◌≡◌, refl, ◌⊎◌, ◌↔◌, Bool, true, false, length, drop, ℤ}
 use Rattle.std.proofs.Math.Path.{sym, ap}
 use Rattle.std.proofs.Common.{◌∙◌, arith, length-append, length-drop, drop_at}
 use Rattle.std.proofs.Math.Logic.Iff
 use mathlib.Core.List.{List, ◌++◌, Memᴰ}
-use Rattle.std.proofs.Math.Decide.{dec_lt, ℕ_discrete}
 use Rattle.std.proofs.Math.Dec.{eqb}
 use Rattle.std.proofs.Math.ListN.{get_or, get_or-append}
 use Rattle.rules.specs.Grid.{Edge, no_edge, place_at, places, field_side, Grid, grid_of, Accepted, OnBoard}
@@ -15,7 +14,7 @@ use Rattle.rules.specs.Drawing.{Drawing, drawn, Ordinary, Listed}
 use Rattle.rules.specs.Record.{undecided_byte, line_byte, none_byte, byte_of, byte_at_place, record_of, place_number, ListedRecord}
 use Rattle.rules.proofs.RecordLaws.{edge_number_in_field, edge_at_number, field_edge, record_shows, is_line_byte}
 use Rattle.model.specs.Refusals.{grid_refusal}
-use Rattle.model.specs.RefusalLaws.{not_refused, accepted_is_not_refused}
+use Rattle.model.specs.RefusalLaws.{accepted_is_not_refused}
 use Rattle.model.specs.Records.{record_at}
 use Rattle.model.specs.Runs.{Run, scan, Solved, solved, declined_search}
 use Rattle.model.specs.Search.{search, solve}
@@ -116,21 +115,6 @@ module _ (g : Grid) (wide : 2 ≤ g.width) (records : List (List ℕ)) (exactly 
     λ (k, below, is). let m = (held _).0 (record { k = k; below = below; there = refl }) in (_, m, (byte_shown _ m b).0 is),
   )
 
-  tells : (byte : ℕ) → TellsOfList g.width e records byte → Tells g e byte × TellsOfBuffer g.height g.width left_by (place_number g.width e) byte
-  tells byte t = (
-    record {
-      every = Iff.trans t.every (all_drawings true);
-      none = Iff.trans t.none (all_drawings false);
-      some = Iff.trans t.some (Iff.and (one_drawing true) (one_drawing false));
-      one_of_three = t.one_of_three;
-    },
-    record {
-      every = Iff.trans t.every (all_held true);
-      none = Iff.trans t.none (all_held false);
-      some = Iff.trans t.some (Iff.and (one_held true) (one_held false));
-    },
-  )
-
 -- ## The call
 
 module _ (height width : ℕ) (cells : List ℤ) (limit : ℕ) (buffer table : List ℕ) where
@@ -145,22 +129,13 @@ module _ (height width : ℕ) (cells : List ℤ) (limit : ℕ) (buffer table : L
   made_at i inside = get_or-append (common_table height width run.records) (drop (places height width) table) of_no_layout i (omega (arith, table_length height width run.records))
       ∙ table_at height width run.records i inside
 
-  made_tells : (accepted : Accepted height width cells) → run.outcome ≡ 0 → 0 < length run.records → (e : Edge) → OnBoard (grid_of height width cells) e
-      → Tells (grid_of height width cells) e (get_or made (place_number width e) of_no_layout)
-      × TellsOfBuffer height width (solved run buffer) (place_number width e) (get_or made (place_number width e) of_no_layout)
-  unfolding grid_of
-  made_tells accepted complete some e on = let wide = accepted.width_in_range.0 in let g = grid_of height width cells in
-      rw (made_at (place_number width e) (edge_number_in_field g wide e on), edge_at_number g wide e on)
-      (tells g wide run.records ((search_run height width cells accepted limit (length buffer)).complete complete) (solved run buffer)
-      (λ bytes. rw (solve_is_run height width cells accepted limit buffer) at (held_exactly height width cells accepted limit buffer bytes)) e on
-      (common_byte width e run.records) (byte_tells width e run.records some))
-
   fine : Accepted height width cells → (grid_refusal height width cells).0 ≡ 0
   fine accepted = ap (λ (p : ℕ × ℕ). p.0) (accepted_is_not_refused height width cells accepted)
 
   -- A COMPLETE LIST of an accepted grid, with a table that has room
   pub common_says : Accepted height width cells → places height width ≤ length table → (solve height width cells limit buffer).outcome ≡ 0
       → CommonSays height width cells limit buffer table (common height width cells limit buffer table)
+  unfolding grid_of
   common_says accepted room complete =
       let found = solve_is_run height width cells accepted limit buffer in
       let done : run.outcome ≡ 0 = rw found at complete in
@@ -174,6 +149,40 @@ module _ (height width : ℕ) (cells : List ℤ) (limit : ℕ) (buffer table : L
         past = drop_at (common_table height width run.records) _ (places height width) (table_length height width run.records);
         same_length = rw (length-append, table_length, length-drop) (omega arith);
       })
+    where
+      made_tells : (accepted : Accepted height width cells) → run.outcome ≡ 0 → 0 < length run.records → (e : Edge) → OnBoard (grid_of height width cells) e
+          → Tells (grid_of height width cells) e (get_or made (place_number width e) of_no_layout)
+          × TellsOfBuffer height width (solved run buffer) (place_number width e) (get_or made (place_number width e) of_no_layout)
+      made_tells accepted complete some e on =
+          rw (made_at (place_number width e) (edge_number_in_field g wide e on), edge_at_number g wide e on)
+          (tells (common_byte width e run.records) (byte_tells width e run.records some))
+        where
+          g : Grid
+          g = grid_of height width cells
+
+          wide : 2 ≤ g.width
+          wide = accepted.width_in_range.0
+
+          exactly : Exact g run.records
+          exactly = (search_run height width cells accepted limit (length buffer)).complete complete
+
+          held : (bytes : List ℕ) → Holds g.height g.width (solved run buffer) bytes ↔ Memᴰ bytes run.records
+          held bytes = rw (solve_is_run height width cells accepted limit buffer) at (held_exactly height width cells accepted limit buffer bytes)
+
+          tells : (byte : ℕ) → TellsOfList g.width e run.records byte → Tells g e byte × TellsOfBuffer g.height g.width (solved run buffer) (place_number g.width e) byte
+          tells byte t = (
+            record {
+              every = Iff.trans t.every (all_drawings g wide run.records exactly (solved run buffer) held e on true);
+              none = Iff.trans t.none (all_drawings g wide run.records exactly (solved run buffer) held e on false);
+              some = Iff.trans t.some (Iff.and (one_drawing g wide run.records exactly (solved run buffer) held e on true) (one_drawing g wide run.records exactly (solved run buffer) held e on false));
+              one_of_three = t.one_of_three;
+            },
+            record {
+              every = Iff.trans t.every (all_held g wide run.records exactly (solved run buffer) held e on true);
+              none = Iff.trans t.none (all_held g wide run.records exactly (solved run buffer) held e on false);
+              some = Iff.trans t.some (Iff.and (one_held g wide run.records exactly (solved run buffer) held e on true) (one_held g wide run.records exactly (solved run buffer) held e on false));
+            },
+          )
 
   -- 16: ANY OTHER LIST; the search's own result and buffer, and the table as it was
   pub common_stopped : Accepted height width cells → places height width ≤ length table → ((solve height width cells limit buffer).outcome ≡ 0 → ⊥)
@@ -193,21 +202,3 @@ module _ (height width : ℕ) (cells : List ℤ) (limit : ℕ) (buffer table : L
       → common height width cells limit buffer table ≡ record { searched = solve height width cells limit buffer; table = table }
   common_refused refused = refused_grid height width cells limit buffer table refused
       ∙ ap (λ (s : Solved). record { searched = s; table = table }) (sym (solve_is_declined height width cells refused limit buffer))
-
-  -- BY THE NUMBER: whoever is answered 0 has a complete list of an accepted grid in the buffer, and its table
-  pub common_filled : (common height width cells limit buffer table).searched.number ≡ 0
-      → CommonSays height width cells limit buffer table (common height width cells limit buffer table)
-  common_filled zero = elim (ℕ_discrete (grid_refusal height width cells).0 0) [
-    | no refused ↦ absurd (refused (rw (refused_grid height width cells limit buffer table refused) at zero))
-    | yes accepted ↦ elim (dec_lt (length table) (places height width)) [
-      | yes short ↦ absurd (no_zero (rw (short_table height width cells limit buffer table accepted short) at zero))
-      | no long ↦ elim (ℕ_discrete run.outcome 0) [
-        | no stopped ↦ absurd (no_zero (rw (stopped_list height width cells limit buffer table accepted (omega arith) stopped) at zero))
-        | yes done ↦ let grid = not_refused height width cells accepted in
-            common_says grid (omega arith) (rw (solve_is_run height width cells grid limit buffer) done)
-      ]
-    ]
-  ]
-    where
-      no_zero : {n : ℕ} → suc n ≡ 0 → ⊥
-      no_zero h = omega arith

@@ -9,7 +9,7 @@ use Rattle.model.specs.Runs.{Run, scan, Solved}
 use Rattle.model.specs.Search.{search, solve}
 use Rattle.runs.specs.Events.{layouts_of}
 use Rattle.runs.specs.ExactLists.{Exact}
-use Rattle.runs.specs.HeldRecords as held
+use Rattle.runs.proofs.HeldRecords as held
 use Rattle.runs.specs.HeldRecords.{Holds}
 use Rattle.exact.specs.Exact.{exact}
 

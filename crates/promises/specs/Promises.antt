@@ -11,11 +11,13 @@ use Rattle.rules.specs.Drawing.{Ordinary, number_of_lines}
 use Rattle.rules.specs.Record.{record_lines}
 use Rattle.model.specs.Runs.{Event, Run, scan, fewest, no_fewest}
 use Rattle.model.specs.Search.{search}
-use Rattle.shortest.specs.Shortest.{NotBettered, whole_list_not_bettered}
+use Rattle.shortest.specs.Shortest.{NotBettered}
+use Rattle.shortest.proofs.Shortest.{whole_list_not_bettered}
 use Rattle.shortest.specs.Fewest.{Fewest}
 use Rattle.runs.specs.Events.{layouts_of, Beginning}
 use Rattle.rules.specs.ProperGrid.{accepted_proper}
-use Rattle.runs.specs.ExactLists.{Exact, ExactRun, exact_run}
+use Rattle.runs.specs.ExactLists.{Exact, ExactRun}
+use Rattle.runs.proofs.ExactLists.{exact_run}
 use Rattle.exact.specs.Exact.{exact}
 use Rattle.runs.specs.Runs.{RunSays}
 

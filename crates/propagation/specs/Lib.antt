@@ -19,4 +19,3 @@ pub mod Decisions
 pub mod Preparing
 pub mod Standing
 pub mod BoardCalls
-pub mod Fuel

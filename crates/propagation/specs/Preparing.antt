@@ -11,20 +11,19 @@ use mathlib.Core.List.Memᴰ
 use mathlib.Core.List.{List, [], ◌∷◌, Memᴰ}
 use native.Mathlib.Omega.{arith}
 use Rattle.std.proofs.Math.Decide.{dec_lt, ℕ_discrete}
-use Rattle.rules.specs.Grid.{Edge, Cell, blank, clue, hole, Grid, pads, OnBoard}
+use Rattle.rules.specs.Grid.{Edge, hole, Grid, pads, OnBoard}
 use Rattle.rules.specs.Drawing.{Drawing, drawn, Listed}
 use Rattle.rules.specs.Places.{zero≢one}
-use Rattle.rules.specs.Tests.{conflict, not_so}
+use Rattle.rules.specs.Tests.{not_so}
 use Rattle.model.specs.PadTests.{is_hole}
 use Rattle.model.specs.Board.{State, none, around, bare, shut, shut_at, prepared, fresh, decide, enough, line_or_none}
 use Rattle.model.specs.BoardLaws.{on_board_of_test, hole_of}
 use Rattle.propagation.specs.Objects.{AllHold}
 use Rattle.propagation.specs.Squares.{around_on}
 use Rattle.propagation.specs.Counting.{leads}
-use Rattle.propagation.specs.Agreement.{Agrees}
 use Rattle.rules.specs.ProperGrid.{Proper}
-use Rattle.propagation.specs.BareBoard.{bare_holds, agrees_with_bare}
-use Rattle.propagation.specs.Decisions.{Decision, After, none_yet, one_more, AgreesWith, decisions_there, rests_after, sound_after}
+use Rattle.propagation.specs.BareBoard.{bare_holds}
+use Rattle.propagation.specs.Decisions.{Decision, After, none_yet, one_more, AgreesWith, decisions_there, rests_after}
 
 -- THE DECISIONS OF THE PREPARING, the last one first, before others: none at each of some edges,
 unfoldable pub nones : List (Edge × ℕ) → List Decision → List Decision
@@ -128,27 +127,23 @@ module _ (g : Grid) (proper : Proper g) where
   prepared_after zero v inside after = after
   prepared_after {S = S} (suc n) v inside after = prepared_after {S = shut_at g v S} n (v + 1) (omega arith) (hole_after v (omega arith) after)
 
-  fresh_after : After g (bare g) (fresh g) (hole_decisions g)
+  pub fresh_after : After g (bare g) (fresh g) (hole_decisions g)
   unfolding fresh hole_decisions
   fresh_after = prepared_after (pads g) 0 (omega arith) none_yet
 
   -- a listed drawing agrees with them
-  agrees_at_holes : (D : Drawing) → Listed g D → AgreesWith D (hole_decisions g)
+  pub agrees_at_holes : (D : Drawing) → Listed g D → AgreesWith D (hole_decisions g)
   unfolding hole_decisions
   agrees_at_holes D listed = hole_nones_all g (λ d. drawn D d.0 ≡ d.1)
       (λ v hole_is p m. not_so (drawn D p.0) (λ h. listed.ordinary.wired.hole_none v hole_is p.1 (leads g proper.wide D listed.ordinary.placed v p m h)))
       (pads g) 0 [] (λ d m. elim m [ ])
 
-  bare_rests : (bare g).flag ≡ false → AllHold g (bare g)
+  pub bare_rests : (bare g).flag ≡ false → AllHold g (bare g)
   bare_rests clear = bare_holds g proper.tall proper.wide proper.blank_past
 
   -- THE FRESH BOARD
   pub fresh_rests : (fresh g).flag ≡ false → AllHold g (fresh g)
   fresh_rests = rests_after g proper bare_rests fresh_after
-
-  pub agrees_with_fresh : (D : Drawing) → Listed g D → ((fresh g).flag ≡ false) × Agrees D (fresh g)
-  agrees_with_fresh D listed = sound_after g proper bare_rests fresh_after D listed
-      ((unfold bare in refl), agrees_with_bare g proper.tall proper.wide proper.blank_past D listed) (agrees_at_holes D listed)
 
   pub fresh_shuts_holes : (fresh g).flag ≡ false → HolesShut g (fresh g)
   fresh_shuts_holes clear v hole_is p m = decisions_there g proper fresh_after clear (p.0, false)

@@ -1,7 +1,7 @@
 -- The items of steps d and e at an edge, read by the unit square that they stand in: which items an edge has, and that each rule can be
 -- read from either of its edges. The two sides of a corner are one case, over the side. Pads are flat indexes, so all geometry is
 -- arithmetic; only columns need a remainder.
-use Rattle.std.specs.Prelude.{ℕ, ◌+◌, ◌-◌, ◌%◌, ◌≤◌, ◌<◌, ◌≡◌, ◌≢◌, ◌⊎◌, Bool, true, false, ◌&&◌, ltb}
+use Rattle.std.specs.Prelude.{ℕ, ◌+◌, ◌-◌, ◌%◌, ◌≤◌, ◌<◌, ◌≡◌, ◌⊎◌, Bool, true, false, ◌&&◌, ltb}
 use Rattle.std.proofs.Math.Path.{refl, ap}
 use Rattle.std.proofs.Common.{sym, ◌∙◌, inl, inr, arith, le-leb, leb-true, lt-ltb, ltb-true}
 use Rattle.std.proofs.Math.Logic.{⊎_elim, ⊎_map}

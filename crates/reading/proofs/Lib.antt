@@ -2,4 +2,5 @@
 pub mod FirstFault
 pub mod PackedSlices
 pub mod SlicesAndFiles
+pub mod OneSlice
 pub mod WriteRead

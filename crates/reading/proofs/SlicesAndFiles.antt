@@ -57,12 +57,3 @@ file_to_slice file accepted none =
   where
     in_range : Accepted (read file).height (read file).width (pads_read (read file))
     in_range = (read_sound file).in_range accepted
-
--- ## One slice a grid
-
--- two accepted slices with the same reading are the same slice
-pub one_slice_a_grid : (slice other : List ℕ) → (read_packed slice).number ≡ 0 → read_packed slice ≡ read_packed other → slice ≡ other
-one_slice_a_grid slice other accepted same =
-    sym (slice_is_own slice accepted)
-    ∙ ap (λ (r : Reading). grid_slice r.height r.width (pads_read r)) same
-    ∙ slice_is_own other (rw same at accepted)

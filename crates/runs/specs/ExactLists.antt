@@ -1,7 +1,7 @@
 -- EXACT LISTS: a list of records that holds each listed layout of a grid exactly once, ascending by codes, and nothing else. A grid has one such
 -- list. An engine whose layouts are exact stops early exactly where its count or its room runs out, and its list is then a beginning of that one.
 -- Nothing here speaks of how an engine finds its layouts. It rests on Events.antt, Runs.antt and the rules' laws.
-use Rattle.std.specs.Prelude.{ℕ, ◌≤◌, ◌≡◌, length, ℤ}
+use Rattle.std.specs.Prelude.{ℕ, ◌≡◌, length, ℤ}
 use Rattle.std.proofs.Math.Path.{refl, sym, ap, subst}
 use Rattle.std.proofs.Common.{◌∙◌, arith, ne_eqb}
 use Rattle.std.proofs.Math.Logic.{⊎_elim}
@@ -9,14 +9,13 @@ use mathlib.Core.List.Memᴰ
 use mathlib.Core.List.{List, [], ◌∷◌, ◌++◌, Memᴰ, map}
 use Rattle.rules.specs.Grid.{places, Grid, grid_of, Accepted}
 use Rattle.rules.specs.Drawing.{Drawing, drawn, Listed}
-use Rattle.rules.specs.Record.{byte_of, record_of, ListedRecord, record_lines, Before, Ascending, lower, later}
+use Rattle.rules.specs.Record.{byte_of, record_of, ListedRecord, Before, Ascending, lower, later}
 use Rattle.rules.specs.RecordLaws.{length_field}
-use Rattle.rules.proofs.LineCount.{record_lines_of, lines_bound}
 use Rattle.model.specs.Refusals.{grid_refusal}
 use Rattle.model.specs.RefusalLaws.{accepted_is_not_refused}
 use Rattle.model.specs.Runs.{Event, Run, scan, fewest, solved, declined_search, listed_by}
-use Rattle.runs.specs.Events.{layouts_of, visits_of, layouts_append, shown_codes, Distinct, not_before_itself, mem_map, leading, following}
-use Rattle.runs.specs.Runs.{RunSays, run_says, FewestOf, fewest_of}
+use Rattle.runs.specs.Events.{layouts_of, visits_of, shown_codes, Distinct, not_before_itself, mem_map, leading, following}
+use Rattle.runs.specs.Runs.{RunSays, FewestOf}
 
 -- EXACT: the list holds each listed layout once, ascending, and nothing else
 pub record Exact (g : Grid) (layouts : List (List ℕ)) : Type 1 where
@@ -104,42 +103,6 @@ pub record ExactRun (g : Grid) (events : List Event) (limit room : ℕ) (run : R
   pub complete_visited : run.outcome ≡ 0 → run.visited ≡ visits_of events
   -- the fewest lines, 481 for none
   pub fewest_lines : FewestOf run.records (fewest run.records)
-
-module _ (height width : ℕ) (cells : List ℤ) (accepted : Accepted height width cells) (events : List Event)
-    (whole : Exact (grid_of height width cells) (layouts_of events)) (limit room : ℕ) where
-  abbrev its_grid : Grid
-  its_grid = grid_of height width cells
-
-  abbrev its_run : Run
-  its_run = scan limit (places height width) 0 room events
-
-  says : RunSays limit (places height width) room events its_run
-  says = run_says limit (places height width) events room
-
-  listed : (bytes : List ℕ) → Memᴰ bytes its_run.records → ListedRecord its_grid bytes
-  listed bytes m = whole.nothing_added bytes (rw (says.beginning, layouts_append says.done says.rest) (Memᴰ.append_left _ (rw says.records_are at m)))
-
-  few : (bytes : List ℕ) → Memᴰ bytes its_run.records → record_lines bytes ≤ 480
-  unfolding grid_of
-  few bytes m = let r = listed bytes m in
-      let placed = r.listed.ordinary.placed in
-      let tall = accepted.height_in_range.0 in
-      let wide = accepted.width_in_range.0 in
-      let bound = lines_bound its_grid tall wide r.drawing placed accepted.height_in_range.1 accepted.width_in_range.1 in
-      let same = ap record_lines r.shown ∙ record_lines_of its_grid tall wide r.drawing placed in
-      omega (arith, bound, same)
-
-  pub exact_run : ExactRun (grid_of height width cells) events limit room (scan limit (places height width) 0 room events)
-  unfolding grid_of
-  exact_run = record {
-    stops_where = says;
-    rest = layouts_of says.rest;
-    beginning = ap (λ l. l ++ layouts_of says.rest) says.records_are ∙ sym (layouts_append says.done says.rest) ∙ ap layouts_of (sym says.beginning);
-    nothing_added = listed;
-    complete = λ o. subst (Exact its_grid) (sym (says.records_are ∙ ap layouts_of (says.complete_whole o))) whole;
-    complete_visited = λ o. says.visited_is ∙ ap visits_of (says.complete_whole o);
-    fewest_lines = fewest_of its_run.records few;
-  }
 
 -- ## The call of an engine
 

@@ -47,10 +47,10 @@ module _ (g : Grid) (wide : 2 ≤ g.width) (narrow : g.width ≤ 16) (edges : Li
       go true h = line_shown (right (v - 1)) (30 + 2 * v) (let k = ltb-true 0 (v % g.width) h in let m = positive v k in omega arith) (omega arith)
         where
           positive : (u : ℕ) → 0 < u % g.width → 0 < u
-          positive zero k = absurd (zero-mod k)
+          positive zero k = absurd (zero_mod k)
             where
-              zero-mod : 0 < 0 % g.width → ⊥
-              zero-mod k = let z : 0 % g.width ≡ 0 = native.Mathlib.Nat.zero-mod g.width in omega arith
+              zero_mod : 0 < 0 % g.width → ⊥
+              zero_mod k = let z : 0 % g.width ≡ 0 = native.Mathlib.Nat.zero-mod g.width in omega arith
           positive (suc u) k = omega arith
       go false h = no_line (30 + 2 * v) (omega arith) (before_off (ltb 0 v) refl (let k = ltb-false 0 (v % g.width) h in omega arith))
 

@@ -86,21 +86,6 @@ module _ {g : Grid} (wide : 2 ≤ g.width) (R : Ring g) (D : Drawing) (ordinary 
         go e j (from_bc q l) = zero≢one (cc)
         go e j (from_cd q l) = zero≢one (cc)
 
-    shortcut : Shortcut (Lines D) (Lines shrunk) R.a R.b R.c R.d
-    unfolding shrunk
-    shortcut = record {
-      symmetric_old = line_back g.width D;
-      symmetric_new = line_back g.width shrunk;
-      apart = R.apart;
-      ab = edge_of D R.joins_ab ab;
-      bc = edge_of D R.joins_bc bc;
-      cd = edge_of D R.joins_cd cd;
-      no_ad = λ l. let (e, j, h) = line_edge l in let q = same_edge g wide e R.da j (joins_back R.joins_da) in zero≢one (cc);
-      ad = edge_of shrunk (joins_back R.joins_da) (redraw_da R D fourth_alone);
-      kept = kept;
-      origin = origin;
-    }
-
     pub three_lines_give_way : AsGood g D (redraw R D fourth_alone)
     unfolding shrunk
     three_lines_give_way = record {
@@ -108,6 +93,20 @@ module _ {g : Grid} (wide : 2 ≤ g.width) (R : Ring g) (D : Drawing) (ordinary 
           { placed = redraw_placed R D fourth_alone ordinary.placed; wired = shortcut_wired ordinary.wired shortcut };
       same_pairs = shortcut_join_same ordinary.wired shortcut;
     }
+      where
+        shortcut : Shortcut (Lines D) (Lines shrunk) R.a R.b R.c R.d
+        shortcut = record {
+          symmetric_old = line_back g.width D;
+          symmetric_new = line_back g.width shrunk;
+          apart = R.apart;
+          ab = edge_of D R.joins_ab ab;
+          bc = edge_of D R.joins_bc bc;
+          cd = edge_of D R.joins_cd cd;
+          no_ad = λ l. let (e, j, h) = line_edge l in let q = same_edge g wide e R.da j (joins_back R.joins_da) in zero≢one (cc);
+          ad = edge_of shrunk (joins_back R.joins_da) (redraw_da R D fourth_alone);
+          kept = kept;
+          origin = origin;
+        }
 
   -- four lines would be a closed loop
   OnRing : ℕ → Type 0

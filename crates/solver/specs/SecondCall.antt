@@ -1,7 +1,8 @@
 -- TWO CALLS OF `solve` on one grid, the second with at least the limit and at least the buffer of the first, whatever the two buffers held before:
 -- what a caller can rely on (promises' SecondRun.antt) follows from the contract of `solve` alone, taken twice.
 use Rattle.std.specs.Prelude.{ℕ, ◌≤◌, List, length, ℤ}
-use Rattle.promises.specs.SecondRun.{SecondRun, second_run}
+use Rattle.promises.specs.SecondRun.{SecondRun}
+use Rattle.promises.proofs.SecondRun.{second_run}
 use Rattle.solver.specs.declared.Solved.{Solved}
 use Rattle.solver.specs.Answers.{answer_says, Solves}
 

@@ -18,7 +18,8 @@ use Rattle.model.specs.JoinedEnds.{End, is_through, is_pad, unjoinable}
 use Rattle.model.specs.RefusalLaws.{accepted_is_not_refused}
 use Rattle.model.specs.Judge.{Followed, wrong, so_far, after_line, after_edge, after_place, finished, all_finished, and_then, followed, is_ordinary_record, has_listed_shape, verdict, judge}
 use Rattle.alike.specs.Alike.{Alike, recoded, of_one_size}
-use Rattle.alike.specs.AlikeEnds.{AlikeEnds, both_through, both_at_pad, both_at_clue, AlikeEverywhere, joined_alike, unjoinable_alike, bare_end_alike}
+use Rattle.alike.specs.AlikeEnds.{AlikeEnds, both_through, both_at_pad, both_at_clue, AlikeEverywhere, joined_alike, bare_end_alike}
+use Rattle.alike.proofs.AlikeEnds.{unjoinable_alike}
 
 -- what is followed in two grids: something was wrong in both, or the ends are alike so far
 data AlikeFollowed (g h : Grid) : Followed → Followed → Type 0 where

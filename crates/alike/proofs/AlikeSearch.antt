@@ -18,7 +18,8 @@ use Rattle.model.specs.Search.{board_record, next_pad, degree_so_far, try, backt
 use Rattle.model.specs.Common.{common}
 use Rattle.model.specs.RefusalLaws.{accepted_is_not_refused}
 use Rattle.alike.specs.Alike.{Alike, same_clues, recoded, of_one_size}
-use Rattle.alike.specs.AlikeStates.{AlikeStates, edge_same, decide_alike, fresh_alike}
+use Rattle.alike.specs.AlikeStates.{AlikeStates}
+use Rattle.alike.proofs.AlikeStates.{edge_same, decide_alike, fresh_alike}
 
 module _ (g : Grid) (cell : ℕ → Cell) (alike : Alike g (recoded g cell)) where
   abbrev h : Grid

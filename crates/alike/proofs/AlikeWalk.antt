@@ -12,8 +12,9 @@ use Rattle.model.specs.Runs.{Event, visit, layout, listed_by}
 use Rattle.model.specs.Walk.{no_lines, with_code, may_give, tested, give, walk_on, every_code, walk}
 use Rattle.model.specs.RefusalLaws.{accepted_is_not_refused}
 use Rattle.alike.specs.Alike.{Alike, recoded, of_one_size}
-use Rattle.alike.specs.AlikeJudge.{verdict_alike}
-use Rattle.alike.specs.Lowered.{lowered, lowered_alike, lowered_accepted}
+use Rattle.alike.proofs.AlikeJudge.{verdict_alike}
+use Rattle.alike.specs.Lowered.{lowered}
+use Rattle.alike.proofs.Lowered.{lowered_alike, lowered_accepted}
 
 module _ (g : Grid) (cell : ℕ → Cell) (alike : Alike g (recoded g cell)) where
   abbrev h : Grid
