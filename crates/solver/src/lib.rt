@@ -122,7 +122,7 @@ fn backtrack(
 }
 
 // What `solve` answers: the grid's refusal with its index, and the counts.
-#[derive(Drop)]
+#[derive(Clone, Copy)]
 pub struct Solved {
     pub number: u8,
     pub index: usize,

@@ -206,7 +206,7 @@ fn walk_on(
 }
 
 // What `walk` answers: the grid's refusal with its index, and the counts.
-#[derive(Drop)]
+#[derive(Clone, Copy)]
 pub struct Walked {
     pub number: u8,
     pub index: usize,
