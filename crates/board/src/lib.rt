@@ -37,7 +37,7 @@ pub struct Board {
 }
 
 // What a call hands back: document 01's number, 0 if accepted; its answer, 0 beside a number; the board.
-#[derive(Drop)]
+#[derive(Clone, Copy)]
 pub struct Answer {
     pub number: u8,
     pub answer: usize,
