@@ -2,6 +2,8 @@
 // the number of the sequence, its calls, and a checksum of answer, flag, edges and ends after every call. oracle/README.md describes the
 // stream and the checksum, and how both were made. What the calls do is proved in their own crate: here only that this program is safe
 // and ends.
+#![tactic(auto)]
+
 ghost use Rattle.std.specs.Prelude.{◌≡◌, ◌≤◌, length};
 ghost use Rattle.board.specs.Held.{IsBoard};
 

@@ -3,6 +3,8 @@
 // grids were compared, on how many the engines were equal, and the sums of layouts, visited boards and tried codes; before that a line for
 // each grid on which they differ. The comparison and the grids are made, and proved, in the crate `engines`; here they are only counted
 // and printed.
+#![tactic(auto)]
+
 ghost use Rattle.std.specs.Prelude.{◌≤◌, ◌<◌, length};
 ghost use Rattle.engines.specs.Kinds.{Kinds};
 

@@ -2,6 +2,8 @@
 // as `routes` does and, for a complete list, a line for each row of the table; or why the file is refused. What is printed is made, and
 // proved, in the crate `tabling`; here it is only read and written. By `common_whole` of that crate (specs/Whole.antt) the bytes written are
 // the text of the crate `model` for the bytes of standard input.
+#![tactic(auto)]
+
 ghost use Rattle.std.specs.Prelude.{◌≡◌, ◌≤◌, length};
 ghost use Rattle.model.specs.Routes.{routes_room};
 

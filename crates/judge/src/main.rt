@@ -1,7 +1,11 @@
 // The judge of a drawing: reads a grid file from standard input, of which the first 4,096 bytes suffice, takes the codes of a drawing as its
 // argument, and prints the verdict with the lines, or why the file is refused. What is printed is made, and proved, in the crate `hearing`;
 // here it is only read and written. By `judge_prints` of that crate (specs/Whole.antt) the bytes written are the text of the crate `model`.
+#![tactic(auto)]
+
 ghost use Rattle.std.specs.Prelude.{◌≤◌, length};
+
+use std::env::{Env, FillError};
 
 // The number of standard input.
 const STDIN_FILENO: i32 = 0;
@@ -19,19 +23,38 @@ fn print_judged(file: &[u8], digits: &[u8])
     io::write_all(STDOUT_FILENO, &bytes[..length]);
 }
 
+// Whether the program has an argument i beside its own name.
+fn is_given(rt: &HostRuntime, i: usize) -> bool {
+    let mut argument = [0u8; 1];
+    match rt.arg(i, &mut argument) {
+        Err(FillError::NotPresent) => false,
+        _ => true,
+    }
+}
+
+// Puts the argument at the start of the buffer and gives its length; 0 for one that is longer than the buffer.
+fn copy_argument(rt: &HostRuntime, argument: &mut [u8]) -> usize
+    ensures { result ≤ length argument.new }
+{
+    match rt.arg(1, argument) {
+        Ok(m) => m,
+        Err(_) => 0,
+    }
+}
+
 // Reads standard input, and prints the text for it and the argument; one that is longer than the buffer is handed over as empty.
-fn judge_input() {
+fn judge_input(rt: &HostRuntime) {
     let mut argument = io::buffer();
-    let m = os::arg(1, &mut argument);
+    let m = copy_argument(rt, &mut argument);
     let mut input = io::buffer();
     let n = io::read_full(STDIN_FILENO, &mut input);
     print_judged(&input[..n], &argument[..m]);
 }
 
 // With one argument beside the program's own name it judges; else it says how it is called.
-fn main() {
-    if os::arg_count() == 2 {
-        judge_input();
+fn main(rt: HostRuntime) {
+    if is_given(&rt, 1) && !is_given(&rt, 2) {
+        judge_input(&rt);
         return;
     }
     let usage = hearing::usage();

@@ -1,6 +1,8 @@
 // The router: reads a grid file from standard input, of which the first 4,096 bytes suffice, and prints the list of its wirings, or why the
 // file is refused. What is printed is made, and proved, in the crate `listing`; here it is only read and written. By `list_whole` of that
 // crate (specs/Whole.antt) the bytes written are the text of the crate `model` for the bytes of standard input.
+#![tactic(auto)]
+
 ghost use Rattle.std.specs.Prelude.{◌≡◌, ◌≤◌, length};
 ghost use Rattle.model.specs.Routes.{routes_limit, routes_room};
 

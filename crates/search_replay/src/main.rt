@@ -1,6 +1,8 @@
 // Runs the search on the fixed grids of the file `stdin` and prints a line for each run; `stdout` has the lines that the Rust gave.
 // oracle/README.md describes the stream and the lines, and how both were made. What the search gives is proved in its own crate: here
 // only that this program is safe and ends.
+#![tactic(auto)]
+
 use stream::{byte_at, cells_at, later, number_at, taken_bytes};
 
 // No stream is longer.

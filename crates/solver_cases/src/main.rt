@@ -2,6 +2,8 @@
 // and a byte short of two records, sizes 1, 2, 16 and 17, a wrong number of cells and bad cells; codes on both sides of what 31 and 32 bits
 // hold, alike and two by two; and nothing but holes, and clues that holes shut in. Prints number, index, outcome, layouts, visited, fewest
 // and the sum of the buffer's bytes.
+#![tactic(auto)]
+
 ghost use Rattle.std.specs.Prelude.{◌≤◌, ◌<◌};
 
 use solver::Solved;
