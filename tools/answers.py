@@ -204,11 +204,17 @@ def turn(crate, folder, names, said):
             ((old, new), live), changed = loop
             params = clause_params(name, body)
             want = len(live) + sum(changed)
-            if len(params) != want:
-                said.append(f"{where}: {name} takes {len(params)}, not {want}")
-                return
             table, k = {}, len(live)
-            for j, v in enumerate(live):
+            if len(params) != want:  # other locals live now: by their names
+                for q in params:
+                    v = q.rstrip("₀").replace("-", "_")
+                    if v in live:
+                        table[q] = ("l.initial." if q.endswith("₀") and changed[live.index(v)] else "l.") + v
+                used = tokens("\n".join(body)[len(name) + sum(len(q) + 1 for q in params) :])
+                if any(q in used and q not in table for q in params):
+                    said.append(f"{where}: {name} takes {params}, but live are {live}")
+                    return
+            for j, v in enumerate(live if len(params) == want else []):
                 if changed[j]:
                     table[params[j]] = "l.initial." + v
                     table[params[k]] = "l." + v
