@@ -1,6 +1,8 @@
 // The arrays of a fresh board, from the sizes and a lent list of cells: those of the bare one (crate boardbare), on which every edge at a
 // hole has been put to a decision as none, holes in index order, each left, right, up, down, even once the flag is set. The log begins
 // anew after that, so nothing can be undone behind it. That they show the model's fresh board is proved in specs/FreshView.antt.
+#![tactic(auto)]
+
 ghost use Rattle.std.specs.Prelude.{◌≡◌, ℕ, ◌+◌, ◌*◌, ◌-◌, ◌≤◌, ◌<◌, length};
 ghost use Rattle.rules.specs.Grid.{Accepted, grid_of, pads};
 ghost use Rattle.model.specs.PadTests.{is_hole};

@@ -7,7 +7,9 @@ ghost use Rattle.std.specs.Prelude.{◌≤◌, ◌<◌, length};
 ghost use Rattle.engines.specs.Kinds.{Kinds};
 
 use engines::Sums;
-use libc::STDOUT_FILENO;
+
+// The number of standard output.
+const STDOUT_FILENO: i32 = 1;
 
 // A 3 by 3 field has so many grids, and the smaller sizes have fewer.
 const MOST_GRIDS: u64 = 562595;

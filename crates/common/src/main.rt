@@ -5,7 +5,11 @@
 ghost use Rattle.std.specs.Prelude.{◌≡◌, ◌≤◌, length};
 ghost use Rattle.model.specs.Routes.{routes_room};
 
-use libc::{STDIN_FILENO, STDOUT_FILENO};
+// The number of standard input.
+const STDIN_FILENO: i32 = 0;
+
+// The number of standard output.
+const STDOUT_FILENO: i32 = 1;
 
 // The line of row k.
 fn print_row(table: &[u8], width: usize, rows: usize, k: usize) {

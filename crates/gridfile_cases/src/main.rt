@@ -1,8 +1,12 @@
 // Reads the grid files of standard input, each behind its length in two bytes, and prints the answer of each: the line of a
 // refused file, or the grid as it is written back; the crate `reader_cases` does this. oracle/gridfile_cases.py makes the input
 // and what must be printed.
-use libc::STDIN_FILENO;
+#![tactic(auto)]
+
 use reader_cases::Reader;
+
+// The number of standard input.
+const STDIN_FILENO: i32 = 0;
 
 fn main() {
     let mut input = io::large_buffer();

@@ -7,8 +7,10 @@ ghost use Rattle.model.specs.RoutesTo.{limit_of, limit_line};
 ghost use Rattle.listing.specs.Listing.{Headed};
 ghost use Rattle.growing.specs.Limits.{says, first_limit, next_limit};
 
-use libc::STDERR_FILENO;
 use listing::Heading;
+
+// The number of standard error.
+const STDERR_FILENO: i32 = 2;
 
 const ZERO: u8 = 48;
 

@@ -3,7 +3,11 @@
 // here it is only read and written. By `judge_prints` of that crate (specs/Whole.antt) the bytes written are the text of the crate `model`.
 ghost use Rattle.std.specs.Prelude.{◌≤◌, length};
 
-use libc::{STDIN_FILENO, STDOUT_FILENO};
+// The number of standard input.
+const STDIN_FILENO: i32 = 0;
+
+// The number of standard output.
+const STDOUT_FILENO: i32 = 1;
 
 // The text for a file of at most 4,096 bytes, and codes.
 fn print_judged(file: &[u8], digits: &[u8])

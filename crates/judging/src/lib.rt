@@ -2,6 +2,8 @@
 // answers is the definition of the same name in the crate `model`, specs/Judge.antt there; the crate `ruletest` proves that it says what the
 // rules say. The ends of the pads are joined line by line, by the functions that step c of a decision calls. The places are gone through
 // once, and then the pads once.
+#![tactic(auto)]
+
 ghost use Rattle.std.specs.Prelude.{◌≡◌, ◌+◌, ◌*◌, ◌≤◌, ◌<◌, eqb, length, get_or};
 ghost use Rattle.rules.specs.Grid.{pad_index, place_at, field_side, places, grid_of, Accepted};
 ghost use Rattle.rules.specs.Drawing.{on_left, on_right};

@@ -4,8 +4,10 @@
 // it, and `line` reads them there; `print_lines` writes the lines.
 ghost use Rattle.listing.specs.Listing.{Refused, Headed, Lined};
 
-use libc::STDOUT_FILENO;
 use printed::LayoutLine;
+
+// The number of standard output.
+const STDOUT_FILENO: i32 = 1;
 
 // The head of the text; the file's number, and H and W, 0 where it is refused; and what was found, nothing where it is refused.
 #[derive(Drop)]

@@ -2,15 +2,19 @@
 // two bytes, and prints the answer of each: the line of a refused slice, or the grid as it is written back. It rests on this, that
 // what either reader gives is sound (crate `reading`, specs/ReadingLaws.antt and specs/PackedSlices.antt there): 256 cells, and
 // the pads among them.
+#![tactic(auto)]
+
 ghost use Rattle.std.specs.Prelude.{◌≤◌, ◌<◌, length};
 ghost use Rattle.reading.specs.ReadingLaws.{SoundReading};
 ghost use Rattle.gridfile.specs.Answers.{reading_says};
 
 use gridfile::Reading;
-use libc::STDOUT_FILENO;
+
+// The number of standard output.
+const STDOUT_FILENO: i32 = 1;
 
 // Which reader is asked: that of grid files, or that of packed decimal.
-#[derive(Drop)]
+#[derive(Clone, Copy)]
 pub enum Reader {
     File,
     Packed,

@@ -4,7 +4,11 @@
 ghost use Rattle.std.specs.Prelude.{◌≡◌, ◌≤◌, length};
 ghost use Rattle.model.specs.Routes.{routes_limit, routes_room};
 
-use libc::{STDIN_FILENO, STDOUT_FILENO};
+// The number of standard input.
+const STDIN_FILENO: i32 = 0;
+
+// The number of standard output.
+const STDOUT_FILENO: i32 = 1;
 
 // The limit of visited boards.
 const LIMIT: u64 = 1000000;

@@ -7,7 +7,12 @@ ghost use Rattle.std.specs.Prelude.{◌≡◌, ◌≤◌, length};
 ghost use Rattle.model.specs.RoutesTo.{routes_to_room};
 
 use growing::Limit;
-use libc::{STDIN_FILENO, STDOUT_FILENO};
+
+// The number of standard input.
+const STDIN_FILENO: i32 = 0;
+
+// The number of standard output.
+const STDOUT_FILENO: i32 = 1;
 
 // The whole text for a file of at most 4,096 bytes, with an answer buffer of 3,936,256 bytes lent: the head, then the lines.
 fn print_list(file: &[u8], limit: u64, buffer: &mut [u8])

@@ -4,8 +4,10 @@
 // and the sum of the buffer's bytes.
 ghost use Rattle.std.specs.Prelude.{◌≤◌, ◌<◌};
 
-use libc::STDOUT_FILENO;
 use solver::Solved;
+
+// The number of standard output.
+const STDOUT_FILENO: i32 = 1;
 
 fn wide(byte: u8) -> u64
     ensures { result ≤ 255 }

@@ -5,7 +5,7 @@ ghost use Rattle.std.specs.Prelude.{◌≡◌};
 ghost use Rattle.model.specs.Runs as model;
 
 // Outcome (0 complete, 1 spent, 2 full), visited boards (or tried codes), layouts, and the fewest lines of a layout, 481 for none.
-#[derive(Drop)]
+#[derive(Clone, Copy)]
 pub struct Tally {
     pub outcome: u8,
     pub visited: u64,

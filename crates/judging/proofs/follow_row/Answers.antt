@@ -1,0 +1,67 @@
+-- `judging::follow_row` meets its contract. The loop has followed the row's first places and counted their lines; what is left of the row
+-- falls. Assumes nothing.
+use Prim.Native.Nat.{◌+◌, ◌*◌}
+use mathlib.Core.Path.{◌≡◌}
+use mathlib.Core.Logic.{⊎_elim}
+use native.Mathlib.Omega.{arith}
+use Rattle.rules.specs.Grid.{field_side}
+use Rattle.judging.proofs.Stretches.{few_lines, a_line, no_line, no_place, place_wrong, place_right}
+use mathlib.Core.Path.{ap}
+use mathlib.Core.Bool.{not}
+use Rattle.judging.proofs.follow_row.Goals as goal
+
+pub overflow_mul-side : goal.overflow_mul-side
+overflow_mul-side c = omega arith
+
+pub overflow_sub-side : goal.overflow_sub-side
+overflow_sub-side c = omega arith
+
+pub loop-column-init : goal.loop-column-init
+loop-column-init c = (omega arith, no_place _ _ _ c.requires.4 c.requires.5)
+
+pub overflow_mul-held : goal.overflow_mul-held
+overflow_mul-held c = omega arith
+
+pub overflow_add-held : goal.overflow_add-held
+overflow_add-held c = omega arith
+
+pub bounds-bytes-row : goal.bounds-bytes-row
+bounds-bytes-row c = omega arith
+
+pub follow_place-requires : goal.follow_place-requires
+follow_place-requires c =
+    let start = c in
+    (start.requires.1, start.requires.2, omega (arith, c.loop-column-test.true, start.requires.1), c.loop-column.invariant.1.in_use)
+
+pub returns-then-not-follow_place : goal.returns-then-not-follow_place
+returns-then-not-follow_place c =
+    let loop = c.loop-column in
+    place_wrong _ _ _ _ c.loop-column-test.true loop.invariant.1 c.follow_place.ensures (ap not c.if-not-follow_place.true)
+
+pub overflow_add-found : goal.overflow_add-found
+overflow_add-found c =
+    let loop = c.loop-column in
+    let start = c in
+    let few = few_lines start.args.bytes.now (start.args.row * field_side start.args.width + loop.column) (omega (arith, loop.invariant.0, start.requires.3)) loop.invariant.1.tells in
+    omega arith
+
+pub overflow_add-column : goal.overflow_add-column
+overflow_add-column c = omega arith
+
+pub loop-column-smaller : goal.loop-column-smaller
+loop-column-smaller c = omega arith
+
+pub loop-column-preserved : goal.loop-column-preserved
+loop-column-preserved c =
+    let loop = c.loop-column in
+    let inside = c.loop-column-test.true in (
+      omega (arith, inside),
+      place_right _ _ _ _ inside loop.invariant.1 c.follow_place.ensures (ap not c.if-not-follow_place.false) c.requires.3
+          (⊎_elim (λ w. a_line _ _ w.0.taken w.1) (λ w. no_line _ _ w.0.left w.1) c.if-held-eq-LINE.branch),
+    )
+
+pub returns : goal.returns
+returns c =
+    let loop = c.loop-column in
+    let all : loop.column ≡ field_side c.args.width = omega (arith, loop.invariant.0, c.loop-column-test.false) in
+    rw all at loop.invariant.1
