@@ -91,7 +91,7 @@ class Function:
 def paths(body, var, table, lost):
     """Turns the paths from `var`, and from names that a `let` gives to it."""
     names = {var}
-    for _ in range(3):
+    for _ in range(9):
         for m in re.finditer(r"let (" + IDENT + r") = (" + "|".join(map(re.escape, names)) + r")((?:\.before)*) in", body):
             names.add(m.group(1))
     pat = re.compile(r"(?<![\w.'-])(" + "|".join(sorted(map(re.escape, names), key=len, reverse=True)) + r")((?:\.[\w'-]+)*)(?![\w'-])")
