@@ -1,5 +1,7 @@
 // The leaves of the search: what only reads the board's lent arrays and chooses, and what adds one layout. Each equals a definition of
 // searchview's Shown.antt, and the last one of runs' Layouts.antt. Nothing here decides an edge.
+#![tactic(auto)]
+
 ghost use Rattle.std.specs.Prelude.{◌≡◌, [], ◌∷◌, ◌+◌, ◌*◌, ◌-◌, ◌≤◌, ◌<◌, eqb, length, get_or};
 ghost use Rattle.rules.specs.Grid.{places};
 ghost use Rattle.rules.specs.Drawing.{num};

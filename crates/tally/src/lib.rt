@@ -1,6 +1,7 @@
 // The tally of an engine, the search or the slow walk: what it counts while it runs. It is lent to the engine by a thin function over a core that takes it by value,
-// and a function with plain parameters above that one makes it, lends it and hands it back. Neither is covered by the prover's own walk; both
-// are walked by hand once, for every engine (proofs/Lent.antt and proofs/Made.antt), and each engine's proof cites that.
+// and a function with plain parameters above that one makes it, lends it and hands it back.
+#![tactic(auto)]
+
 ghost use Rattle.std.specs.Prelude.{◌≡◌};
 ghost use Rattle.model.specs.Runs as model;
 

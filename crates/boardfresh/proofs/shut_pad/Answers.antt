@@ -11,11 +11,6 @@ returns-then-not-is_hole c = no_hole_here _ _ _ c.requires.2 (sym c.is_hole.ensu
 
 pub returns : goal.returns
 returns c =
-    let third = c in
-    let second = third in
-    let first = second in
-    let start = first in
-    let tested = start.before in
-    let entry = tested.before.before.requires in
-    four_done _ entry.1.least_width entry.1.largest_width _ entry.0 (sym tested.before.is-hole.ensures ∙ not-false _ tested.if1.false)
-    _ start.width.ensures _ _ _ _ _ first.shut_edge-left.ensures second.shut_edge-right.ensures third.shut_edge-up.ensures c.shut_edge.ensures
+    let entry = c.requires in
+    four_done _ entry.1.least_width entry.1.largest_width _ entry.0 (sym c.is_hole.ensures ∙ not-false _ (ap not c.if-not-is_hole.false))
+    _ c.width-width.ensures _ _ _ _ _ c.shut_edge-left.ensures c.shut_edge-right.ensures c.shut_edge-up.ensures c.shut_edge.ensures

@@ -9,6 +9,7 @@ use Rattle.judging.proofs.Stretches.{few_lines, a_line, no_line, no_place, place
 use mathlib.Core.Path.{ap}
 use mathlib.Core.Bool.{not}
 use Rattle.judging.proofs.follow_row.Goals as goal
+use Rattle.judging.proofs.follow_row.Goals.{then-held-eq-LINE, else-held-eq-LINE}
 
 pub overflow_mul-side : goal.overflow_mul-side
 overflow_mul-side c = omega arith
@@ -57,7 +58,7 @@ loop-column-preserved c =
     let inside = c.loop-column-test.true in (
       omega (arith, inside),
       place_right _ _ _ _ inside loop.invariant.1 c.follow_place.ensures (ap not c.if-not-follow_place.false) c.requires.3
-          (⊎_elim (λ w. a_line _ _ w.0.taken w.1) (λ w. no_line _ _ w.0.left w.1) c.if-held-eq-LINE.branch),
+          (elim c.if-held-eq-LINE.branch [ then-held-eq-LINE w ↦ a_line _ _ w.if-held-eq-LINE.true w.found-is | else-held-eq-LINE w ↦ no_line _ _ w.if-held-eq-LINE.false w.found-is ]),
     )
 
 pub returns : goal.returns

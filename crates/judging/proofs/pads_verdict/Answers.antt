@@ -4,6 +4,7 @@ use mathlib.Core.Path.{◌∙◌}
 use native.Mathlib.Omega.{arith}
 use Rattle.judging.proofs.Marks.{none_marked, row_not_finished, less, not_less, all_marked, mark_by_rows}
 use Rattle.judging.proofs.pads_verdict.Goals as goal
+use Rattle.judging.proofs.pads_verdict.Goals.{then-row-least, else-row-least}
 
 pub loop-y-init : goal.loop-y-init
 loop-y-init c = (omega arith, none_marked _ _)
@@ -26,8 +27,7 @@ pub loop-y-preserved : goal.loop-y-preserved
 loop-y-preserved c =
     let so = c.loop-y.invariant.1 in (
       omega arith,
-      ⊎_elim (λ w. less _ _ _ so c.row_verdict-row.ensures c.if-row-eq0.false w.0.taken w.1)
-          (λ w. not_less _ _ _ so c.row_verdict-row.ensures c.if-row-eq0.false w.0.left w.1) c.if-row-least.branch,
+      elim c.if-row-least.branch [ then-row-least w ↦ less _ _ _ so c.row_verdict-row.ensures c.if-row-eq0.false w.if-row-least.true w.least-is | else-row-least w ↦ not_less _ _ _ so c.row_verdict-row.ensures c.if-row-eq0.false w.if-row-least.false w.least-is ],
     )
 
 pub returns : goal.returns

@@ -7,6 +7,7 @@ use Rattle.judging.proofs.Ordinary.{few_cells, pad_in_cells}
 use mathlib.Core.Path.{ap}
 use mathlib.Core.Bool.{not}
 use Rattle.judging.proofs.row_verdict.Goals as goal
+use Rattle.judging.proofs.row_verdict.Goals.{then-not-pad_keeps, else-not-pad_keeps}
 
 pub loop-x-init : goal.loop-x-init
 loop-x-init c = (omega arith, none_marked _ _)
@@ -51,8 +52,7 @@ pub loop-x-preserved : goal.loop-x-preserved
 loop-x-preserved c =
     let so = c.loop-x.invariant.1 in (
       omega arith,
-      ⊎_elim (λ w. breaks _ _ _ so c.is_finished.ensures (ap not c.if-not-is_finished.false) c.pad_keeps.ensures w.0.taken w.1)
-          (λ w. keeps _ _ _ so c.is_finished.ensures (ap not c.if-not-is_finished.false) c.pad_keeps.ensures w.0.left w.1) c.if-not-pad_keeps.branch,
+      elim c.if-not-pad_keeps.branch [ then-not-pad_keeps w ↦ breaks _ _ _ so c.is_finished.ensures (ap not c.if-not-is_finished.false) c.pad_keeps.ensures (ap not w.if-not-pad_keeps.true) w.least-is | else-not-pad_keeps w ↦ keeps _ _ _ so c.is_finished.ensures (ap not c.if-not-is_finished.false) c.pad_keeps.ensures (ap not w.if-not-pad_keeps.false) w.least-is ],
     )
 
 pub returns : goal.returns
