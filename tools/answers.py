@@ -14,7 +14,7 @@ import sys
 
 IDENT = r"[^\s(){}\[\],;.`\"]+"
 HEAD = re.compile(r"((?:abbrev |unfoldable |pub )*)(" + IDENT + r") : (.*)$", re.S)
-MADE = re.compile(r"\.(Statement|Tie|Reads|Kinds)(\.|$| )|\.Lts(-|\.|$| )|^borrow\.Fn\.|\.\+[^.]*$|borrow\.Author\.Rules")
+MADE = re.compile(r"\.proofs\.\S*\.(Statement|Tie|Reads|Kinds)(\.|$| )|\.Lts(-|\.|$| )|^borrow\.Fn\.|\.\+[^.]*$|borrow\.Author\.Rules")
 
 
 def norm(s):

@@ -111,6 +111,7 @@ module _ (b : Board) (B : model.Board) (held : Held b B) where
         → (states ≡ []) × Ready (grid_in b.kind) fresh_arrays × (view fresh_arrays ≡ (model.fresh_board B.grid).state)
     unfolding model.fresh_board
     past_of_none [] (begun ready shows) = (refl, ready, shows)
+    past_of_none (_ ∷ _) x3 = elim x3 [ ]
 
     the_past : (B.standing ≡ []) × Ready (grid_in b.kind) fresh_arrays × (view fresh_arrays ≡ (model.fresh_board B.grid).state)
     unfolding standing_marks

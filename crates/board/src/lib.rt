@@ -1,6 +1,8 @@
 // The port of board.rs: the board by value, with a method for each call. Its fields are private, so that a board can only come from
 // these calls. What each call does is said in the crate `model`, specs/Calls.antt there; specs/Held.antt says what a board of this crate
 // holds of a board there.
+#![tactic(auto)]
+
 ghost use Rattle.std.specs.Prelude.{◌≡◌, true, false, ℕ, ◌+◌, ◌*◌, ◌-◌, ◌%◌, ◌≤◌, ◌<◌, length, get_or, take};
 ghost use Rattle.rules.specs.Grid.{OnBoard, Accepted, grid_of, places};
 ghost use Rattle.rules.specs.Drawing.{num};
@@ -22,7 +24,7 @@ const MOST_CHECKPOINTS: usize = 256;
 // A byte for each edge, an end number for each pad, the log of decided edges, what is told of the grid, the log's length with the flag;
 // the count of the fresh board, to which undo with no checkpoint standing goes back, flag and all; and the marks of the standing
 // checkpoints: the count that stood then.
-#[derive(Drop)]
+#[derive(Clone, Copy)]
 pub struct Board {
     edges: [u8; 1024],
     ends: [i64; 512],
@@ -35,7 +37,7 @@ pub struct Board {
 }
 
 // What a call hands back: document 01's number, 0 if accepted; its answer, 0 beside a number; the board.
-#[derive(Drop)]
+#[derive(Clone, Copy)]
 pub struct Answer {
     pub number: u8,
     pub answer: usize,

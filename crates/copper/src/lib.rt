@@ -2,6 +2,8 @@
 // buffer and every byte of the table equal `common` of the crate `model` (specs/Common.antt there), for every input. In a record a line is
 // 1 and none is 2; so the table is all records laid over each other, bit by bit: 1 where every one has a line, 2 where none has, 3 where some
 // have and others not, and 0 where no record has a bit.
+#![tactic(auto)]
+
 ghost use Rattle.std.specs.Prelude.{◌≡◌, ◌++◌, ◌≤◌, length, replicate, drop};
 ghost use Rattle.rules.specs.Grid.{places};
 ghost use Rattle.model.specs.Common.{common};

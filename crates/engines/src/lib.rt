@@ -2,6 +2,8 @@
 // `compare` says whether both ended complete with the same number, index, layouts, fewest lines and records, and hands on what they counted.
 // By `compared_equal` (specs/BothCalls.antt) it can say false only where an engine did not end complete. Also here: small grids one after the other,
 // each up to a renaming of its codes exactly once, as one kind for each pad (specs/Kinds.antt).
+#![tactic(auto)]
+
 ghost use Rattle.std.specs.Prelude.{◌≡◌, true, ◌↔◌, ◌+◌, ◌*◌, ◌-◌, ◌≤◌, ◌<◌, length};
 ghost use Rattle.rules.specs.Grid.{places};
 ghost use Rattle.engines.specs.Equal.{SameCounts, SameBytes, Equal, Compares};

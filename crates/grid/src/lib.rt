@@ -21,7 +21,7 @@ impl Edge {
 }
 
 // The two pads of an edge, the first and the second: beside each other, or one above the other. Where there is no edge there are none.
-#[derive(Drop)]
+#[derive(Clone, Copy)]
 pub enum Pads {
     Beside(usize, usize),
     Above(usize, usize),

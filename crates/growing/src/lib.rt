@@ -2,6 +2,8 @@
 // shows that it is alive: after each run `head` says on standard error how many boards it has visited and how many layouts it has found. Its
 // contract is that of `listing::head` with the last limit: the runs before that one cannot be seen (specs/Limits.antt; crate `listing`,
 // specs/HeadAgain.antt). And how the limit is read from an argument. specs/Whole.antt says what a program prints with these.
+#![tactic(auto)]
+
 ghost use Rattle.std.specs.Prelude.{◌≡◌};
 ghost use Rattle.model.specs.RoutesTo.{limit_of, limit_line};
 ghost use Rattle.listing.specs.Listing.{Headed};

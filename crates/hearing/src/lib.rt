@@ -1,6 +1,8 @@
 // What `judge` prints for a grid file and the codes of a drawing: the line of a refused file, or the verdict with the lines. The codes are
 // laid out as a record of edge bytes, which the crate `judging` judges. What the record is and what is printed stands in the crate `model`,
 // specs/JudgeText.antt there; specs/Whole.antt here says it of the bytes of standard input.
+#![tactic(auto)]
+
 ghost use Rattle.std.specs.Prelude.{◌≡◌, true, ◌||◌, not, ◌+◌, ◌*◌, ◌%◌, ◌≤◌, ◌<◌, ltb, length};
 ghost use Rattle.rules.specs.Grid.{right, down, field_side, places, place_at};
 ghost use Rattle.rules.specs.Record.{byte_of, byte_at_place, field};

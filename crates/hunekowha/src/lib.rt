@@ -2,6 +2,8 @@
 // layouts, a record's place, a drawing judged, and board calls replayed.
 // hunekowha.h beside this folder explains each function, argument and number. Each result, and every lent number and byte after the call, is
 // what specs/Lent.antt says. No function asks anything of its caller beyond what the types say.
+#![tactic(auto)]
+
 ghost use Rattle.std.specs.Prelude.{◌≡◌, ◌≤◌, length};
 ghost use Rattle.model.specs.Calls as model;
 ghost use Rattle.model.specs.GridFile.{read};

@@ -2,6 +2,8 @@
 // file or the summary line, and the line of each layout. specs/Listing.antt says each part, specs/Whole.antt that together they are the text of
 // the crate `model`, and specs/HeadAgain.antt what a search that is run again leaves. The answer buffer is lent: `head` leaves the records in
 // it, and `line` reads them there; `print_lines` writes the lines.
+#![tactic(auto)]
+
 ghost use Rattle.listing.specs.Listing.{Refused, Headed, Lined};
 
 use printed::LayoutLine;

@@ -1,6 +1,8 @@
 // The port of solver.rs: the search over the board's lent arrays, which calls itself at a later pad; the tally that is lent down it (crate
 // tally); and `solve`. The result and every byte of the lent buffer equal the model's run (crate model, specs/Search.antt), and demands 2
 // and 3 stand in the contract of `solve` (specs/Answers.antt, Solves; promises' Contract.antt).
+#![tactic(auto)]
+
 ghost use Rattle.std.specs.Prelude.{◌≡◌, List, ℕ, ◌-◌, ◌%◌, ◌≤◌, ◌<◌, ℤ};
 ghost use Rattle.rules.specs.Grid.{right, down, Accepted};
 ghost use Rattle.boardview.specs.View.{grid_in, Kinds, Ready, unwound};
@@ -120,7 +122,7 @@ fn backtrack(
 }
 
 // What `solve` answers: the grid's refusal with its index, and the counts.
-#[derive(Drop)]
+#[derive(Clone, Copy)]
 pub struct Solved {
     pub number: u8,
     pub index: usize,

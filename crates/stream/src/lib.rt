@@ -1,5 +1,7 @@
 // The streams of board calls and of grids that were written down once with the Rust's answers; oracle/README.md describes both and the
 // checksum. These functions read them. They are total: past the end of a stream every byte is 0.
+#![tactic(auto)]
+
 ghost use Rattle.std.specs.Prelude.{◌<◌, ◌≡◌, length};
 
 // Places further on than this are not told apart; no stream is that long.

@@ -3,4 +3,3 @@ pub mod Small
 pub mod Tested
 pub mod Steps
 pub mod Answered
-pub mod Counting

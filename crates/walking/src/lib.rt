@@ -2,6 +2,8 @@
 // written into a record as they are given, and judges the record when every pad has its code. Nothing is decided by propagation, and no board
 // is made. The tally of tried codes is lent down the walk (crate tally). The result and every byte of the lent buffer equal the model's
 // (crate model, specs/Walk.antt), and demands 2 and 3 stand in the contract of `walk` as in that of `solve` (specs/Answers.antt, Walks).
+#![tactic(auto)]
+
 ghost use Rattle.std.specs.Prelude.{◌≡◌, not, ◌||◌, List, [], ◌∷◌, ◌+◌, ◌*◌, ◌-◌, ◌≤◌, ◌<◌, length, ℤ};
 ghost use Rattle.rules.specs.Grid.{grid_of, places, Accepted};
 ghost use Rattle.rules.specs.Record.{byte_of, record_lines};
@@ -204,7 +206,7 @@ fn walk_on(
 }
 
 // What `walk` answers: the grid's refusal with its index, and the counts.
-#[derive(Drop)]
+#[derive(Clone, Copy)]
 pub struct Walked {
     pub number: u8,
     pub index: usize,

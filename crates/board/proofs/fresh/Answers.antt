@@ -1,0 +1,6 @@
+-- `board::fresh` meets its contract: the fresh arrays show the model's fresh board, and no checkpoint stands. Assumes nothing.
+use Rattle.board.specs.DecisionLaws.{fresh_held}
+use Rattle.board.proofs.fresh.Goals as goal
+
+pub returns : goal.returns
+returns c = fresh_held _ _ _ _ _ _ _ c.fresh_board-arrays.ensures c.no_entries.ensures c.no_marks.ensures
