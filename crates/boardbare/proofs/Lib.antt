@@ -1,3 +1,4 @@
--- Laws that the proofs of the functions cite.
+-- Laws that the proofs of the functions cite, and that the bare arrays show the model's bare board.
 mod Codes
 mod ActionCode
+pub mod BareView

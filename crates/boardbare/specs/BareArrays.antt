@@ -1,5 +1,5 @@
 -- What the arrays of a bare board hold at each index: a byte for each edge, an end number for each pad, and the kinds of the pads. The
--- contracts of the code cite these definitions; BareView.antt shows what they mean. It rests on boardview's View.antt.
+-- contracts of the code cite these definitions; proofs/BareView.antt shows what they mean. It rests on boardview's View.antt.
 use Rattle.std.specs.Prelude.{ℕ, suc, ◌+◌, ◌*◌, ◌-◌, ◌/◌, ◌%◌, ◌≤◌, ◌<◌, ◌≡◌, Bool, true, false, ◌&&◌, not, List, eqb, ltb, get_or, length, ℤ, pos, negsuc}
 use Rattle.rules.specs.Grid.{CellInRange, blank_cell, cell_of, Grid, grid_of}
 use Rattle.rules.specs.Drawing.{num, on_left, on_right}

@@ -1,4 +1,4 @@
--- The arrays of a bare board: what they hold, and that they show the model's bare board.
+-- The arrays of a bare board: what they hold, and what it is that they show the model's bare board.
 pub mod BareArrays
 pub mod Filling
 pub mod EdgeBytes

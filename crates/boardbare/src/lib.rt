@@ -1,5 +1,5 @@
 // The arrays of a bare board, from the sizes and a lent list of cells: a byte for each edge, an end number for each pad, and the kinds
-// of the pads. What they hold is said in specs/BareArrays.antt; that they show the model's bare board is proved in specs/BareView.antt.
+// of the pads. What they hold is said in specs/BareArrays.antt; that they show the model's bare board is proved in proofs/BareView.antt.
 #![tactic(auto)]
 
 ghost use Rattle.std.specs.Prelude.{◌≡◌, true, false, ◌+◌, ◌*◌, ◌≤◌, ◌<◌, length, set};

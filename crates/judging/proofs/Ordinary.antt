@@ -18,7 +18,7 @@ use Rattle.model.specs.Judge.{so_far, followed, is_ordinary_record, has_listed_s
 use Rattle.boardview.specs.View.{end_at}
 use Rattle.boardbare.specs.BareArrays.{EndsFrom}
 use Rattle.boardbare.specs.EdgeBytes.{few_pads}
-use Rattle.boardbare.specs.BareView.{bare_end_at}
+use Rattle.boardbare.proofs.BareView.{bare_end_at}
 use Rattle.judging.specs.declared.Followed.{Followed}
 use Rattle.judging.specs.declared.Followed.TheVariants.{Wrong, Lines}
 use Rattle.judging.specs.Judging.{mark}

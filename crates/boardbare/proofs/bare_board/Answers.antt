@@ -1,5 +1,6 @@
 -- `boardbare::bare_board` meets its contract: what the three arrays hold is what BareView.antt asks for.
-use Rattle.boardbare.specs.BareView.{accepted_cells, bare_board}
+use Rattle.boardbare.specs.BareView.{accepted_cells}
+use Rattle.boardbare.proofs.BareView.{bare_board}
 use Rattle.boardbare.proofs.bare_board.Goals as goal
 
 pub bare_ends-ends-requires : goal.bare_ends-ends-requires
