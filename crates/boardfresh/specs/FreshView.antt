@@ -1,7 +1,7 @@
 -- THE FRESH ARRAYS SHOW THE MODEL'S FRESH BOARD: once the holes are shut on the bare arrays, edges and ends stay, and the log begins anew with
 -- the flag as it is. So nothing that undoes the log goes behind the preparing. It rests on Shutting.antt and on the bare arrays.
-use Rattle.std.specs.Prelude.{ℕ, zero, suc, ◌+◌, ◌*◌, ◌%◌, ◌≤◌, ◌<◌, ◌≡◌, refl, Bool, true, false, List, ltb, length, ℤ}
-use Rattle.std.proofs.Common.{sym, ◌∙◌, arith, le-leb, ltb-true, ltb-false}
+use Rattle.std.specs.Prelude.{ℕ, ◌*◌, ◌%◌, ◌<◌, ◌≡◌, refl, Bool, true, false, List, ltb, length, ℤ}
+use Rattle.std.proofs.Common.{◌∙◌, arith, le-leb, ltb-true, ltb-false}
 use Rattle.std.proofs.Math.Path.{ap}
 use Rattle.std.proofs.lemmas.Bool.{lt-leb}
 use Rattle.rules.specs.Grid.{Grid, pads}

@@ -1,14 +1,14 @@
 -- Shutting holes on the lent arrays: the edge at a slot is put to a decision as none; the four edges at a pad are, if it is a hole. What
 -- the arrays then show is the model's `shut_at`. It rests on boardview's laws of slots and decisions.
-use Prim.Native.Nat.{ℕ, zero, suc, ◌+◌, ◌*◌, ◌-◌, ◌≤◌, ◌<◌}
-use Rattle.std.specs.Prelude.{◌≡◌, Bool, ◌&&◌, not, length, ltb}
+use Prim.Native.Nat.{ℕ, suc, ◌+◌, ◌*◌, ◌-◌, ◌≤◌, ◌<◌}
+use Rattle.std.specs.Prelude.{◌≡◌, Bool, ◌&&◌, not}
 use Rattle.std.proofs.Math.Path.{refl, sym, ap}
 use Rattle.std.proofs.Common.{◌∙◌, lt-ltb}
 use Rattle.std.proofs.Math.Bool.{true, false}
-use mathlib.Core.List.{List, [], ◌∷◌}
+use mathlib.Core.List.{List, []}
 use native.Mathlib.Omega.{arith}
 use Rattle.std.proofs.Math.ListN.{get_or}
-use Rattle.rules.specs.Grid.{Edge, right, down, hole, Grid, pads}
+use Rattle.rules.specs.Grid.{Edge, right, down, Grid, pads}
 use Rattle.rules.specs.Tests.{is_so}
 use Rattle.model.specs.PadTests.{is_hole, has_left, has_right, has_up, has_down}
 use Rattle.model.specs.Board.{State, none, with_edge, around, decide, enough, shut, shut_at, prepared}

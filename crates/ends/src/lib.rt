@@ -1,1 +1,3 @@
+#![tactic(auto)]
+
 // What the ends of pads say of the lines between them: theory only, in specs/.

@@ -1,1 +1,3 @@
+#![tactic(auto)]
+
 // The slow walk loses nothing and adds nothing. There is no code here: the statements and their proofs stand in specs/.

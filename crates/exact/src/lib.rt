@@ -1,1 +1,3 @@
+#![tactic(auto)]
+
 // The search lists exactly the listed layouts: theory only, in specs/.

@@ -1,6 +1,8 @@
 // The port of grid.rs: the edge type with its three named states, the two pads of an edge, and when a grid is declined. The grid itself
 // is a lent list of cells. Which pads a place joins is said in the crate `rules`, specs/Grid.antt there; what the calls answer in the
 // crate `model`, specs/Refusals.antt there.
+#![tactic(auto)]
+
 ghost use Rattle.std.specs.Prelude.{◌≡◌, ◌*◌, ◌≤◌, ◌<◌};
 ghost use Rattle.rules.specs.Grid.{pad_index, place_at};
 ghost use Rattle.model.specs.Bounds.{is_size};

@@ -1,1 +1,3 @@
+#![tactic(auto)]
+
 // What the board's calls keep and lose: theory only, in specs/.

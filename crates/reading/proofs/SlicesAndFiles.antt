@@ -3,7 +3,7 @@ use Rattle.std.specs.Prelude.{◌≡◌, List, ℕ, ◌*◌, ◌-◌, ◌≤◌,
 use Rattle.std.proofs.Common.{sym, ◌∙◌, le_trans, take_at}
 use Rattle.std.proofs.Math.Path.{ap}
 use Rattle.rules.specs.Grid.{Accepted}
-use Rattle.model.specs.GridFile.{Reading, blank, grid_reading, read}
+use Rattle.model.specs.GridFile.{blank, grid_reading, read}
 use Rattle.model.specs.Writing.{Writing, written}
 use Rattle.model.specs.Packed.{read_packed, grid_slice}
 use Rattle.reading.specs.ReadingLaws.{read_sound}

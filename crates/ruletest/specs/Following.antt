@@ -2,7 +2,7 @@
 -- wrong, the bytes so far are what a record may hold, and the ends say what they should of these lines. And a record of an ordinary drawing
 -- is never found wrong. It rests on the theory of ends (crate `ends`), which knows lines between pads and no board.
 use Prim.Native.Nat.{ℕ, zero, suc, ◌%◌, ◌/◌, ◌≤◌, ◌<◌}
-use Rattle.std.specs.Prelude.{◌≡◌, ◌≢◌, ◌⊎◌, Bool, ◌&&◌, List, ltb}
+use Rattle.std.specs.Prelude.{◌≡◌, ◌⊎◌, Bool, ◌&&◌, List, ltb}
 use Rattle.std.proofs.Math.Path.{refl, ap}
 use Rattle.std.proofs.Common.{sym, ◌∙◌, inl, inr, arith}
 use Rattle.std.proofs.Math.Bool.{true, false}
@@ -10,7 +10,7 @@ use Rattle.std.proofs.Math.Decide.{ℕ_discrete}
 use borrow.Author.Tests.{eq-eqb, eqb-true, lt-ltb, ltb-true}
 use Rattle.std.proofs.Math.Dec.{eqb}
 use Rattle.std.proofs.Math.ListN.{get_or}
-use Rattle.rules.specs.Grid.{Edge, right, down, first, second, Place, edge, no_edge, place_at, field_side, places, Cell, blank, clue, hole, Grid, pads, OnBoard}
+use Rattle.rules.specs.Grid.{Edge, right, down, first, second, Place, edge, no_edge, place_at, field_side, places, Cell, blank, clue, hole, Grid, OnBoard}
 use Rattle.rules.specs.Drawing.{Drawing, drawn, Line, Placed, Ordinary}
 use Rattle.rules.specs.Record.{undecided_byte, line_byte, none_byte, byte_of, byte_at_place, field, record_of, place_number}
 use Rattle.rules.specs.Places.{zero≢one}

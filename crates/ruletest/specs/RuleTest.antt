@@ -1,6 +1,6 @@
 -- THE TEST OF THE RULES IS THE RULES: a record passes exactly where it is that of an ordinary drawing, and with the listed shape exactly
 -- where it is that of a listed one. It rests on Following.antt, on what finished ends mean (crate `ends`), and on the rules' laws.
-use Rattle.std.specs.Prelude.{ℕ, ◌≤◌, ◌<◌, ◌≡◌, ◌≢◌, ◌⊎◌, ◌↔◌, false, ◌&&◌, List, eqb}
+use Rattle.std.specs.Prelude.{ℕ, ◌≤◌, ◌<◌, ◌≡◌, ◌⊎◌, ◌↔◌, false, ◌&&◌, List, eqb}
 use Rattle.std.proofs.Math.Path.{refl, sym}
 use Rattle.std.proofs.Common.{◌∙◌, ap, inl, inr, ⊎_elim, arith, eq-eqb, eqb-true}
 use Rattle.std.proofs.Math.Bool.{true}

@@ -1,1 +1,3 @@
+#![tactic(auto)]
+
 // The theory of the judge of a drawing. There is no code here: the statements and their proofs stand in specs/.

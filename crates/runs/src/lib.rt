@@ -1,1 +1,3 @@
+#![tactic(auto)]
+
 // A run with a limit and room, for every engine: theory only, in specs/.

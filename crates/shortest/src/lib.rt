@@ -1,1 +1,3 @@
+#![tactic(auto)]
+
 // Nobody draws better than the listed layouts: the theory of demand 3. There is no code here; everything stands in specs/.

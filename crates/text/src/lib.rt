@@ -1,5 +1,7 @@
 // Texts put into lent bytes: a byte, a word, a number in shortest digits, a number with the byte after it. Each is put from a place
 // on where there is room for it, gives back the place after it, and leaves every other byte as it was (specs/Put.antt).
+#![tactic(auto)]
+
 ghost use Rattle.std.specs.Prelude.{[], ◌∷◌, ◌++◌, ◌+◌, ◌≤◌, ◌<◌, length};
 ghost use Rattle.model.specs.Decimal.{decimal};
 ghost use Rattle.text.specs.Put.{Put};

@@ -1,6 +1,6 @@
 -- `gridfile::ended_field` meets its contract: each return is one line of the definition. Assumes nothing.
 use mathlib.Core.Path.{ap, ◌∙◌}
-use mathlib.Core.Logic.{⊎_elim, inl, inr}
+use mathlib.Core.Logic.{inl, inr}
 use Rattle.gridfile.specs.declared.Field.TheVariants.{Refused}
 use Rattle.gridfile.proofs.FieldLaws.{neither, too_large, sound_value}
 use Rattle.gridfile.proofs.ended_field.Goals as goal

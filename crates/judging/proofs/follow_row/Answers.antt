@@ -2,7 +2,6 @@
 -- falls. Assumes nothing.
 use Prim.Native.Nat.{◌+◌, ◌*◌}
 use mathlib.Core.Path.{◌≡◌}
-use mathlib.Core.Logic.{⊎_elim}
 use native.Mathlib.Omega.{arith}
 use Rattle.rules.specs.Grid.{field_side}
 use Rattle.judging.proofs.Stretches.{few_lines, a_line, no_line, no_place, place_wrong, place_right}

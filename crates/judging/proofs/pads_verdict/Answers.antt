@@ -1,5 +1,4 @@
 -- `judging::pads_verdict` meets its contract. The loop has marked the first rows; the rows that are left fall. Assumes nothing.
-use mathlib.Core.Logic.{⊎_elim}
 use mathlib.Core.Path.{◌∙◌}
 use native.Mathlib.Omega.{arith}
 use Rattle.judging.proofs.Marks.{none_marked, row_not_finished, less, not_less, all_marked, mark_by_rows}

@@ -1,7 +1,5 @@
 -- `judging::row_verdict` meets its contract. The loop has marked the first pads of the row; the pads that are left fall. Assumes nothing.
-use mathlib.Core.Logic.{⊎_elim}
 use native.Mathlib.Omega.{arith}
-use Rattle.judging.specs.Shape.{pad_keeps}
 use Rattle.judging.proofs.Marks.{none_marked, not_finished, breaks, keeps, all_marked}
 use Rattle.judging.proofs.Ordinary.{few_cells, pad_in_cells}
 use mathlib.Core.Path.{ap}
