@@ -1,1 +1,2 @@
 // The search in theory; no code.
+#![tactic(auto)]
