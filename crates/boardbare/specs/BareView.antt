@@ -1,6 +1,6 @@
 -- WHAT IT IS THAT THE BARE ARRAYS SHOW THE MODEL'S BARE BOARD, for an accepted grid: arrays that are ready, whose kinds tell of the grid's
 -- sizes and of its blank pads, clues and holes, and whose view is the model's bare board. What is proved of it stands in proofs/BareView.antt.
-use Rattle.std.specs.Prelude.{ℕ, ◌<◌, ◌≡◌, List, length, ℤ}
+use Rattle.std.specs.Prelude.{ℕ, ◌≡◌, List, length, ℤ}
 use Rattle.rules.specs.Grid.{Grid, Accepted}
 use Rattle.model.specs.Board.{bare}
 use Rattle.boardview.specs.View.{view, grid_in, Kinds, Ready}
