@@ -21,7 +21,8 @@ use Rattle.text.specs.PutLaws.{put_both, put_same, put_one, put_none}
 use Rattle.printed.specs.Written.{zeros, Written}
 use Rattle.printed.specs.Filled.{put_written}
 use Rattle.tabling.specs.Tabling.{has_row, table_digit, row_text}
-use Rattle.tabling.specs.TableRows.{HasRow, what_a_row_has, that_row, no_row}
+use Rattle.tabling.specs.TableRows.{HasRow, what_a_row_has, no_row}
+use Rattle.tabling.proofs.TableRows.{that_row}
 
 -- ## Whether there is a row k
 

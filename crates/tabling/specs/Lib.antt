@@ -1,4 +1,4 @@
--- What the contracts of the crate cite, and that the head and the rows together are what `common` prints.
+-- What the contracts of the crate cite, and what the head and the rows together are.
 pub mod Tabling
 pub mod HeadLaws
 pub mod TableRows

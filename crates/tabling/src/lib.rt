@@ -1,5 +1,5 @@
 // What `common` prints for a file, in parts that a program writes one after the other: the head, which is the line of a refused file or the
-// summary line, and the line of each row of the table. specs/Tabling.antt says each part, and specs/Whole.antt that together they are the text
+// summary line, and the line of each row of the table. specs/Tabling.antt says each part, and proofs/Whole.antt that together they are the text
 // of the crate `model`. The answer buffer and the table are lent: `head` leaves the table of a complete list in it, and `row` reads it there.
 #![tactic(auto)]
 
