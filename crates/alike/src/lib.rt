@@ -1,3 +1,2 @@
-#![tactic(auto)]
-
 // The router depends on the codes of a grid only by which pads carry equal codes: theory only, in specs/.
+#![tactic(auto)]

@@ -1,3 +1,2 @@
-#![tactic(auto)]
-
 // What the ends of pads say of the lines between them: theory only, in specs/.
+#![tactic(auto)]

@@ -1,3 +1,2 @@
-#![tactic(auto)]
-
 // The search lists exactly the listed layouts: theory only, in specs/.
+#![tactic(auto)]

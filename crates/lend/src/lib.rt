@@ -1,6 +1,7 @@
 // Copies into lent slices: numbers, with a sign or without, and bytes are put at a place of a slice that has room for them, and everything
 // else in it keeps its value. Each says so by `paste` of the kit's lib.Seq: the part before the place, what is put, the rest.
 #![tactic(auto)]
+
 ghost use Rattle.std.specs.Prelude.{◌≡◌, map, ◌+◌, ◌≤◌, length, pos};
 ghost use Rattle.std.proofs.Math.Seq.{paste};
 

@@ -1,3 +1,2 @@
-#![tactic(auto)]
-
 // What the board's calls keep and lose: theory only, in specs/.
+#![tactic(auto)]

@@ -1,3 +1,2 @@
-#![tactic(auto)]
-
 // Laws of reading and writing a grid file, about the model alone: everything stands in specs/.
+#![tactic(auto)]

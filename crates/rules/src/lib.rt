@@ -1,3 +1,2 @@
-#![tactic(auto)]
-
 // The rules of document 01 as definitions: grids, drawings, layouts, records. There is no code here; everything stands in specs/.
+#![tactic(auto)]

@@ -1,3 +1,2 @@
-#![tactic(auto)]
-
 // A run with a limit and room, for every engine: theory only, in specs/.
+#![tactic(auto)]

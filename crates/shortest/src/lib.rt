@@ -1,3 +1,2 @@
-#![tactic(auto)]
-
 // Nobody draws better than the listed layouts: the theory of demand 3. There is no code here; everything stands in specs/.
+#![tactic(auto)]
