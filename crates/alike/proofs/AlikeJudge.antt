@@ -12,7 +12,7 @@ use Rattle.rules.specs.Drawing.{Drawing, Side, on_left, on_right}
 use Rattle.rules.specs.Record.{undecided_byte, line_byte, none_byte, drawing_of}
 use Rattle.rules.specs.Tests.{all_below}
 use Rattle.rules.specs.CheckedListed.{has_corner, diagonal, not_blank, corners_checked, squares_checked}
-use Rattle.model.specs.Choice.{if◌then◌else◌}
+use Rattle.std.specs.Prelude.{if◌then◌else◌}
 use Rattle.model.specs.PadTests.{is_blank, is_hole}
 use Rattle.model.specs.JoinedEnds.{End, is_through, is_pad, unjoinable}
 use Rattle.model.specs.RefusalLaws.{accepted_is_not_refused}

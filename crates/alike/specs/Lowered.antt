@@ -3,7 +3,7 @@
 -- board calls and `judge` answer the same. It rests on AlikeSearch.antt, AlikeCalls.antt and AlikeJudge.antt.
 -- What is proved of them stands in proofs/Lowered.antt.
 use Rattle.std.specs.Prelude.{ℕ, suc, Bool, false, List, [], ◌∷◌, map, eqb, ℤ, pos, negsuc}
-use Rattle.model.specs.Choice.{if◌then◌else◌}
+use Rattle.std.specs.Prelude.{if◌then◌else◌}
 
 -- does the cell carry this code?
 abbrev pub carries : ℕ → ℤ → Bool

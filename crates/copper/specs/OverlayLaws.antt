@@ -1,7 +1,7 @@
 -- THE RECORDS LAID OVER EACH OTHER ARE THE TABLE: the records that a search of an accepted grid has left in its buffer, laid over a table of
 -- zeros, leave the model's table, and what lies past the places stays. It rests on the laws of records (rules), on what every record of a run
 -- is (crate exact) and on which records a search leaves (promises' HeldRecords.antt).
-use Rattle.model.specs.Choice.{if◌then◌else◌}
+use Rattle.std.specs.Prelude.{if◌then◌else◌}
 use Prim.Native.Nat.{ℕ, zero, suc, ◌+◌, ◌/◌, ◌%◌}
 use Rattle.std.specs.Prelude.{◌≡◌, Bool, length, ℤ}
 use Rattle.std.proofs.Math.Path.{refl, sym, ap}

@@ -1,7 +1,7 @@
 -- What one field of a grid file gives, from its first byte on: its value and the place of the byte that ends it, or the
 -- number of its refusal. These are the documents' refusals that a field can have by itself: 1, 13, 15, 2, 3, and 6 where the
 -- file ends in it. A field of the header has digits only, a field of a row may be a hole. Assumes nothing.
-use Rattle.model.specs.Choice.{if◌then◌else◌}
+use Rattle.std.specs.Prelude.{if◌then◌else◌}
 use Rattle.std.specs.Prelude.{ℕ, ◌+◌, ◌*◌, ◌-◌, Bool, true, false, not, ◌&&◌, List, [], ◌∷◌, get_or, drop, eqb, ltb}
 use Rattle.rules.specs.Grid.{largest_code}
 use Rattle.model.specs.Bounds.{most_digits}

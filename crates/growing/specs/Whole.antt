@@ -1,7 +1,7 @@
 -- WHAT `routes_to` PRINTS, for every argument and every standard input, over the contracts of `limit_of` and `head` here and of `listing::line`: the model's
 -- text (`limit_prints`, `no_limit_prints`). The program hands over the first 4,096 bytes of standard input, an argument that is longer than its
 -- buffer as none, and lends 3,936,256 bytes. It rests on listing's Whole.antt and on what is a limit (the model's LimitLaws.antt).
-use Rattle.model.specs.Choice.{if◌then◌else◌}
+use Rattle.std.specs.Prelude.{if◌then◌else◌}
 use Rattle.std.specs.Prelude.{ℕ, ◌≡◌, Bool, List, [], length, take}
 use Rattle.std.proofs.Math.Path.{refl, sym}
 use Rattle.std.proofs.Common.{◌∙◌, arith}

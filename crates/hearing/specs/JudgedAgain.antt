@@ -1,7 +1,7 @@
 -- What `routes` prints can be judged again: the codes that it prints for the record of a drawing are codes of the right length that fit, and
 -- their record is the same record; so each layout that it prints is judged 2, with its lines. It rests on the rules' RecordLaws.antt, on the
 -- definitions of what `routes` prints and of what the judge makes of codes, and on what the judge says (crate `promises`).
-use Rattle.model.specs.Choice.{if◌then◌else◌}
+use Rattle.std.specs.Prelude.{if◌then◌else◌}
 use Prim.Native.Nat.{ℕ, zero, suc, ◌+◌, ◌*◌, ◌%◌, ◌/◌, ◌≤◌, ◌<◌}
 use Rattle.std.specs.Prelude.{◌≡◌, Bool, ◌&&◌, ◌||◌, eqb, ltb, leb, take, ℤ}
 use Rattle.std.proofs.Math.Path.{refl, sym, ap}

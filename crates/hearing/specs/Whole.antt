@@ -1,7 +1,7 @@
 -- The answer of `judged` is the text that `judge` prints: for every file (`whole_file`), and for every argument and every standard input
 -- (`judge_prints`), of which the program hands over the first 4,096 bytes, and an argument that is longer than its buffer as none. It rests
 -- on the contract of `judged` and on the laws of the reader.
-use Rattle.model.specs.Choice.{if◌then◌else◌}
+use Rattle.std.specs.Prelude.{if◌then◌else◌}
 use Rattle.std.specs.Prelude.{ℕ, zero, suc, ◌*◌, ◌<◌, ◌≡◌, refl, Bool, true, false, List, [], leb, length, take}
 use Rattle.std.proofs.Common.{sym, ap, ◌∙◌, mul-pos, arith, leb-false, ne_eqb}
 use Rattle.rules.specs.Grid.{Accepted}

@@ -1,6 +1,6 @@
 -- What each function for other languages returns and leaves in the slices that were lent to it. It rests on the model's definitions of the
 -- same calls; the numbers stand in the order that hunekowha.h gives them. A slice that is too short is left as it was, and so is every other.
-use Rattle.model.specs.Choice.{if◌then◌else◌}
+use Rattle.std.specs.Prelude.{if◌then◌else◌}
 use Rattle.std.specs.Prelude.{ℕ, ◌*◌, ◌&&◌, List, [], ◌∷◌, ◌++◌, leb, length, drop, ℤ}
 use Rattle.model.specs.GridFile.{Reading}
 use Rattle.model.specs.Writing.{Writing, write}

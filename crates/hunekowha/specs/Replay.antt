@@ -1,6 +1,6 @@
 -- What hunekowha_replay writes: a block of numbers after each call of a list, by the model's board calls (Calls.antt there). A call is four
 -- numbers, kind, row, column and state; what is too short for a call at the end of the list is left aside. Assumes nothing.
-use Rattle.model.specs.Choice.{if◌then◌else◌}
+use Rattle.std.specs.Prelude.{if◌then◌else◌}
 use Rattle.std.specs.Prelude.{ℕ, ◌+◌, ◌*◌, ◌/◌, ◌≤◌, ◌≡◌, List, [], ◌∷◌, ◌++◌, map, eqb, ltb, leb, length, ℤ, pos}
 use Rattle.rules.specs.Grid.{places, pads}
 use Rattle.rules.specs.Drawing.{num}

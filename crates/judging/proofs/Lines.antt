@@ -12,7 +12,7 @@ use borrow.Author.Tests.{eq-eqb, ne_eqb}
 use Rattle.rules.specs.Grid.{Edge, right, down, first, Place, edge, no_edge}
 use Rattle.rules.specs.Record.{undecided_byte, line_byte, none_byte}
 use Rattle.rules.specs.Places.{zero≢one}
-use Rattle.model.specs.Choice.{if◌then◌else◌}
+use Rattle.std.specs.Prelude.{if◌then◌else◌}
 use Rattle.model.specs.JoinedEnds.{at_pad, unjoinable, joined_ends}
 use Rattle.model.specs.Judge.{wrong, so_far, after_line, after_edge, after_place}
 use Rattle.grid.specs.PadsAt.{pads_of}

@@ -1,6 +1,6 @@
 -- What the judge answers, as the model says it: by the pads, and for the record of an accepted grid. It rests on the model's Judge.antt.
 use Rattle.std.specs.Prelude.{ℕ, Bool, eqb}
-use Rattle.model.specs.Choice.{if◌then◌else◌}
+use Rattle.std.specs.Prelude.{if◌then◌else◌}
 use Rattle.model.specs.Judge as model
 use Rattle.judging.specs.declared.Judged.{Judged}
 

@@ -1,7 +1,7 @@
 -- The list of a file's wirings as it is printed, in the parts in which it is made: the head for a file, a limit and a buffer of any length, and the
 -- line of layout k of the buffer that the search left. It rests on the model's Printed.antt and Routes.antt; Whole.antt shows that the parts
 -- together are the model's text.
-use Rattle.model.specs.Choice.{if◌then◌else◌}
+use Rattle.std.specs.Prelude.{if◌then◌else◌}
 use Rattle.std.specs.Prelude.{ℕ, zero, suc, ◌+◌, ◌*◌, ◌≡◌, List, [], ◌++◌, length, take, drop}
 use Rattle.model.specs.Runs.{no_fewest, concat}
 use Rattle.model.specs.Records.{has_record, record_at}

@@ -1,6 +1,6 @@
 -- The copper common to all wirings: a table, laid out as a record, that says of each edge whether every layout of a complete list has a line
 -- there, none has, or some have and others not. It rests on Search.antt and on the rules' Record.antt.
-use Rattle.model.specs.Choice.{if◌then◌else◌}
+use Rattle.std.specs.Prelude.{if◌then◌else◌}
 use Rattle.std.specs.Prelude.{ℕ, Bool, true, not, ◌&&◌, List, [], ◌∷◌, ◌++◌, eqb, ltb, length, drop, ℤ}
 use Rattle.rules.specs.Grid.{Edge, grid_of, places}
 use Rattle.rules.specs.Drawing.{drawn}

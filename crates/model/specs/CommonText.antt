@@ -1,7 +1,7 @@
 -- What the program `common` prints for a grid file on its standard input: the summary line as `routes` prints it, with its limit and room,
 -- and for a complete list the table of the copper common to all layouts, one line for each row of the field. It puts Common.antt into
 -- Printed.antt.
-use Rattle.model.specs.Choice.{if◌then◌else◌}
+use Rattle.std.specs.Prelude.{if◌then◌else◌}
 use Rattle.std.specs.Prelude.{ℕ, zero, suc, List, [], ◌++◌, map, eqb, take, drop}
 use Rattle.rules.specs.Grid.{field_side}
 use Rattle.model.specs.Text.{line_end}

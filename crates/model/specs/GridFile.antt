@@ -1,7 +1,7 @@
 -- Reading a grid file: from its bytes to a refusal with its line and field, or to H, W and 256 cells.
 -- The file is read byte by byte. `refusal` has the documents' numbers in the order in which they are tested at one byte,
 -- `after` says what an accepted byte does, and `read` stops at the first byte where a number applies. Assumes nothing.
-use Rattle.model.specs.Choice.{if◌then◌else◌}
+use Rattle.std.specs.Prelude.{if◌then◌else◌}
 use Rattle.std.specs.Prelude.{ℕ, zero, suc, ◌+◌, ◌*◌, ◌-◌, Bool, true, false, not, ◌&&◌, ◌||◌, List, [], ◌∷◌, ◌++◌, length, set, replicate, ℤ, pos, negsuc, eqb, ltb, leb}
 use Rattle.rules.specs.Grid.{largest_code}
 use Rattle.model.specs.Bounds.{is_size, most_digits}

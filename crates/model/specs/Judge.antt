@@ -2,7 +2,7 @@
 -- one, with its lines. The test of the rules computes on the record: it follows the field place by place and joins the ends of the pads line
 -- by line, so that unequal codes and closed loops show; then it looks at every pad. That it says what the rules say is proved in the crate
 -- `ruletest`. It rests on JoinedEnds.antt and knows nothing of boards and searches.
-use Rattle.model.specs.Choice.{if◌then◌else◌}
+use Rattle.std.specs.Prelude.{if◌then◌else◌}
 use Rattle.std.specs.Prelude.{ℕ, zero, suc, ◌%◌, ◌/◌, Bool, false, ◌&&◌, ◌||◌, List, eqb, get_or, length, ℤ}
 use Rattle.rules.specs.Grid.{first, second, Place, edge, no_edge, place_at, field_side, places, Cell, blank, clue, hole, Grid, grid_of, pads}
 use Rattle.rules.specs.Drawing.{on_left, on_right}

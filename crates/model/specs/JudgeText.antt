@@ -1,7 +1,7 @@
 -- What the program `judge` prints for a grid file on its standard input and the codes of a drawing as its argument, written as `routes` prints
 -- them: one digit from 0 to 3 for each pad in index order. It puts Judge.antt between reading and printing; it rests on GridFile.antt and
 -- Printed.antt.
-use Rattle.model.specs.Choice.{if◌then◌else◌}
+use Rattle.std.specs.Prelude.{if◌then◌else◌}
 use Rattle.std.specs.Prelude.{ℕ, ◌+◌, ◌*◌, ◌-◌, ◌%◌, Bool, ◌&&◌, ◌||◌, not, List, [], ◌++◌, eqb, ltb, leb, get_or, length, take}
 use Rattle.rules.specs.Grid.{Edge, right, down}
 use Rattle.rules.specs.Record.{byte_of, field}

@@ -6,7 +6,7 @@ use Rattle.rules.specs.Drawing.{Drawing}
 use Rattle.rules.specs.Record.{drawing_of, field, record_of, tabulate}
 use Rattle.rules.specs.Tests.{all_below}
 use Rattle.rules.specs.CheckedListed.{has_corner, diagonal, not_blank, squares_checked, corners_checked}
-use Rattle.model.specs.Choice.{if◌then◌else◌}
+use Rattle.std.specs.Prelude.{if◌then◌else◌}
 use Rattle.model.specs.JoinedEnds.{unjoinable, joined_ends, put_end, put_end_at}
 use Rattle.model.specs.Judge.{after_line, after_edge, after_place, followed, is_ordinary_record, has_listed_shape, verdict}
 use Rattle.model.specs.SmallGrids.{drawing_of_codes, codes_at, before_each, all_drawings, relabel, labels, codes_agree, none_closed, is_ordinary, is_listed, o, h}

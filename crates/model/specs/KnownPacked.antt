@@ -1,7 +1,7 @@
 -- Known slices of packed decimal and how they are read, by computation: grids with blank pads, floor 0, leading zeros and the largest
 -- code, and each refusal at its boundaries. Slices are written as hexadecimal texts, the pads parted by spaces. The statements come first;
 -- `known_packed` proves them all, each by `refl`.
-use Rattle.model.specs.Choice.{if◌then◌else◌}
+use Rattle.std.specs.Prelude.{if◌then◌else◌}
 use Rattle.std.specs.Prelude.{ℕ, ◌+◌, ◌-◌, ◌*◌, ◌≡◌, refl, true, false, List, [], ◌∷◌, ◌++◌, replicate, pos, eqb, ltb}
 use Prim.Native.String.{String}
 use Rattle.model.specs.Bounds.{is_size, most_digits}

@@ -1,5 +1,4 @@
 -- The model: what the calls do, as definitions that compute, and the known answers.
-pub mod Choice
 pub mod Lists
 pub mod PutBytes
 pub mod Text

@@ -2,7 +2,7 @@
 -- 256 cells. A slice is one byte H and one byte W, both plain numbers, then five bytes for each pad in index order: ten digits, two to a
 -- byte, or five bytes FF hexadecimal for a blank pad. `read_packed` has the order's tests in their order. At the end stands the slice of
 -- a grid. Assumes nothing.
-use Rattle.model.specs.Choice.{if◌then◌else◌}
+use Rattle.std.specs.Prelude.{if◌then◌else◌}
 use Rattle.std.specs.Prelude.{ℕ, zero, suc, ◌+◌, ◌*◌, ◌/◌, ◌%◌, Bool, true, false, not, ◌&&◌, ◌||◌, List, [], ◌∷◌, ◌++◌, length, take, drop, replicate, ℤ, pos, negsuc, eqb, ltb}
 use Rattle.rules.specs.Grid.{largest_code}
 use Rattle.model.specs.Bounds.{is_size}

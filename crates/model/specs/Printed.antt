@@ -1,6 +1,6 @@
 -- What the program `routes` prints, as bytes: the summary line, a layout's line, the line of a refused file, and the whole of it
 -- for what a search found; and what any program prints for a file that is refused or not. Assumes nothing.
-use Rattle.model.specs.Choice.{if◌then◌else◌}
+use Rattle.std.specs.Prelude.{if◌then◌else◌}
 use Rattle.std.specs.Prelude.{ℕ, zero, suc, ◌+◌, ◌*◌, ◌/◌, ◌%◌, List, [], ◌∷◌, ◌++◌, length, take, get_or, ℤ, eqb, ltb, leb}
 use Rattle.model.specs.Text.{bytes, comma, line_end}
 use Rattle.model.specs.Decimal.{digit_byte, decimal}

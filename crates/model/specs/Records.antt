@@ -1,5 +1,5 @@
 -- The records of an answer buffer: how long one is, record k, and the shorter of two. It rests on the rules' Record.antt.
-use Rattle.model.specs.Choice.{if◌then◌else◌}
+use Rattle.std.specs.Prelude.{if◌then◌else◌}
 use Rattle.std.specs.Prelude.{ℕ, ◌+◌, ◌*◌, Bool, not, ◌&&◌, List, [], length, take, drop, eqb, ltb, leb}
 use Rattle.rules.specs.Grid.{places}
 use Rattle.rules.specs.Record.{record_lines}

@@ -1,5 +1,5 @@
 -- When a grid is declined, for a board or a search: the numbers 7, 8 and 9, in document 01's order. Assumes nothing.
-use Rattle.model.specs.Choice.{if◌then◌else◌}
+use Rattle.std.specs.Prelude.{if◌then◌else◌}
 use Rattle.std.specs.Prelude.{ℕ, suc, ◌*◌, Bool, not, ◌&&◌, List, [], ◌∷◌, length, ℤ, pos, negsuc, eqb, ltb, leb}
 use Rattle.rules.specs.Grid.{largest_code}
 use Rattle.model.specs.Bounds.{is_size}

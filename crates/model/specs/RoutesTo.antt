@@ -2,7 +2,7 @@
 -- with that limit and a larger answer buffer. An argument that is no limit is refused with a line that says so. And what it says on standard
 -- error after each of its runs. It rests on Routes.antt.
 use Rattle.std.specs.Prelude.{ℕ, ◌+◌, ◌*◌, ◌-◌, Bool, true, ◌&&◌, List, [], ◌∷◌, ◌++◌, leb, length}
-use Rattle.model.specs.Choice.{if◌then◌else◌}
+use Rattle.std.specs.Prelude.{if◌then◌else◌}
 use Rattle.model.specs.Text.{bytes, line_end}
 use Rattle.model.specs.Decimal.{decimal}
 use Rattle.model.specs.GridFile.{is_digit}

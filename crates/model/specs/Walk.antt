@@ -5,7 +5,7 @@ use Rattle.std.specs.Prelude.{ℕ, zero, suc, ◌+◌, Bool, true, false, ◌&&�
 use Rattle.rules.specs.Grid.{Grid, pads}
 use Rattle.rules.specs.Drawing.{Drawing}
 use Rattle.rules.specs.Record.{record_of}
-use Rattle.model.specs.Choice.{if◌then◌else◌}
+use Rattle.std.specs.Prelude.{if◌then◌else◌}
 use Rattle.model.specs.PadTests.{has_right, has_down}
 use Rattle.model.specs.Runs.{Event, visit, layout, Solved, listed_by}
 use Rattle.model.specs.Judge.{verdict}

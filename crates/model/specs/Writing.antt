@@ -1,6 +1,6 @@
 -- Writing a grid file: the text of a grid, and what the writer answers and leaves in the buffer that is lent to it. A text is the header
 -- and the rows, each field in its shortest digits. Assumes nothing.
-use Rattle.model.specs.Choice.{if◌then◌else◌}
+use Rattle.std.specs.Prelude.{if◌then◌else◌}
 use Rattle.std.specs.Prelude.{ℕ, zero, suc, ◌+◌, true, false, not, List, [], ◌∷◌, ◌++◌, length, drop, ℤ, pos, negsuc, eqb, ltb}
 use Rattle.model.specs.Text.{comma, line_end, hole_sign}
 use Rattle.model.specs.Decimal.{decimal}

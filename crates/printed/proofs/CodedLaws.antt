@@ -1,6 +1,6 @@
 -- Laws of the codes as the code adds them up, place by place: with one byte more of the layout the code of a pad grows by what the line there
 -- adds, if the pad is the line's first. They rest on the rules' RecordLaws.antt: a place number tells its edge, and an edge its number.
-use Rattle.model.specs.Choice.{if◌then◌else◌}
+use Rattle.std.specs.Prelude.{if◌then◌else◌}
 use Prim.Native.Nat.{ℕ, zero, suc, ◌+◌, ◌*◌, ◌/◌, ◌%◌, ◌≤◌, ◌<◌}
 use mathlib.Core.Path.{◌≡◌, refl, sym, ap, ◌∙◌}
 use mathlib.Core.Bool.{Bool, true, false}

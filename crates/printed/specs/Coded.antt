@@ -1,6 +1,6 @@
 -- The codes of a layout's pads as the code adds them up, line by line: the line at a place, what it adds to the code of its first pad, and an
 -- array that holds the codes. Assumes nothing.
-use Rattle.model.specs.Choice.{if◌then◌else◌}
+use Rattle.std.specs.Prelude.{if◌then◌else◌}
 use Rattle.std.specs.Prelude.{ℕ, ◌+◌, ◌*◌, ◌/◌, ◌%◌, ◌≤◌, ◌<◌, ◌≡◌, List, eqb, get_or, set, length}
 use Rattle.rules.specs.Grid.{right, down, Place, edge, no_edge, place_at, field_side}
 use Rattle.rules.specs.Record.{undecided_byte, line_byte}

@@ -1,5 +1,5 @@
 -- What it means that an array holds a text and nothing else, or nothing at all. Assumes nothing.
-use Rattle.model.specs.Choice.{if◌then◌else◌}
+use Rattle.std.specs.Prelude.{if◌then◌else◌}
 use Rattle.std.specs.Prelude.{ℕ, ◌-◌, ◌≤◌, ◌≡◌, refl, ◌&&◌, List, [], ◌++◌, length, replicate, take}
 use Rattle.std.proofs.Common.{sym, ap, ◌∙◌, arith, take_at}
 use Rattle.model.specs.Bounds.{is_size}

@@ -15,7 +15,7 @@ use Rattle.rules.specs.Grid.{Edge, Place, edge, no_edge, place_at, places, field
 use Rattle.rules.specs.Record.{byte_at_place, field}
 use Rattle.rules.specs.RecordLaws.{get_or_from_zero, length_field}
 use Rattle.rules.specs.Tests.{both, conflict, second_off}
-use Rattle.model.specs.Choice.{if◌then◌else◌}
+use Rattle.std.specs.Prelude.{if◌then◌else◌}
 use Rattle.model.specs.Common.{in_every_layout, in_no_layout, in_some_layouts, of_no_layout, has_line, all_have, none_has, common_byte, common_table}
 
 -- a test of every layout of a list, made of a test of each: where it holds each passes, and where it fails one does not

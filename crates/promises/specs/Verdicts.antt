@@ -12,7 +12,7 @@ use Rattle.rules.specs.Grid.{Grid, grid_of, places, Accepted}
 use Rattle.rules.specs.Drawing.{Drawing, Ordinary, number_of_lines}
 use Rattle.rules.specs.Record.{record_of, record_lines, OrdinaryRecord, ListedRecord}
 use Rattle.rules.proofs.LineCount.{record_lines_of}
-use Rattle.model.specs.Choice.{if◌then◌else◌}
+use Rattle.std.specs.Prelude.{if◌then◌else◌}
 use Rattle.model.specs.Refusals.{grid_refusal}
 use Rattle.model.specs.RefusalLaws.{accepted_is_not_refused}
 use Rattle.model.specs.Runs.{scan}

@@ -1,6 +1,6 @@
 -- The byte by byte reading, taken field by field: where it stands at the first byte of a field and inside it, what a digit and the sign of
 -- a hole do, and what the byte does that ends the field, in a row and in the header. Reader and writer both stand on it.
-use Rattle.model.specs.Choice.{if◌then◌else◌}
+use Rattle.std.specs.Prelude.{if◌then◌else◌}
 use Rattle.std.specs.Prelude.{◌≡◌, refl, Bool, true, false, ◌||◌, List, [], ◌∷◌, ℕ, suc, ◌+◌, ◌-◌, ◌*◌, ◌≤◌, ◌<◌, length, get_or, drop, set, ℤ, pos, eqb, ltb, leb}
 use Rattle.std.proofs.Common.{sym, ap, ◌∙◌, ⊎_elim, add-zero, arith, length-drop, drop-drop, get_or-drop}
 use borrow.Author.Tests.{leb-true, lt-ltb, le-ltb, ne_eqb, eq-eqb, eqb-true}

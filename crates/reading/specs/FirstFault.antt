@@ -4,7 +4,7 @@
 -- the line and the field of the byte where it stops. So an accepted file has no byte with a fault. The proof says of what the reading
 -- keeps (line, field, digits, value, whether a `#` was read) what it means for the bytes read so far.
 -- What is proved of them stands in proofs/FirstFault.antt.
-use Rattle.model.specs.Choice.{if◌then◌else◌}
+use Rattle.std.specs.Prelude.{if◌then◌else◌}
 use Rattle.std.specs.Prelude.{◌≡◌, Bool, false, not, ◌&&◌, ◌||◌, List, ℕ, zero, suc, ◌+◌, ◌≤◌, ◌<◌, length, get_or, take, eqb}
 use Rattle.model.specs.GridFile.{Reading, is_digit, is_comma, is_line_end, is_hole_sign, read}
 

@@ -1,7 +1,7 @@
 -- The first 4,096 bytes of any input decide what is read: a number of bytes that can still be accepted falls with every accepted byte.
 -- It is 2,838 at the start, which is a rough count: it leaves room for ten digits in both fields of the header. That no accepted file is
 -- longer than 2,822 bytes is said in WriteRead.antt.
-use Rattle.model.specs.Choice.{if◌then◌else◌}
+use Rattle.std.specs.Prelude.{if◌then◌else◌}
 use Rattle.std.specs.Prelude.{◌≡◌, Bool, ◌&&◌, List, [], ◌∷◌, ℕ, zero, suc, ◌+◌, ◌*◌, ◌-◌, ◌≤◌, ◌<◌, take, ltb}
 use Rattle.std.proofs.Math.Path.{refl}
 use Rattle.std.proofs.Common.{ap, mul-le-mul, not-suc-le-zero}

@@ -1,6 +1,6 @@
 -- One pad of packed decimal: which test gave its answer, and that reading its five bytes and packing its cell undo each other.
 -- Assumes nothing.
-use Rattle.model.specs.Choice.{if◌then◌else◌}
+use Rattle.std.specs.Prelude.{if◌then◌else◌}
 use Rattle.std.specs.Prelude.{◌≡◌, Bool, ◌||◌, ◌⊎◌, ℕ, zero, suc, ◌+◌, ◌*◌, ◌/◌, ◌%◌, ◌^◌, ◌≤◌, ◌<◌, length, replicate, ℤ, pos, negsuc, eqb, ltb}
 use Rattle.std.proofs.Math.Path.{refl, ap}
 use Rattle.std.proofs.Common.{sym, ◌∙◌, inl, inr, add-zero, arith, length-append, ltb-true, ltb-false, le-ltb, eqb-true, ne_eqb}

@@ -1,6 +1,6 @@
 -- What is known of every reading of a grid file: 256 cells; sizes and cells in range where it is accepted. These are the laws by
 -- which a program hands what it read to a search. They follow a standing that is sound from byte to byte.
-use Rattle.model.specs.Choice.{if◌then◌else◌}
+use Rattle.std.specs.Prelude.{if◌then◌else◌}
 use Rattle.std.specs.Prelude.{◌≡◌, Bool, not, ◌&&◌, List, [], ◌∷◌, ℕ, zero, suc, ◌+◌, ◌*◌, ◌-◌, ◌≤◌, length, get_or, set, take, replicate, ℤ, pos}
 use Rattle.std.proofs.Math.Path.{refl}
 use Rattle.std.proofs.Common.{sym, ◌∙◌, true≢false, inl, inr, mul-le-mul, arith, get_or-take, length-take-le}

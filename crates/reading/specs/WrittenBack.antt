@@ -1,6 +1,6 @@
 -- Writing what was read gives the file: for every accepted file the text of its grid is the file, byte for byte. What is left of the
 -- file is followed byte by byte, behind what the field being read comes to so far.
-use Rattle.model.specs.Choice.{if◌then◌else◌}
+use Rattle.std.specs.Prelude.{if◌then◌else◌}
 use Rattle.std.specs.Prelude.{◌≡◌, Bool, not, ◌&&◌, ℕ, zero, suc, ◌+◌, ◌*◌, ◌-◌, ◌/◌, ◌%◌, ◌≤◌, length, take, ℤ}
 use Rattle.std.proofs.Math.Path.{refl, sym, ap}
 use Rattle.std.proofs.Common.{◌∙◌, true≢false, zero-add, arith, take_at}

@@ -20,7 +20,7 @@ use Rattle.rules.specs.Chains.{Along, line_back}
 use Rattle.rules.proofs.Chains.{edge_of_line, line_forward, line_of_edge}
 use Rattle.rules.specs.RecordLaws.{get_or_from_zero}
 use Rattle.rules.proofs.RecordLaws.{edge_number_in_field, edge_at_number, number_of_edge}
-use Rattle.model.specs.Choice.{if◌then◌else◌}
+use Rattle.std.specs.Prelude.{if◌then◌else◌}
 use Rattle.model.specs.JoinedEnds.{End, at_pad, bare_end, unjoinable, joined_ends}
 use Rattle.model.specs.PadTests.{is_clue, on_board}
 use Rattle.model.specs.BoardLaws.{on_board_test, on_board_of_test, clue_is_clue}

@@ -7,7 +7,7 @@ use Rattle.rules.specs.Grid.{Grid}
 use Rattle.rules.specs.ProperGrid.{Proper}
 use Rattle.rules.specs.Record.{OrdinaryRecord, ListedRecord}
 use Rattle.rules.specs.Tests.{conflict}
-use Rattle.model.specs.Choice.{if◌then◌else◌}
+use Rattle.std.specs.Prelude.{if◌then◌else◌}
 use Rattle.model.specs.Judge.{is_ordinary_record, has_listed_shape, verdict}
 use Rattle.ruletest.specs.RuleTest.{ordinary_exactly, listed_exactly}
 

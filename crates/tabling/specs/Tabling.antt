@@ -1,7 +1,7 @@
 -- What `common` prints, in the parts in which it is made: the head, for a file, an answer buffer and a table of any lengths, and the line of
 -- row k of a table. It rests on the model's Common.antt, Printed.antt and Routes.antt; Whole.antt shows that the parts together are the
 -- model's text.
-use Rattle.model.specs.Choice.{if◌then◌else◌}
+use Rattle.std.specs.Prelude.{if◌then◌else◌}
 use Rattle.std.specs.Prelude.{ℕ, zero, suc, ◌*◌, ◌/◌, ◌%◌, ◌≡◌, Bool, ◌&&◌, List, [], ◌++◌, map, eqb, ltb, length, take, drop}
 use Rattle.rules.specs.Grid.{field_side}
 use Rattle.model.specs.Bounds.{is_size}

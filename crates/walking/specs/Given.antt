@@ -5,7 +5,7 @@ use Rattle.std.specs.Prelude.{ℕ, ◌*◌, ◌%◌, ◌/◌, ◌≤◌, ◌<◌
 use Rattle.rules.specs.Grid.{Edge, right, down, first, no_edge, place_at, field_side, places, Grid, OnBoard}
 use Rattle.rules.specs.Drawing.{Drawing, drawn}
 use Rattle.rules.specs.Record.{undecided_byte, byte_of, place_number}
-use Rattle.model.specs.Choice.{if◌then◌else◌}
+use Rattle.std.specs.Prelude.{if◌then◌else◌}
 use Rattle.model.specs.PadTests.{has_right, has_down}
 use Rattle.model.specs.Runs.{Event, layout}
 use Rattle.model.specs.Judge.{verdict}
