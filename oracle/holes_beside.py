@@ -11,7 +11,7 @@ its buffer. The first difference ends it, made smaller and printed; the exit sta
 wrong version takes the place of this program, to see that it is found. The library is made by
 
     rt staticlib hunekowha
-    gcc -shared -o LIBRARY -Wl,--whole-archive target/staticlib/libhunekowha.a -Wl,--no-whole-archive
+    gcc -shared -o LIBRARY -Wl,--whole-archive crates/hunekowha/out/libhunekowha.a -Wl,--no-whole-archive
 """
 import ctypes
 import itertools

@@ -2,8 +2,8 @@
  * hunekowha: the board router for other languages.
  *
  * The functions here are written in Rattle and proved: every call ends, is safe for all arguments that keep the rules
- * below, and gives what is said here. Build the library with `rt staticlib hunekowha`; it is then
- * target/staticlib/libhunekowha.a, for x86-64 Linux.
+ * below, and gives what is said here. Build the library with `rt lib` in crates/hunekowha; it is then
+ * crates/hunekowha/out/libhunekowha.a, for x86-64 Linux.
  *
  * Lent slices. A slice is lent as a pointer and a length in elements. The pointer must point to that many elements and be
  * aligned as its type asks; where the length is 0, any pointer that is not null will do. A slice that a function writes
