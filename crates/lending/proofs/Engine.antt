@@ -19,7 +19,7 @@ use denote.Plain.{uint_Makes}
 use denote.Builtin.{u8, u64, usize, i64, unit, RefMut, SliceRef, SliceRefMut}
 use denote.Exit.{yes}
 use denote.RattleType.{RattleType}
-use denote.Signature.{Slot, plain}
+use denote.Signature.{Slot, plain, Matches}
 use denote.Steps.{owned, nothing}
 use denote.Triple.Clauses.{Ended, Clauses}
 use Rattle.tally.specs.declared.Tally.{Tally}
@@ -156,6 +156,13 @@ made_code callee = record {
       (seq (call callee (whole 9 ∷ whole 1 ∷ whole 11 ∷ whole 3 ∷ whole 4 ∷ whole 5 ∷ []) (place 8 []))
       (seq (assign (place 0 []) (rv_opd (whole 6))) return))))));
 }
+
+-- each code has the signature that its contract is stated at
+pub lent_matches : (callee : Callee) → Matches lent.signature (lent_code callee)
+lent_matches callee κs = refl
+
+pub made_matches : (callee : Callee) → Matches made.signature (made_code callee)
+made_matches callee κs = refl
 
 -- WHAT BOTH WALKS USE: a tally's machine value, and what the three numbers own
 abbrev pub machine : Tally → Val
