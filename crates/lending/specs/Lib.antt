@@ -1,0 +1,1 @@
+-- Definitions stand beside the walks that need them, in proofs/.
