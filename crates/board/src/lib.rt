@@ -45,7 +45,7 @@ pub struct Answer {
 }
 
 // What a board shows: its sizes, the record of its edges, its end numbers, its flag.
-#[derive(Drop)]
+#[derive(Clone, Copy)]
 pub struct Shown {
     pub height: usize,
     pub width: usize,

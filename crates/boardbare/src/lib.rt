@@ -311,7 +311,7 @@ fn all_kinds(height: usize, width: usize, cells: &[i64]) -> [u8; 1024]
 }
 
 // The arrays of a bare board.
-#[derive(Drop)]
+#[derive(Clone, Copy)]
 pub struct Bare {
     pub edges: [u8; 1024],
     pub ends: [i64; 512],

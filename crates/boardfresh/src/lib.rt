@@ -102,7 +102,7 @@ fn restart(count: usize) -> usize
 }
 
 // The arrays of a fresh board, and its count: the log is empty, and the flag may be set.
-#[derive(Drop)]
+#[derive(Clone, Copy)]
 pub struct Fresh {
     pub edges: [u8; 1024],
     pub ends: [i64; 512],

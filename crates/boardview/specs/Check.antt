@@ -134,7 +134,7 @@ module _ (g : Grid) (dec : Decide) (chk : Check) (S : State) (code : ℕ) (e : E
   unfolding do_item
   keep_acts h = elim_true (is_undecided (S.edge e) && other_clue code (S.end u)) (dec e none S, (dec e none S).flag) (S, false) h
 
-module _ (g : Grid) (s : Arrays) (y : Ready g s) (code n u : ℕ) (h : n < 1024) (Going-on : s.count < 2048) where
+module _ (g : Grid) (s : Arrays) (y : Ready g s) (code n u : ℕ) (h : n < 1024) (goes_on_yet : s.count < 2048) where
   abbrev acts_here : Bool
   acts_here = keeps_apart s.edges s.ends (suc code) n u
 
@@ -152,7 +152,7 @@ module _ (g : Grid) (s : Arrays) (y : Ready g s) (code n u : ℕ) (h : n < 1024)
     where
       go : (t : Bool) → slot_on g n ≡ t → Done g 0 s (when t (keep_apart code (edge_of n) u ∷ [])) s
       go false e = done_nothing g 0 s y
-      go true e = done_still g 0 s _ y Going-on (λ f. keep_no g (decide g f) (check g f) (view s) code (edge_of n) u (test_is e ∙ b))
+      go true e = done_still g 0 s _ y goes_on_yet (λ f. keep_no g (decide g f) (check g f) (view s) code (edge_of n) u (test_is e ∙ b))
 
   -- where the test holds, the slot is on the board
   pub keeps_on : acts_here ≡ true → slot_on g n ≡ true
@@ -165,7 +165,7 @@ module _ (g : Grid) (s : Arrays) (y : Ready g s) (code n u : ℕ) (h : n < 1024)
 
   pub keep_decides : acts_here ≡ true → (s' : Arrays) → Decided g s (edge_of n) none s' → Done g 0 s (keep_at g code n u) s'
   unfolding keep_at
-  keep_decides b s' d = rw (keeps_on b) (done_decided g 0 (keep_apart code (edge_of n) u) Going-on d (λ dec chk. keep_acts g dec chk (view s) code (edge_of n) u (test_is (keeps_on b) ∙ b)))
+  keep_decides b s' d = rw (keeps_on b) (done_decided g 0 (keep_apart code (edge_of n) u) goes_on_yet d (λ dec chk. keep_acts g dec chk (view s) code (edge_of n) u (test_is (keeps_on b) ∙ b)))
 
 -- none where the test holds; the slot 0, which is off the board, stands for no edge
 pub keep_step : (g : Grid) (s : Arrays) (y : Ready g s) (code n u : ℕ) → n < 1024 → (n' : ℕ) → n' ≡ pick (ltb s.count 2048) (pick (keeps_apart s.edges s.ends (suc code) n u) n 0) 0
@@ -240,13 +240,13 @@ items_of_check g v through = refl
 items_of_check g v (at_pad a) = refl
 items_of_check g v (at_clue code) = refl
 
-module _ (g : Grid) (s s₁ : Arrays) (v : ℕ) (h : v < 512) (Going-on : s.count < 2048) (d : Done g 0 s (first_items g v (end_at s.ends v)) s₁) where
+module _ (g : Grid) (s s₁ : Arrays) (v : ℕ) (h : v < 512) (goes_on_yet : s.count < 2048) (d : Done g 0 s (first_items g v (end_at s.ends v)) s₁) where
   check_is : (f : ℕ) → 2 * undecided_in s.edges < f → check g (suc f) v (view s) ≡ (in_a_row g (decide g f) (check g f) (settle v ∷ []) (shown s₁)).0
   unfolding check view
   check_is f k = ap (λ (is : List Item). do_items g (decide g f) (check g f) is (view s)) (items_of_check g v (end_at s.ends v))
       ∙ (sym (row_is g (decide g f) (check g f) (first_items g v (end_at s.ends v) ++ (settle v ∷ [])) (view s))
       ∙ (ap (λ (P : State × Bool). P.0) (row_append g (decide g f) (check g f) (first_items g v (end_at s.ends v)) (settle v ∷ []) (view s, false))
-      ∙ ap (λ (P : State × Bool). (in_a_row g (decide g f) (check g f) (settle v ∷ []) P).0) (sym (d.same f (omega arith) ∙ ap (λ (b : Bool). in_a_row g (decide g f) (check g f) (first_items g v (end_at s.ends v)) (view s, b)) (lt-leb 2048 s.count Going-on)))))
+      ∙ ap (λ (P : State × Bool). (in_a_row g (decide g f) (check g f) (settle v ∷ []) P).0) (sym (d.same f (omega arith) ∙ ap (λ (b : Bool). in_a_row g (decide g f) (check g f) (first_items g v (end_at s.ends v)) (view s, b)) (lt-leb 2048 s.count goes_on_yet)))))
 
   -- the check shows what it leaves, and ends the decision if the flag is set
   check_shows : (s₂ : Arrays) → ((f : ℕ) → 2 * undecided_in s.edges < f → view s₂ ≡ check g (suc f) v (view s)) → ended_in s₂.count ≡ flag_in s₂.count
@@ -256,7 +256,7 @@ module _ (g : Grid) (s s₁ : Arrays) (v : ℕ) (h : v < 512) (Going-on : s.coun
     where
       same : (f : ℕ) → 2 * undecided_in s.edges + 1 < f → shown s₂ ≡ in_a_row g (decide g f) (check g f) (check_pad v ∷ []) (shown s)
       same zero k = absurd (not-suc-le-zero k)
-      same (suc f) k = rw (lt-leb 2048 s.count Going-on) (λ i. (e f (omega arith) i, (x ∙ ap (λ (S : State). S.flag) (e f (omega arith))) i))
+      same (suc f) k = rw (lt-leb 2048 s.count goes_on_yet) (λ i. (e f (omega arith) i, (x ∙ ap (λ (S : State). S.flag) (e f (omega arith))) i))
 
   pub check_settles : s₁.count < 2048 → (s₂ : Arrays) → Settled g s₁ v s₂ → Done g 1 s (check_at v) s₂
   unfolding in_a_row then do_item

@@ -407,7 +407,7 @@ module _ (kind : List ℕ) (s : Arrays) (k : Kinds kind) (y : Ready (grid_in kin
   past_up w ew z = omega (arith, (on_slot gk (33 + 2 * v - 2 * w) (slot_is_on gk s y (33 + 2 * v - 2 * w) (omega (arith, small_pad)) (omega arith))).0)
 
   -- the first part: no edge is to be none
-  module _ (w : ℕ) (ew : w ≡ gk.width) (Going-on : s.count < 2048) (t : Bool) (et : t ≡ clue_apart s.edges s.ends w v) where
+  module _ (w : ℕ) (ew : w ≡ gk.width) (goes_on_yet : s.count < 2048) (t : Bool) (et : t ≡ clue_apart s.edges s.ends w v) where
     low_slots : (30 + 2 * v < 1024) × (32 + 2 * v < 1024) × (33 + 2 * v - 2 * w < 1024) × (33 + 2 * v < 1024)
     low_slots = omega (arith, small_pad)
 
@@ -418,10 +418,10 @@ module _ (kind : List ℕ) (s : Arrays) (k : Kinds kind) (y : Ready (grid_in kin
         let b = neither (keeps_apart s.edges s.ends (suc code) (32 + 2 * v) (v + 1)) _ a.1 in
         let c = neither (keeps_apart s.edges s.ends (suc code) (33 + 2 * v - 2 * w) (v - w)) _ b.1 in
         done_as gk (keeps_is gk k.least_width k.largest_width code v inside) (rw ew at
-        (done_then gk (keep_rests gk s y code (30 + 2 * v) (v - 1) low_slots.0 Going-on a.0)
-        (done_then gk (keep_rests gk s y code (32 + 2 * v) (v + 1) low_slots.1 Going-on b.0)
-        (done_then gk (keep_rests gk s y code (33 + 2 * v - 2 * w) (v - w) low_slots.2 Going-on c.0)
-        (keep_rests gk s y code (33 + 2 * v) (v + w) low_slots.3 Going-on c.1)))))
+        (done_then gk (keep_rests gk s y code (30 + 2 * v) (v - 1) low_slots.0 goes_on_yet a.0)
+        (done_then gk (keep_rests gk s y code (32 + 2 * v) (v + 1) low_slots.1 goes_on_yet b.0)
+        (done_then gk (keep_rests gk s y code (33 + 2 * v - 2 * w) (v - w) low_slots.2 goes_on_yet c.0)
+        (keep_rests gk s y code (33 + 2 * v) (v + w) low_slots.3 goes_on_yet c.1)))))
 
     pub no_apart : t ≡ false → Done gk 0 s (first_items gk v (end_at s.ends v)) s
     unfolding clue_apart first_items code_number

@@ -185,14 +185,14 @@ module _ (g : Grid) (dec : Decide) (chk : Check) (S : State) where
   bar_acts b a h = elim_true b (dec a none S, (dec a none S).flag) (S, false) h
 
 -- DETOUR
-module _ (g : Grid) (s : Arrays) (y : Ready g s) (a b c : ℕ) (h : a < 1024) (Going-on : s.count < 2048) where
+module _ (g : Grid) (s : Arrays) (y : Ready g s) (a b c : ℕ) (h : a < 1024) (goes_on_yet : s.count < 2048) where
   pub detour_off : (get_or s.edges a 0 ≡ 1 → ⊥) → Done g 1 s (detour_at g a b c) s
   unfolding detour_at
   detour_off n = go (slot_on g a) refl
     where
       go : (t : Bool) → slot_on g a ≡ t → Done g 1 s (when t (detour (edge_of a) (edge_of b) (edge_of c) ∷ [])) s
       go false e = done_nothing g 1 s y
-      go true e = done_still g 1 s (detour (edge_of a) (edge_of b) (edge_of c)) y Going-on
+      go true e = done_still g 1 s (detour (edge_of a) (edge_of b) (edge_of c)) y goes_on_yet
           (λ f. detour_no g (decide g f) (check g f) (view s) _ _ _ (line_test g s y a h e ∙ ne_eqb (get_or s.edges a 0) 1 n))
 
   module _ (l : get_or s.edges a 0 ≡ 1) where
@@ -208,7 +208,7 @@ module _ (g : Grid) (s : Arrays) (y : Ready g s) (a b c : ℕ) (h : a < 1024) (G
     detour_first s₁ d e = rw detour_on (record { same = same; fewer = d.fewer; ready = d.ready; since = d.since })
       where
         same : (f : ℕ) → 2 * undecided_in s.edges + 1 < f → shown s₁ ≡ in_a_row g (decide g f) (check g f) (detour (edge_of a) (edge_of b) (edge_of c) ∷ []) (shown s)
-        same f k = rw (lt-leb 2048 s.count Going-on) ((λ i. (d.same f (omega arith) i, le-leb 2048 s₁.count e i))
+        same f k = rw (lt-leb 2048 s.count goes_on_yet) ((λ i. (d.same f (omega arith) i, le-leb 2048 s₁.count e i))
             ∙ sym (detour_first_only g (decide g f) (check g f) (view s) _ _ _ (line_there g s y a h l) (flag_after s₁ d f (omega arith) ∙ le-leb 2048 s₁.count e)))
 
     pub detour_both : (s₁ s₂ : Arrays) → Decided g s (edge_of b) none s₁ → s₁.count < 2048 → Decided g s₁ (edge_of c) none s₂ → Done g 1 s (detour_at g a b c) s₂
@@ -216,6 +216,6 @@ module _ (g : Grid) (s : Arrays) (y : Ready g s) (a b c : ℕ) (h : a < 1024) (G
     detour_both s₁ s₂ d e d₂ = rw detour_on (record { same = same; fewer = omega (arith, d.fewer, d₂.fewer); ready = d₂.ready; since = since_then g.width s s₁ s₂ d.since d₂.since })
       where
         same : (f : ℕ) → 2 * undecided_in s.edges + 1 < f → shown s₂ ≡ in_a_row g (decide g f) (check g f) (detour (edge_of a) (edge_of b) (edge_of c) ∷ []) (shown s)
-        same f k = rw (lt-leb 2048 s.count Going-on) (decided_shown g d₂ f (omega (arith, d.fewer))
+        same f k = rw (lt-leb 2048 s.count goes_on_yet) (decided_shown g d₂ f (omega (arith, d.fewer))
             ∙ (ap (λ (S : State). (decide g f (edge_of c) none S, (decide g f (edge_of c) none S).flag)) (d.same f (omega arith))
             ∙ sym (detour_two g (decide g f) (check g f) (view s) _ _ _ (line_there g s y a h l) (flag_after s₁ d f (omega arith) ∙ lt-leb 2048 s₁.count e))))

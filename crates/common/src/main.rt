@@ -1,6 +1,6 @@
 // The copper common to all wirings: reads a grid file from standard input, of which the first 4,096 bytes suffice, and prints the summary line
 // as `routes` does and, for a complete list, a line for each row of the table; or why the file is refused. What is printed is made, and
-// proved, in the crate `tabling`; here it is only read and written. By `common_whole` of that crate (specs/Whole.antt) the bytes written are
+// proved, in the crate `tabling`; here it is only read and written. By `common_whole` of that crate (proofs/Whole.antt) the bytes written are
 // the text of the crate `model` for the bytes of standard input.
 #![tactic(auto)]
 

@@ -103,7 +103,7 @@ fn same_answers(
 }
 
 // What is told of a grid: whether the engines are equal on it, and what they counted.
-#[derive(Drop)]
+#[derive(Clone, Copy)]
 pub struct Compared {
     pub equal: bool,
     pub layouts: usize,
@@ -219,7 +219,7 @@ pub fn compare_kinds(height: usize, width: usize, kinds: &[u8]) -> Compared
 }
 
 // What is counted over many grids.
-#[derive(Drop)]
+#[derive(Clone, Copy)]
 pub struct Sums {
     pub grids: u64,
     pub equal: u64,

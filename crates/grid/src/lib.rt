@@ -11,7 +11,7 @@ ghost use Rattle.grid.specs.Answers.{refusal_says};
 ghost use Rattle.grid.specs.PadsAt.{pads_of, place_of, has_edge};
 
 // An edge of a board, as the byte that a record holds for it.
-#[derive(Drop)]
+#[derive(Clone, Copy)]
 pub struct Edge(pub u8);
 
 impl Edge {
@@ -83,7 +83,7 @@ pub const HOLE: i64 = -2;
 pub const LARGEST_CODE: i64 = 4294967295;
 
 // Why a grid is declined: document 01's number, 0 for an accepted one, and the index of the first bad cell.
-#[derive(Drop)]
+#[derive(Clone, Copy)]
 pub struct Refusal {
     pub number: u8,
     pub index: usize,

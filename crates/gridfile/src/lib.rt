@@ -31,7 +31,7 @@ const MOST_DIGITS: usize = 10;
 pub const LONGEST_TEXT: usize = 2822;
 
 // What reading a file gives: number 0 and the grid, or a refusal with its line and field beside the empty grid.
-#[derive(Drop)]
+#[derive(Clone, Copy)]
 pub struct Reading {
     pub number: u8,
     pub line: usize,
@@ -42,7 +42,7 @@ pub struct Reading {
 }
 
 // What writing a grid gives: number 0 and how many bytes were written, or a refusal with length 0; the index is beside 9.
-#[derive(Drop)]
+#[derive(Clone, Copy)]
 pub struct Writing {
     pub number: u8,
     pub index: usize,

@@ -30,7 +30,7 @@ const TIMES: u64 = 4;
 const SPENT: u8 = 1;
 
 // What a text says: a limit of visited boards, or none.
-#[derive(Drop)]
+#[derive(Clone, Copy)]
 pub enum Limit {
     Boards(u64),
     NoLimit,

@@ -26,7 +26,7 @@ const NONE: u8 = Edge::NONE.0;
 
 // The verdict on a drawing, 0 for no layout, 1 for an ordinary one, 2 for a listed one, and its lines, 0 beside 0. Number and index are
 // those of a declined grid, beside a 0.
-#[derive(Drop)]
+#[derive(Clone, Copy)]
 pub struct Judged {
     pub number: u8,
     pub index: usize,

@@ -1,5 +1,5 @@
 // Copies into lent slices: numbers, with a sign or without, and bytes are put at a place of a slice that has room for them, and everything
-// else in it keeps its value. Each says so by `paste` of the kit's lib.Seq: the part before the place, what is put, the rest.
+// else in it keeps its value. Each says so by `paste` of the kit's Math.Seq: the part before the place, what is put, the rest.
 #![tactic(auto)]
 
 ghost use Rattle.std.specs.Prelude.{◌≡◌, map, ◌+◌, ◌≤◌, length, pos};

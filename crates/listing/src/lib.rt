@@ -12,7 +12,7 @@ use printed::LayoutLine;
 const STDOUT_FILENO: i32 = 1;
 
 // The head of the text; the file's number, and H and W, 0 where it is refused; and what was found, nothing where it is refused.
-#[derive(Drop)]
+#[derive(Clone, Copy)]
 pub struct Heading {
     pub bytes: [u8; 67],
     pub length: usize,

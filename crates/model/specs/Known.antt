@@ -1,12 +1,11 @@
--- The known grids K1 to K12 of the documents, proved together as one fact of the definitions, by computation: `known_grids`, at the end.
--- Nothing else is assumed; the definitions are those of the search, the ends and the grid file.
--- What is proved of them stands in proofs/Known.antt.
+-- The known grids K1 to K12 of the documents, of the definitions of the search, the ends and the grid file. They are proved together as one
+-- fact, by computation: `known_grids`, proofs/Known.antt.
 use Rattle.std.specs.Prelude.{ℕ, ◌*◌, ◌≡◌, List, [], ◌∷◌, replicate, ℤ, pos, negsuc}
 use Rattle.rules.specs.Grid.{blank_cell, grid_of, places}
 use Rattle.rules.specs.Record.{codes, drawing_of, tabulate}
 use Rattle.model.specs.JoinedEnds.{end_number}
 use Rattle.model.specs.Board.{fresh}
-use Rattle.model.specs.KnownFiles.{K10 as Largest-code-read, K11 as Letter-refused, K12 as One-row-refused}
+use Rattle.model.specs.KnownFiles.{K10 as LargestCodeRead, K11 as LetterRefused, K12 as OneRowRefused}
 use Rattle.model.specs.Records.{record_at}
 use Rattle.model.specs.Runs.{Solved, fewest}
 use Rattle.model.specs.Search.{solve}
@@ -58,8 +57,8 @@ pub record KnownGrids : Type 0 where
   pub K9 : (end_number ((fresh (grid_of 2 2 (pos 0 ∷ pos 4294967295 ∷ blank_cell ∷ blank_cell ∷ []))).end 0) ≡ negsuc 1)
       × (end_number ((fresh (grid_of 2 2 (pos 0 ∷ pos 4294967295 ∷ blank_cell ∷ blank_cell ∷ []))).end 1) ≡ negsuc 4294967296)
   -- field 4294967295 is read, 4294967296 gives 3
-  pub K10 : Largest-code-read
+  pub K10 : LargestCodeRead
   -- `1O` first in line 2 gives 13, line 2, field 1
-  pub K11 : Letter-refused
+  pub K11 : LetterRefused
   -- header `1,2` gives 5, line 1, field 1
-  pub K12 : One-row-refused
+  pub K12 : OneRowRefused

@@ -23,14 +23,14 @@ const LINE_END: u8 = 10;
 
 // The line that begins a printed text, or is all of it. The summary line is the longest: three numbers of up to 20 digits and one of up to 3,
 // each with the byte after it.
-#[derive(Drop)]
+#[derive(Clone, Copy)]
 pub struct HeadLine {
     pub bytes: [u8; 67],
     pub length: usize,
 }
 
 // Two numbers of up to 20 digits, 256 codes, and the bytes after them.
-#[derive(Drop)]
+#[derive(Clone, Copy)]
 pub struct LayoutLine {
     pub bytes: [u8; 299],
     pub length: usize,

@@ -1,2 +1,2 @@
-// What the board's calls keep and lose: theory only, in specs/.
+// What the board's calls keep and lose: theory only, in specs/ and proofs/.
 #![tactic(auto)]

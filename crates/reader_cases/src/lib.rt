@@ -1,6 +1,6 @@
 // Runs the cases of a reader, that of grid files or that of packed decimal: takes the slices of an input, each behind its length in
 // two bytes, and prints the answer of each: the line of a refused slice, or the grid as it is written back. It rests on this, that
-// what either reader gives is sound (crate `reading`, specs/ReadingLaws.antt and specs/PackedSlices.antt there): 256 cells, and
+// what either reader gives is sound (crate `reading`, specs/ReadingLaws.antt and proofs/PackedSlices.antt there): 256 cells, and
 // the pads among them.
 #![tactic(auto)]
 

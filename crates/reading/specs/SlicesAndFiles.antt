@@ -1,7 +1,7 @@
 -- Slices of packed decimal and grid files, held together: a slice and a file of the same codes and no holes give the same grid. For every
 -- accepted slice the file that `write` makes of its grid is read as the slice is; for every accepted file without holes the slice of its
--- codes is read as the file is; and no two accepted slices have one grid.
--- What is proved of them stands in proofs/SlicesAndFiles.antt.
+-- codes is read as the file is. What is proved of them stands in proofs/SlicesAndFiles.antt; that no two accepted slices have one grid in
+-- proofs/OneSlice.antt.
 use Rattle.std.specs.Prelude.{◌≡◌, List, ℕ, take}
 use Rattle.model.specs.GridFile.{read}
 use Rattle.model.specs.Writing.{Writing, grid_text, write}

@@ -1,2 +1,2 @@
-// Laws of reading and writing a grid file, about the model alone: everything stands in specs/.
+// Laws of reading and writing a grid file, about the model alone: everything stands in specs/ and proofs/.
 #![tactic(auto)]

@@ -1,2 +1,2 @@
-// A run with a limit and room, for every engine: theory only, in specs/.
+// A run with a limit and room, for every engine: theory only, in specs/ and proofs/.
 #![tactic(auto)]

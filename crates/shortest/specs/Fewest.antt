@@ -10,13 +10,13 @@ pub record Fewest {ℓ} {A : Type 0} (lines : A → ℕ) (Among : A → Type ℓ
   pub attained : lines one ≡ n
   pub least : (other : A) → Among other → n ≤ lines other
 
-module _ {A B : Type 0} (lines_a : A → ℕ) (Among-A : A → Type 0) (lines_b : B → ℕ) (Among-B : B → Type 1)
-    (as_many : (a : A) → Among-A a → (b : B) × Among-B b × (lines_b b ≡ lines_a a))
-    (no_more : (b : B) → Among-B b → (a : A) × Among-A a × (lines_a a ≤ lines_b b)) where
-  pub same_fewest : (n : ℕ) → Fewest lines_a Among-A n ↔ Fewest lines_b Among-B n
+module _ {A B : Type 0} (lines_a : A → ℕ) (AmongA : A → Type 0) (lines_b : B → ℕ) (AmongB : B → Type 1)
+    (as_many : (a : A) → AmongA a → (b : B) × AmongB b × (lines_b b ≡ lines_a a))
+    (no_more : (b : B) → AmongB b → (a : A) × AmongA a × (lines_a a ≤ lines_b b)) where
+  pub same_fewest : (n : ℕ) → Fewest lines_a AmongA n ↔ Fewest lines_b AmongB n
   same_fewest n = (to_b, to_a)
     where
-      to_b : Fewest lines_a Among-A n → Fewest lines_b Among-B n
+      to_b : Fewest lines_a AmongA n → Fewest lines_b AmongB n
       to_b f = let (b, in_b, e) = as_many f.one f.among in record {
         one = b;
         among = in_b;
@@ -24,7 +24,7 @@ module _ {A B : Type 0} (lines_a : A → ℕ) (Among-A : A → Type 0) (lines_b 
         least = λ other in_other. let (a, in_a, l) = no_more other in_other in omega (arith, l, f.least a in_a);
       }
 
-      to_a : Fewest lines_b Among-B n → Fewest lines_a Among-A n
+      to_a : Fewest lines_b AmongB n → Fewest lines_a AmongA n
       to_a f = let (a, in_a, l) = no_more f.one f.among in let (b, in_b, e) = as_many a in_a in record {
         one = a;
         among = in_a;

@@ -18,7 +18,7 @@ const LINE_END: u8 = 10;
 
 // The head of the text, and what the rows need: W, and how many rows are printed: 2H-1 for a complete list, none for any other and for a
 // refused file.
-#[derive(Drop)]
+#[derive(Clone, Copy)]
 pub struct Heading {
     pub bytes: [u8; 67],
     pub length: usize,
@@ -27,7 +27,7 @@ pub struct Heading {
 }
 
 // A row of at most 31 digits and the byte after it.
-#[derive(Drop)]
+#[derive(Clone, Copy)]
 pub struct RowLine {
     pub bytes: [u8; 32],
     pub length: usize,
