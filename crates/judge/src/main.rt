@@ -5,8 +5,6 @@
 
 ghost use Rattle.std.specs.Prelude.{◌≤◌, length};
 
-use std::env::{Env, FillError};
-
 // The number of standard input.
 const STDIN_FILENO: i32 = 0;
 
@@ -23,40 +21,23 @@ fn print_judged(file: &[u8], digits: &[u8])
     io::write_all(STDOUT_FILENO, &bytes[..length]);
 }
 
-// Whether the program has an argument i beside its own name.
-fn is_given(rt: &HostRuntime, i: usize) -> bool {
-    let mut argument = [0u8; 1];
-    match rt.arg(i, &mut argument) {
-        Err(FillError::NotPresent) => false,
-        _ => true,
-    }
-}
-
-// Puts the argument at the start of the buffer and gives its length; 0 for one that is longer than the buffer.
-fn copy_argument(rt: &HostRuntime, argument: &mut [u8]) -> usize
-    ensures { result ≤ length argument.new }
+// Reads standard input, and prints the text for it and the codes.
+fn judge_input(digits: &[u8])
+    requires { length digits.now ≤ 4096 }
 {
-    match rt.arg(1, argument) {
-        Ok(m) => m,
-        Err(_) => 0,
-    }
-}
-
-// Reads standard input, and prints the text for it and the argument; one that is longer than the buffer is handed over as empty.
-fn judge_input(rt: &HostRuntime) {
-    let mut argument = io::buffer();
-    let m = copy_argument(rt, &mut argument);
     let mut input = io::buffer();
     let n = io::read_full(STDIN_FILENO, &mut input);
-    print_judged(&input[..n], &argument[..m]);
+    print_judged(&input[..n], digits);
 }
 
-// With one argument beside the program's own name it judges; else it says how it is called.
+// With one argument beside the program's own name it judges; else it says how it is called. An argument that is longer than the buffer is
+// handed over as empty.
 fn main(rt: HostRuntime) {
-    if is_given(&rt, 1) && !is_given(&rt, 2) {
-        judge_input(&rt);
+    let mut argument = io::buffer();
+    let Some(m) = arguments::only_argument(&rt, &mut argument) else {
+        let usage = hearing::usage();
+        io::write_all(STDOUT_FILENO, &usage);
         return;
-    }
-    let usage = hearing::usage();
-    io::write_all(STDOUT_FILENO, &usage);
+    };
+    judge_input(&argument[..m]);
 }

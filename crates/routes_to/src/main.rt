@@ -9,7 +9,6 @@ ghost use Rattle.std.specs.Prelude.{◌≡◌, ◌≤◌, length};
 ghost use Rattle.model.specs.RoutesTo.{routes_to_room};
 
 use growing::Limit;
-use std::env::{Env, FillError};
 
 // The number of standard input.
 const STDIN_FILENO: i32 = 0;
@@ -49,33 +48,13 @@ fn refuse() {
     io::write_all(STDOUT_FILENO, &line);
 }
 
-// Whether the program has an argument i beside its own name.
-fn is_given(rt: &HostRuntime, i: usize) -> bool {
-    let mut argument = [0u8; 1];
-    match rt.arg(i, &mut argument) {
-        Err(FillError::NotPresent) => false,
-        _ => true,
-    }
-}
-
-// Puts the argument at the start of the buffer and gives its length; 0 for one that is longer than the buffer.
-fn copy_argument(rt: &HostRuntime, argument: &mut [u8]) -> usize
-    ensures { result ≤ length argument.new }
-{
-    match rt.arg(1, argument) {
-        Ok(m) => m,
-        Err(_) => 0,
-    }
-}
-
 // With one argument beside the program's own name that is a limit it lists; an argument that is longer than the buffer is handed over as empty.
 fn main(rt: HostRuntime) {
-    if !is_given(&rt, 1) || is_given(&rt, 2) {
+    let mut argument = io::buffer();
+    let Some(m) = arguments::only_argument(&rt, &mut argument) else {
         refuse();
         return;
-    }
-    let mut argument = io::buffer();
-    let m = copy_argument(&rt, &mut argument);
+    };
     let Limit::Boards(limit) = growing::limit_of(&argument[..m]) else {
         refuse();
         return;
