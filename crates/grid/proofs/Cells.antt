@@ -64,29 +64,29 @@ first_bad_is = is_position_or_len first_bad_cell _ refl step
 
 module _ (height width : ℕ) (cells : List ℤ) where
   pub not_high : is_size height ≡ false → refusal_says (Err Size) ≡ grid_refusal height width cells
-  unfolding grid_refusal refusal_says number_of index_of
+  unfolding grid_refusal
   not_high h = simp h
 
   module _ (h : is_size height ≡ true) where
     pub not_wide : is_size width ≡ false → refusal_says (Err Size) ≡ grid_refusal height width cells
-    unfolding grid_refusal refusal_says number_of index_of
+    unfolding grid_refusal
     not_wide w = simp (h, w)
 
     module _ (w : is_size width ≡ true) where
       pub wrong_count : (length cells ≡ height * width → ⊥) → refusal_says (Err CellCount) ≡ grid_refusal height width cells
-      unfolding grid_refusal refusal_says number_of index_of
+      unfolding grid_refusal
       wrong_count l = simp (h, w, ne_eqb _ _ l)
 
       module _ (l : length cells ≡ height * width) where
         pub bad_cell : (index : ℕ) → position (λ cell. not (is_cell cell)) cells ≡ Some index → refusal_says (Err (Cell index)) ≡ grid_refusal height width cells
-        unfolding grid_refusal refusal_says number_of index_of
+        unfolding grid_refusal
         bad_cell index at =
             let first : first_bad_cell cells ≡ index = first_bad_is cells ∙ grind (arith, common_steps) in
             let inside : index < length cells = grind (arith, common_steps) in
             simp (h, w, eq-eqb _ _ l, first, lt-ltb _ _ inside)
 
         pub accepted : position (λ cell. not (is_cell cell)) cells ≡ None → refusal_says (Ok tt) ≡ grid_refusal height width cells
-        unfolding grid_refusal refusal_says
+        unfolding grid_refusal
         accepted none =
             let past : length cells ≤ first_bad_cell cells = rw (first_bad_is cells) (grind (arith, common_steps)) in
             simp (h, w, eq-eqb _ _ l, le-ltb _ _ past)

@@ -3,16 +3,16 @@ use Rattle.std.specs.Prelude.{ℕ, Result, Ok, Err}
 use Rattle.grid.specs.declared.Refusal.{Refusal}
 use Rattle.grid.specs.declared.Refusal.TheVariants.{Size, CellCount, Cell}
 
-unfoldable pub number_of : Refusal → ℕ
+abbrev pub number_of : Refusal → ℕ
 number_of Size = 7
 number_of CellCount = 8
 number_of (Cell index) = 9
 
-unfoldable pub index_of : Refusal → ℕ
+abbrev pub index_of : Refusal → ℕ
 index_of Size = 0
 index_of CellCount = 0
 index_of (Cell index) = index
 
-unfoldable pub refusal_says : Result Unit Refusal → ℕ × ℕ
+abbrev pub refusal_says : Result Unit Refusal → ℕ × ℕ
 refusal_says (Ok accepted) = (0, 0)
 refusal_says (Err refusal) = (number_of refusal, index_of refusal)
