@@ -15,7 +15,7 @@ use Rattle.model.specs.RefusalLaws.{size_of_test}
 use Rattle.model.specs.Decimal.{digit_byte}
 use Rattle.model.specs.Printed.{line_at, right_line, down_line, code_of_pad, code_digits_from, code_digits}
 use Rattle.text.specs.Put.{Put}
-use Rattle.text.specs.PutLaws.{put_both, put_one, put_same}
+use Rattle.text.specs.PutLaws.{put_both, put_one}
 
 -- ## A place of a record
 
@@ -92,9 +92,6 @@ module _ (height width : ℕ) (layout first out : List ℕ) (at index : ℕ) (p 
   unfolding digit_byte
   code_put code e = rw (add-one index, code_after height width layout index 0, zero-add, ← e, add-suc, ← (add-one (at + index))) (put_both p (put_one out (at + index) (48 + code)))
 
-  pub all_put : index ≤ height * width → height * width ≤ index → Put first out at (code_digits height width layout) (at + index)
+  pub all_put : index ≡ height * width → Put first out at (code_digits height width layout) (at + height * width)
   unfolding code_digits
-  all_put a b = put_same (ap (λ (n : ℕ). code_digits_from height width layout n 0) there) p
-    where
-      there : index ≡ height * width
-      there = omega arith
+  all_put there = rw there at p

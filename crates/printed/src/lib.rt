@@ -67,23 +67,15 @@ fn add_line(codes: &mut [u8; 256], pads: Pads)
     }
 }
 
-fn no_codes() -> [u8; 256]
-    ensures { result ≡ zeros 256 }
-{
-    [0; 256]
-}
-
 // The codes of the pads by their indexes, right + 2 * down: each line of the layout is added to the code of its first pad.
 fn codes_of(height: usize, width: usize, layout: &[u8]) -> [u8; 256]
     requires { (is_size height ≡ true) × (is_size width ≡ true) }
     ensures { CodesOf height width layout.now result }
 {
     let places = (2 * height - 1) * (2 * width - 1);
-    let mut codes = no_codes();
-    let mut i = 0;
-    while i < places {
+    let mut codes = [0; 256];
+    for i in 0..places {
         add_line(&mut codes, line_at(layout, width, i));
-        i += 1;
     }
     codes
 }
@@ -94,12 +86,11 @@ fn put_codes(out: &mut [u8], at: usize, height: usize, width: usize, layout: &[u
     ensures { Put out.old out.new at (code_digits height width layout.now) result }
 {
     let codes = codes_of(height, width, layout);
-    let mut index = 0;
-    while index < height * width {
+    let pads = height * width;
+    for index in 0..pads {
         out[at + index] = ZERO + codes[index];
-        index += 1;
     }
-    at + index
+    at + pads
 }
 
 // Layouts, visited, fewest, outcome.

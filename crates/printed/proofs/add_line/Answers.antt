@@ -8,17 +8,11 @@ use Rattle.printed.proofs.add_line.Goals as goal
 pub bounds-codes-first : goal.bounds-codes-first
 bounds-codes-first c = omega (arith, c.requires.0 _ (edge_beside _ c.in-Beside.is))
 
-pub overflow_add-codes : goal.overflow_add-codes
-overflow_add-codes c = omega (arith, c.requires.1.small c.in-Beside.first)
-
 pub bounds-codes-first-in-Beside : goal.bounds-codes-first-in-Beside
 bounds-codes-first-in-Beside c = omega (arith, c.requires.0 _ (edge_beside _ c.in-Beside.is), c.requires.1.long)
 
 pub bounds-codes-first-in-Above : goal.bounds-codes-first-in-Above
 bounds-codes-first-in-Above c = omega (arith, c.requires.0 _ (edge_above _ c.in-Above.is))
-
-pub overflow_add-codes-in-Above : goal.overflow_add-codes-in-Above
-overflow_add-codes-in-Above c = omega (arith, c.requires.1.small c.in-Above.first)
 
 pub bounds-codes-first-in-Above-2 : goal.bounds-codes-first-in-Above-2
 bounds-codes-first-in-Above-2 c = omega (arith, c.requires.0 _ (edge_above _ c.in-Above.is), c.requires.1.long)

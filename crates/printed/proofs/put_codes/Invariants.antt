@@ -2,11 +2,8 @@
 -- Assumes nothing.
 use Rattle.text.specs.Put.{Put}
 use Rattle.model.specs.Printed.{code_digits_from}
-use Prim.Native.Nat.{◌+◌, ◌-◌, ◌*◌, ◌≤◌}
+use Prim.Native.Nat.{◌+◌}
 use Rattle.printed.proofs.put_codes.Given as goal
 
 abbrev pub invariant-loop-index : goal.invariant-loop-index
-invariant-loop-index l = (l.index ≤ l.height * l.width) × Put l.initial.out l.out l.at (code_digits_from l.height l.width l.layout l.index 0) (l.at + l.index)
-
-abbrev pub decreases-loop-index : goal.decreases-loop-index
-decreases-loop-index l = l.height * l.width - l.index
+invariant-loop-index l = Put l.initial.out l.out l.at (code_digits_from l.height l.width l.layout l.index 0) (l.at + l.index)
