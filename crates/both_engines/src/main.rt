@@ -28,25 +28,19 @@ fn print_number(word: &[u8], number: u64) {
 
 // The cell of a kind, after a comma.
 fn print_cell(kind: u8) {
-    if kind == 0 {
-        print_word(b",-1");
-        return;
+    match kind {
+        0 => print_word(b",-1"),
+        1 => print_word(b",-2"),
+        _ => print_number(b",", u64::from(kind - 2)),
     }
-    if kind == 1 {
-        print_word(b",-2");
-        return;
-    }
-    print_number(b",", (kind - 2) as u64);
 }
 
 // The line of a grid on which the engines differ.
 fn print_differs(height: usize, width: usize, kinds: &[u8]) {
     print_number(b"differs,", height as u64);
     print_number(b",", width as u64);
-    let mut pad = 0;
-    while pad < kinds.len() {
-        print_cell(kinds[pad]);
-        pad += 1;
+    for kind in kinds {
+        print_cell(*kind);
     }
     print_word(b"\n");
 }
@@ -89,12 +83,11 @@ fn compare_size(height: usize, width: usize, step: u64, rest: u64, kinds: &mut [
     requires { Kinds kinds.old × (length kinds.old ≤ 9) × (0 < step) }
 {
     let mut sums = Sums::NONE;
-    let mut number: u64 = 0;
-    let mut more = true;
-    while number < MOST_GRIDS && more {
+    for number in 0..MOST_GRIDS {
         sums = compare_taken(height, width, kinds, number % step == rest, sums);
-        more = engines::next_grid(kinds);
-        number += 1;
+        if !engines::next_grid(kinds) {
+            break;
+        }
     }
     print_size(height, width, sums);
 }

@@ -23,10 +23,8 @@ fn print_row(table: &[u8], width: usize, rows: usize, k: usize) {
 
 // The lines of the rows, in order.
 fn print_rows(table: &[u8], width: usize, rows: usize) {
-    let mut k = 0;
-    while k < rows {
+    for k in 0..rows {
         print_row(table, width, rows, k);
-        k += 1;
     }
 }
 

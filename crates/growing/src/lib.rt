@@ -16,10 +16,8 @@ const STDERR_FILENO: i32 = 2;
 
 const ZERO: u8 = 48;
 
-// The digits of the largest limit, and that limit.
+// The digits of the largest limit.
 const MOST_DIGITS: usize = 20;
-
-const LARGEST_LIMIT: u64 = 18446744073709551615;
 
 // The limit of the first run, which is that of `routes`, and how many times as large each next one is.
 const FIRST_LIMIT: u64 = 1000000;
@@ -29,38 +27,22 @@ const TIMES: u64 = 4;
 // The outcome of a run that stopped at its limit.
 const SPENT: u8 = 1;
 
-// What a text says: a limit of visited boards, or none.
-#[derive(Clone, Copy)]
-pub enum Limit {
-    Boards(u64),
-    NoLimit,
-}
-
-// The limit that a text says, in 1 to 20 digits.
-pub fn limit_of(text: &[u8]) -> Limit
+// The limit of visited boards that a text says, in 1 to 20 digits.
+pub fn limit_of(text: &[u8]) -> Option<u64>
     ensures { says result ≡ limit_of text.now }
 {
-    if text.len() == 0 {
-        return Limit::NoLimit;
-    }
-    if text.len() > MOST_DIGITS {
-        return Limit::NoLimit;
+    if text.is_empty() || text.len() > MOST_DIGITS {
+        return None;
     }
     let mut value: u64 = 0;
-    let mut at = 0;
-    while at < text.len() {
-        let byte = text[at];
-        if !gridfile::is_digit(byte) {
-            return Limit::NoLimit;
+    for byte in text {
+        if !gridfile::is_digit(*byte) {
+            return None;
         }
-        let digit = (byte - ZERO) as u64;
-        if value > (LARGEST_LIMIT - digit) / 10 {
-            return Limit::NoLimit;
-        }
-        value = value * 10 + digit;
-        at += 1;
+        let digit = u64::from(*byte - ZERO);
+        value = value.checked_mul(10)?.checked_add(digit)?;
     }
-    Limit::Boards(value)
+    Some(value)
 }
 
 // The line for an argument that is no limit.
@@ -74,20 +56,14 @@ pub fn limit_line() -> [u8; 97]
 fn first_limit(limit: u64) -> u64
     ensures { result ≡ first_limit limit }
 {
-    if FIRST_LIMIT <= limit {
-        return FIRST_LIMIT;
-    }
-    limit
+    FIRST_LIMIT.min(limit)
 }
 
 // The limit of the run after one that was spent.
 fn next_limit(reached: u64, limit: u64) -> u64
     ensures { result ≡ next_limit reached limit }
 {
-    if reached <= limit / TIMES {
-        return reached * TIMES;
-    }
-    limit
+    reached.saturating_mul(TIMES).min(limit)
 }
 
 // Says how far a run has come.

@@ -98,9 +98,7 @@ fn print_line(buffer: &[u8], height: usize, width: usize, layouts: usize, k: usi
 
 // Writes the lines of the layouts, in order.
 pub fn print_lines(buffer: &[u8], height: usize, width: usize, layouts: usize) {
-    let mut k = 0;
-    while k < layouts {
+    for k in 0..layouts {
         print_line(buffer, height, width, layouts, k);
-        k += 1;
     }
 }

@@ -4,7 +4,7 @@
 // the pads among them.
 #![tactic(auto)]
 
-ghost use Rattle.std.specs.Prelude.{◌≤◌, ◌<◌, length};
+ghost use Rattle.std.specs.Prelude.{IfSome, ◌<◌, length};
 ghost use Rattle.reading.specs.ReadingLaws.{SoundReading};
 ghost use Rattle.gridfile.specs.Answers.{reading_says};
 
@@ -18,12 +18,6 @@ const STDOUT_FILENO: i32 = 1;
 pub enum Reader {
     File,
     Packed,
-}
-
-fn wide(byte: u8) -> usize
-    ensures { result < 256 }
-{
-    byte as usize
 }
 
 fn print_refusal(number: u8, line: usize, field: usize) {
@@ -43,12 +37,10 @@ fn print_grid(height: usize, width: usize, cells: &[i64]) {
 
 // A line for each cell past the pads that is not blank.
 fn print_past(cells: &[i64], pads: usize) {
-    let mut index = pads;
-    while index < cells.len() {
-        if cells[index] != grid::BLANK {
+    for cell in cells.iter().skip(pads) {
+        if *cell != grid::BLANK {
             io::write_all(STDOUT_FILENO, b"past\n");
         }
-        index += 1;
     }
 }
 
@@ -74,28 +66,19 @@ fn print_answer(bytes: &[u8], reader: Reader) {
     print_past(&cells, pads);
 }
 
-// The case at a place; the place after it, or the end where the input stops short.
-fn run_case(input: &[u8], at: usize, reader: Reader) -> usize
-    requires { at < length input.now }
-    ensures { (at < result) × (result ≤ length input.now) }
+// The first case of an input and what comes after it; none where the input stops short.
+fn split_case(input: &[u8]) -> Option<(&[u8], &[u8])>
+    ensures { IfSome result (λ (case, rest). length rest.now < length input.now) }
 {
-    if input.len() - at < 2 {
-        return input.len();
-    }
-    let long = wide(input[at]) * 256 + wide(input[at + 1]);
-    let start = at + 2;
-    if input.len() - start < long {
-        return input.len();
-    }
-    let end = start + long;
-    print_answer(&input[start..end], reader);
-    end
+    let (long, rest) = input.split_first_chunk::<2>()?;
+    rest.split_at_checked(usize::from(u16::from_be_bytes(*long)))
 }
 
 // Every case of the input, in order.
 pub fn run_all(input: &[u8], reader: Reader) {
-    let mut at = 0;
-    while at < input.len() {
-        at = run_case(input, at, reader);
+    let mut rest = input;
+    while let Some((case, after)) = split_case(rest) {
+        print_answer(case, reader);
+        rest = after;
     }
 }

@@ -8,8 +8,6 @@
 ghost use Rattle.std.specs.Prelude.{◌≡◌, ◌≤◌, length};
 ghost use Rattle.model.specs.RoutesTo.{routes_to_room};
 
-use growing::Limit;
-
 // The number of standard input.
 const STDIN_FILENO: i32 = 0;
 
@@ -55,7 +53,7 @@ fn main(rt: HostRuntime) {
         refuse();
         return;
     };
-    let Limit::Boards(limit) = growing::limit_of(&argument[..m]) else {
+    let Some(limit) = growing::limit_of(&argument[..m]) else {
         refuse();
         return;
     };

@@ -4,27 +4,17 @@
 // and the sum of the buffer's bytes.
 #![tactic(auto)]
 
-ghost use Rattle.std.specs.Prelude.{◌≤◌, ◌<◌};
+ghost use Rattle.std.specs.Prelude.{◌≤◌, length};
 
 use solver::Solved;
 
 // The number of standard output.
 const STDOUT_FILENO: i32 = 1;
 
-fn wide(byte: u8) -> u64
-    ensures { result ≤ 255 }
+fn sum(bytes: &[u8]) -> u64
+    requires { length bytes.now ≤ 40 }
 {
-    byte as u64
-}
-
-fn sum(bytes: &[u8; 40]) -> u64 {
-    let mut total: u64 = 0;
-    let mut i = 0;
-    while i < 40 {
-        total += wide(bytes[i]);
-        i += 1;
-    }
-    total
+    bytes.iter().map(|byte| u64::from(*byte)).sum()
 }
 
 fn show_field(number: u64) {

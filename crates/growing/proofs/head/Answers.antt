@@ -1,7 +1,6 @@
 -- `growing::head` meets its contract. The loop keeps: head and buffer are those of one run with the limit that has been reached, into the buffer as it was
 -- at first. It ends, since the limits grow up to the last. Assumes nothing.
 use mathlib.Core.Path.{sym, subst}
-use borrow.Author.Tests.{ltb-true, ltb-false}
 use Rattle.listing.specs.HeadAgain.{same_room}
 use Rattle.growing.specs.Limits.{Reached, first_reached}
 use Rattle.growing.proofs.LoopLaws.{kept_first, kept_next, less_left, kept_ended, kept_last}
