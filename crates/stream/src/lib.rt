@@ -1,5 +1,5 @@
 // The streams of board calls and of grids that were written down once with the Rust's answers; oracle/README.md describes both and the
-// checksum. These functions read them. They are total: past the end of a stream every byte is 0.
+// checksum. These functions read them, and go through one from its start to its end. They are total: past the end of a stream every byte is 0.
 #![tactic(auto)]
 
 ghost use Rattle.std.specs.Prelude.{◌≡◌, length};
@@ -45,6 +45,23 @@ pub fn cells_at(stream: &[u8], place: usize, count: usize) -> [i64; 256]
             -1
         }
     })
+}
+
+// A stream has fewer sequences or grids than this.
+const MOST: u64 = 100000;
+
+// Goes through a stream of so many bytes, from one sequence or grid to the next: `replay` is asked for the one at a place, with its number from 1
+// on, and answers the place after it.
+pub fn replay_all<F: Fn(usize, u64) -> usize>(length: usize, replay: F)
+    requires { F.IsAlwaysCallable replay }
+{
+    let mut place = 0;
+    for number in 1..MOST {
+        if place >= length {
+            break;
+        }
+        place = replay(place, number);
+    }
 }
 
 // The checksum is below this prime, which is above every end as a number without a sign.
