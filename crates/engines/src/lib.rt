@@ -141,7 +141,7 @@ pub fn next_grid(kinds: &mut [u8]) -> bool
 }
 
 // The cell of a kind: 0 is blank, 1 is a hole, 2 + c is code c.
-fn cell_of_kind(kind: u8) -> i64
+pub fn cell_of_kind(kind: u8) -> i64
     ensures { result ≡ cell_of_kind kind }
 {
     match kind {

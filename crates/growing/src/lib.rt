@@ -1,5 +1,5 @@
 // The list of a file's wirings by a search that is run again and again, with limits that grow up to the one that is asked for, so that a long search
-// shows that it is alive: after each run `head` says on standard error how many boards it has visited and how many layouts it has found. Its
+// shows that it is alive: after each run `head` says, where it is told to, how many boards it has visited and how many layouts it has found. Its
 // contract is that of `listing::head` with the last limit: the runs before that one cannot be seen (specs/Limits.antt; crate `listing`,
 // specs/HeadAgain.antt). And how the limit is read from an argument. specs/Whole.antt says what a program prints with these.
 #![tactic(auto)]
@@ -10,9 +10,6 @@ ghost use Rattle.listing.specs.Listing.{Headed};
 ghost use Rattle.growing.specs.Limits.{says, first_limit, next_limit};
 
 use listing::Heading;
-
-// The number of standard error.
-const STDERR_FILENO: i32 = 2;
 
 const ZERO: u8 = 48;
 
@@ -66,35 +63,33 @@ fn next_limit(reached: u64, limit: u64) -> u64
     reached.saturating_mul(TIMES).min(limit)
 }
 
-// Says how far a run has come.
-fn print_progress(visited: u64, layouts: u64) {
+// Says how far a run has come. What cannot be written is passed over.
+fn print_progress(progress: &impl Print, visited: u64, layouts: u64) {
     let text = printed::progress_line(visited, layouts);
-    let bytes = text.bytes;
-    let length = text.length;
-    io::write_all(STDERR_FILENO, &bytes[..length]);
+    let _ = progress.write_all(&text.bytes[..text.length]);
 }
 
 // One run, of which it is said how far it has come; nothing is said of a refused file.
-fn run(file: &[u8], limit: u64, buffer: &mut [u8]) -> Heading
+fn run(progress: &impl Print, file: &[u8], limit: u64, buffer: &mut [u8]) -> Heading
     ensures { Headed limit file.now buffer.old result buffer.new }
 {
     let head = listing::head(file, limit, buffer);
     if head.number == 0 {
-        print_progress(head.visited, head.layouts as u64);
+        print_progress(progress, head.visited, head.layouts as u64);
     }
     head
 }
 
 // Reads the file, searches its grid into the buffer with growing limits, and gives the head of the text. It ends with a run that is not spent, since
 // a higher limit changes nothing then, or with the limit that is asked for.
-pub fn head(file: &[u8], limit: u64, buffer: &mut [u8]) -> Heading
+pub fn head(progress: &impl Print, file: &[u8], limit: u64, buffer: &mut [u8]) -> Heading
     ensures { Headed limit file.now buffer.old result buffer.new }
 {
     let mut reached = first_limit(limit);
-    let mut head = run(file, reached, buffer);
+    let mut head = run(progress, file, reached, buffer);
     while head.outcome == SPENT && reached < limit {
         reached = next_limit(reached, limit);
-        head = run(file, reached, buffer);
+        head = run(progress, file, reached, buffer);
     }
     head
 }

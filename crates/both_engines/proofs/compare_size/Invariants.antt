@@ -3,4 +3,4 @@ use Rattle.engines.specs.Kinds.{Kinds}
 use Rattle.both_engines.proofs.compare_size.Given as goal
 
 abbrev pub invariant-loop-number : goal.invariant-loop-number
-invariant-loop-number l = Kinds l.kinds
+invariant-loop-number g l = Kinds l.kinds

@@ -1,7 +1,7 @@
 -- `tabling::put_digits` meets its contract. The loop's invariant: a digit is put for each byte that was passed. Assumes nothing.
 use native.Mathlib.Omega.{arith}
 use Rattle.text.specs.PutLaws.{put_none}
-use Rattle.tabling.proofs.RowLaws.{digit_put, digits_put}
+use Rattle.tabling.proofs.RowLaws.{digit_put}
 use Rattle.tabling.proofs.put_digits.Goals as goal
 
 pub loop-at-init : goal.loop-at-init
