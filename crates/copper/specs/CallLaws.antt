@@ -1,6 +1,6 @@
 -- What `common` has answered and left when it returns is what the model says, test by test. It rests on the model's CommonLaws.antt, on the
 -- contract of `solve` and on OverlayLaws.antt.
-use Rattle.std.specs.Prelude.{ℕ, ◌+◌, ◌*◌, ◌-◌, ◌≤◌, ◌<◌, ◌≡◌, List, ◌++◌, length, replicate, drop, ℤ}
+use Rattle.std.specs.Prelude.{ℕ, ◌*◌, ◌-◌, ◌≤◌, ◌<◌, ◌≡◌, List, ◌++◌, length, replicate, drop, ℤ}
 use Rattle.std.proofs.Common.{sym, ap, ◌∙◌}
 use Rattle.rules.specs.Grid.{places}
 use Rattle.rules.specs.Places.{few_places}

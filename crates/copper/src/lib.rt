@@ -17,11 +17,7 @@ fn clear(table: &mut [u8], places: usize)
     requires { places ≤ length table.old }
     ensures { table.new ≡ replicate places 0 ++ drop places table.old }
 {
-    let mut i = 0;
-    while i < places {
-        table[i] = 0;
-        i += 1;
-    }
+    table[..places].fill(0);
 }
 
 // Lays one record over the table.
@@ -29,10 +25,8 @@ fn overlay(table: &mut [u8], layout: &[u8])
     requires { length layout.now ≤ length table.old }
     ensures { table.new ≡ overlaid table.old layout.now }
 {
-    let mut i = 0;
-    while i < layout.len() {
-        table[i] = table[i] | layout[i];
-        i += 1;
+    for (i, byte) in layout.iter().enumerate() {
+        table[i] |= *byte;
     }
 }
 
@@ -41,11 +35,9 @@ fn overlay_records(table: &mut [u8], buffer: &[u8], height: usize, width: usize,
     requires { places height width ≤ length table.old }
     ensures { table.new ≡ records_overlaid height width layouts buffer.now layouts 0 table.old }
 {
-    let mut k = 0;
-    while k < layouts {
+    for k in 0..layouts {
         let layout = records::record_at(height, width, layouts, k, buffer);
         overlay(table, layout);
-        k += 1;
     }
 }
 
