@@ -1,8 +1,11 @@
--- The slot of two pads, by how they stand; and the byte there. Assumes nothing.
+-- The slot of two pads, by how they stand; the byte there; and a test as a number, as the code and as the rules have it. Assumes nothing.
 use Prim.Native.Nat.{ℕ, ◌+◌, ◌*◌, ◌≤◌, ◌<◌}
 use mathlib.Core.Path.{◌≡◌, refl, sym, ap, ◌∙◌}
 use mathlib.Core.List.{List}
 use lib.ListN.{get_or, length}
+use mathlib.Core.Bool.{Bool, true, false}
+use Rattle.std.specs.Int.{from_bool}
+use Rattle.rules.specs.Drawing.{num}
 use Rattle.rules.specs.Grid.{first, Place}
 use Rattle.rules.specs.Record.{byte_at_place}
 use Rattle.grid.specs.PadsAt.{pads_of, place_of, IfEdge, edge_beside, edge_above, edge_nowhere, told_place}
@@ -38,3 +41,8 @@ module _ (width : ℕ) (p : Place) {pads : Pads} (are : pads ≡ pads_of width p
 
     pub byte_there : length edges ≡ 1024 → ((k : ℕ) → get_or edges k 2 ≤ 2) → (n ≡ 0 → ⊥) → n < 1024 → get_or edges n 0 ≡ byte_at_place (bytes_shown edges) p
     byte_there long bytes some inside = byte_at_slot edges long bytes p n (is ∙ ap slot_of_place told) some inside
+
+-- a test as a number
+pub test_number : (b : Bool) → from_bool b ≡ num b
+test_number true = refl
+test_number false = refl
