@@ -14,23 +14,12 @@ use mir.Val.{SFits, to_z, of_z}
 use mir.ValLaws.{to_z-of_z, to_z_pos}
 use borrow.Author.Tests.{lt-ltb, le-leb, eqb-true}
 use Rattle.std.specs.Prelude.{eqb}
-use Rattle.std.specs.Int.{from_bool}
-use Rattle.rules.specs.Drawing.{num}
 use Rattle.std.proofs.lemmas.Bool.{eqb-false}
 use Rattle.rules.specs.Grid.{CellInRange, blank_cell, cell_of, largest_code}
 use Rattle.rules.specs.Tests.{conflict}
 use Rattle.model.specs.PadTests.{is_blank, is_clue}
 use Rattle.boardview.specs.Signed.{from_bits}
 use Rattle.boardbare.specs.BareArrays.{bare_end_number, end_number_at, is_clue_at, is_taken}
-
--- a test as a number, as the code and as the rules have it
-pub test_number : (b : Bool) → from_bool b ≡ num b
-test_number true = refl
-test_number false = refl
-
-pub small_number : (b : Bool) → num b ≤ 1
-small_number true = omega arith
-small_number false = omega arith
 
 -- 0 - n, and then less 2
 minus : (n : ℕ) → pos 0 -ℤ pos n ≡ neg_ℤ (pos n)

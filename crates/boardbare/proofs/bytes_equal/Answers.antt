@@ -1,7 +1,7 @@
 -- `boardbare::bytes_equal` meets its contract: four tests are added up.
 use Rattle.std.proofs.Common.{arith}
 use Rattle.std.specs.Prelude.{eqb}
-use Rattle.boardbare.proofs.Codes.{test_number, small_number}
+use Rattle.boardbare.proofs.Numbers.{test_number, small_number}
 use Rattle.boardbare.proofs.bytes_equal.Goals as goal
 
 pub returns : goal.returns
