@@ -8,8 +8,10 @@ use Rattle.std.proofs.Math.ListN.{length-set}
 use Rattle.rules.specs.Grid.{Grid}
 use Rattle.model.specs.Board.{State}
 use Rattle.model.specs.Calls as model
-use Rattle.boardview.specs.View.{Arrays, logged, grid_in, Kinds, Ready, view}
-use Rattle.board.specs.Past.{before, back_to, Past, begun, marked, past_fresh, past_marked, same_many, as_many, standing_marks, one_more_mark}
+use Rattle.boardview.specs.declared.Arrays.{Arrays}
+use Rattle.boardview.specs.View.{logged, grid_in, Kinds, Ready, view}
+use Rattle.boardview.specs.Unwind.{before, back_to}
+use Rattle.board.specs.Past.{Past, begun, marked, past_fresh, past_marked, same_many, as_many, standing_marks, one_more_mark}
 use Rattle.board.specs.Held.{arrays_of, Held, Says}
 use Rattle.board.specs.declared.Board.{Board}
 
@@ -28,7 +30,7 @@ module _ (b : Board) (B : model.Board) (held : Held b B) where
   checkpoint_declined full = rw (le-ltb (length B.standing) 256 (omega (arith, standing_same)), model.add_checkpoint) (declined 12 held)
 
   abbrev marked_board : Board
-  marked_board = record { edges = b.edges; ends = b.ends; log = b.log; kind = b.kind; count = b.count; fresh = b.fresh; marks = set b.marks b.standing b.count; standing = b.standing + 1 }
+  marked_board = record { arrays = b.arrays; kind = b.kind; fresh = b.fresh; marks = set b.marks b.standing b.arrays.count; standing = b.standing + 1 }
 
   pub checkpoint_added : b.standing < 256 → Says (record { number = 0; answer = 0; board = marked_board }) (model.add_checkpoint B)
   unfolding model.add_checkpoint
@@ -41,9 +43,9 @@ module _ (b : Board) (B : model.Board) (held : Held b B) where
       ready = held.ready;
       shows = held.shows;
       few = omega arith;
-      many = length-set b.marks b.standing b.count ∙ held.many;
+      many = length-set b.marks b.standing b.arrays.count ∙ held.many;
       no_entries = held.no_entries;
-      past = rw (add-one b.standing, one_more_mark b.marks b.standing b.count (omega (arith, held.many)), ← held.shows)
+      past = rw (add-one b.standing, one_more_mark b.marks b.standing b.arrays.count (omega (arith, held.many)), ← held.shows)
           (past_marked (grid_in b.kind) B.grid (arrays_of b) held.ready held.past);
     };
   })
@@ -56,21 +58,17 @@ pub record CanGoBack (b : Board) (mark : ℕ) : Type 0 where
 
 unfoldable pub board_back : Board → ℕ → ℕ → Board
 board_back b mark standing = record {
-  edges = (back_to (grid_in b.kind).width (arrays_of b) mark).edges;
-  ends = (back_to (grid_in b.kind).width (arrays_of b) mark).ends;
-  log = b.log;
+  arrays = back_to (grid_in b.kind).width (arrays_of b) mark;
   kind = b.kind;
-  count = mark;
   fresh = b.fresh;
   marks = b.marks;
   standing = standing;
 }
 
-pub back : (b : Board) (mark standing : ℕ) {edges : List ℕ} {ends : List ℤ}
-    → ◌≡◌ {A = List ℕ × List ℤ} (edges, ends) (before (grid_in b.kind).width (arrays_of b) mark)
-    → record { edges = edges; ends = ends; log = b.log; kind = b.kind; count = mark; fresh = b.fresh; marks = b.marks; standing = standing } ≡ board_back b mark standing
-unfolding back_to board_back
-back b mark standing undone = ap (λ (E : List ℕ × List ℤ). record { edges = E.0; ends = E.1; log = b.log; kind = b.kind; count = mark; fresh = b.fresh; marks = b.marks; standing = standing }) undone
+pub back : (b : Board) (mark standing : ℕ) {s : Arrays} → s ≡ back_to (grid_in b.kind).width (arrays_of b) mark
+    → record { arrays = s; kind = b.kind; fresh = b.fresh; marks = b.marks; standing = standing } ≡ board_back b mark standing
+unfolding board_back
+back b mark standing undone = ap (λ (s : Arrays). record { arrays = s; kind = b.kind; fresh = b.fresh; marks = b.marks; standing = standing }) undone
 
 -- what the past says of the last checkpoint
 record LastMark (told g : Grid) (start : ℕ) (s : Arrays) (mark : ℕ) (marks : List ℕ) (states : List State) : Type 0 where

@@ -13,7 +13,8 @@ use Rattle.model.specs.Bounds.{is_size}
 use Rattle.model.specs.Refusals.{is_cell, first_bad_cell, grid_refusal}
 use Rattle.model.specs.RefusalLaws.{not_refused}
 use Rattle.model.specs.Calls as model
-use Rattle.boardview.specs.View.{Arrays, view, flag_in, grid_in, Decided}
+use Rattle.boardview.specs.declared.Arrays.{Arrays}
+use Rattle.boardview.specs.View.{view, flag_in, grid_in, Decided}
 use Rattle.boardfresh.specs.FreshView.{FreshBoard}
 use Rattle.boardview.specs.SameKinds.{shown_decides}
 use Rattle.boardview.specs.Undecided.{enough_here}
@@ -36,7 +37,7 @@ module _ (b : Board) (B : model.Board) (held : Held b B) (e : Edge) (m : EdgeSta
       ∙ ap (λ (f : ℕ). decide B.grid f e m B.state) same_bound
 
   pub decided_says : {answer : ℕ} → answer ≡ num (flag_in s.count)
-      → Says (record { number = 0; answer = answer; board = record { edges = s.edges; ends = s.ends; log = s.log; kind = b.kind; count = s.count; fresh = b.fresh; marks = b.marks; standing = b.standing } }) (model.decided B e m)
+      → Says (record { number = 0; answer = answer; board = record { arrays = s; kind = b.kind; fresh = b.fresh; marks = b.marks; standing = b.standing } }) (model.decided B e m)
   unfolding view
   decided_says flag = record {
     number = refl;
@@ -91,7 +92,7 @@ module _ (b : Board) (B : model.Board) (held : Held b B) (y x : ℕ) where
 -- THE FRESH BOARD
 pub fresh_held : (g : Grid) (edges : List ℕ) (ends : List ℤ) (kind : List ℕ) (count : ℕ) (log : List ℤ) (marks : List ℕ)
     → FreshBoard g edges ends kind count → length log ≡ 1440 → length marks ≡ 256
-    → Held (record { edges = edges; ends = ends; log = log; kind = kind; count = count; fresh = count; marks = marks; standing = 0 }) (model.fresh_board g)
+    → Held (record { arrays = record { edges = edges; ends = ends; log = log; count = count }; kind = kind; fresh = count; marks = marks; standing = 0 }) (model.fresh_board g)
 unfolding model.fresh_board standing_marks
 fresh_held g edges ends kind count log marks new long many = record {
   kinds = new.kinds;

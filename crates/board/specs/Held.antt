@@ -3,7 +3,8 @@
 use Rattle.std.specs.Prelude.{ℕ, ◌*◌, ◌%◌, ◌≤◌, ◌≡◌, length, take}
 use Rattle.rules.specs.Grid.{places}
 use Rattle.model.specs.Calls as model
-use Rattle.boardview.specs.View.{Arrays, grid_in, Kinds, Ready, view}
+use Rattle.boardview.specs.declared.Arrays.{Arrays}
+use Rattle.boardview.specs.View.{grid_in, Kinds, Ready, view}
 use Rattle.boardview.specs.SameKinds.{Shows as Told}
 use Rattle.board.specs.Past.{Past, standing_marks}
 use Rattle.board.specs.declared.Board.{Board}
@@ -12,7 +13,7 @@ use Rattle.board.specs.declared.Shown.{Shown}
 
 -- the arrays of a board
 abbrev pub arrays_of : Board → Arrays
-arrays_of b = record { edges = b.edges; ends = b.ends; log = b.log; count = b.count }
+arrays_of b = b.arrays
 
 -- HELD: the grid, the state, and the states at the standing checkpoints; behind them the fresh board, whose log is empty
 pub record Held (b : Board) (B : model.Board) : Type 0 where

@@ -8,17 +8,10 @@ use Rattle.std.proofs.Common.{ap, ◌∙◌, get_or-set_same, get_or-set_other}
 use native.Mathlib.Omega.{arith}
 use Rattle.rules.specs.Grid.{Grid}
 use Rattle.model.specs.Board.{State, fresh}
-use Rattle.boardview.specs.View.{Arrays, logged, view, Entry, Ready, unwound, Since}
+use Rattle.boardview.specs.declared.Arrays.{Arrays}
+use Rattle.boardview.specs.View.{logged, view, Entry, Ready, unwound, Since}
 use Rattle.boardview.specs.Stores.{relogged}
-use Rattle.boardview.specs.Unwind.{unwound_split, kept_unwound}
-
--- edges and ends as they were when the log had the length of this mark
-abbrev pub before : ℕ → Arrays → ℕ → List ℕ × List ℤ
-before width s mark = unwound width s.log (mark % 1024) (logged s - mark % 1024) (s.edges, s.ends)
-
--- the arrays after undoing back to a mark
-unfoldable pub back_to : ℕ → Arrays → ℕ → Arrays
-back_to width s mark = record { edges = (before width s mark).0; ends = (before width s mark).1; log = s.log; count = mark }
+use Rattle.boardview.specs.Unwind.{before, back_to, unwound_split, kept_unwound}
 
 -- THE PAST of a board: the marks of the standing checkpoints, the last one first, and the states that stood then; behind them the fresh board,
 -- at the mark `start`

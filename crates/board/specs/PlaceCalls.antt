@@ -54,9 +54,9 @@ module _ (b : Board) (B : model.Board) (held : Held b B) (y x : ℕ) (there : Pa
     pub says_no_state : (byte : ℕ) → (byte ≡ 1 → ⊥) → (byte ≡ 2 → ⊥) → Says (record { number = 11; answer = 0; board = b }) (model.decide_edge B y x byte)
     says_no_state byte not_one not_two = no_state b B held y x found.0 found.1 byte not_one not_two
 
-    pub says_byte : (n : ℕ) → n ≡ slot_of_place (place_of there) → n < 1024 → {byte : ℕ} → byte ≡ get_or b.edges n 0 → Says (record { number = 0; answer = byte; board = b }) (model.read_edge B y x)
+    pub says_byte : (n : ℕ) → n ≡ slot_of_place (place_of there) → n < 1024 → {byte : ℕ} → byte ≡ get_or b.arrays.edges n 0 → Says (record { number = 0; answer = byte; board = b }) (model.read_edge B y x)
     unfolding slot_of_place edges_only view
     says_byte n is inside same =
         let at : n ≡ slot found.0 = is ∙ ap slot_of_place its_edge in
         edge_read b B held y x found.0 found.1
-        (same ∙ ap (λ (k : ℕ). get_or b.edges k 0) at ∙ edge_byte b.edges held.ready.edges_long held.ready.bytes found.0 (rw at at inside))
+        (same ∙ ap (λ (k : ℕ). get_or b.arrays.edges k 0) at ∙ edge_byte b.arrays.edges held.ready.edges_long held.ready.bytes found.0 (rw at at inside))

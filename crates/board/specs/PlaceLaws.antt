@@ -13,7 +13,8 @@ use Rattle.model.specs.EdgeAtLaws.{row_outside, column_outside, in_field, edge_a
 use Rattle.grid.specs.PadsAt.{pads_of, place_of, has_edge, IfEdge, edge_beside, edge_above, edge_nowhere, told_place}
 use Rattle.grid.specs.declared.Pads.{Pads}
 use Rattle.grid.specs.declared.Pads.TheVariants.{Beside, Above, NoEdge}
-use Rattle.boardview.specs.View.{Arrays, Decided}
+use Rattle.boardview.specs.declared.Arrays.{Arrays}
+use Rattle.boardview.specs.View.{Decided}
 
 -- THE PADS AT A PLACE, by the tests that the code makes
 module _ (g : Grid) (y x : ℕ) where

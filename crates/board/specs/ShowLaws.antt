@@ -64,14 +64,14 @@ module _ (b : Board) (B : model.Board) (held : Held b B) where
   abbrev told : Grid
   told = grid_in b.kind
 
-  ends_shown : (n : ℕ) → n ≤ 256 → tabulate (end_at_index b.ends) 0 n ≡ tabulate (λ v. end_number ((view (arrays_of b)).end v)) 0 n
+  ends_shown : (n : ℕ) → n ≤ 256 → tabulate (end_at_index b.arrays.ends) 0 n ≡ tabulate (λ v. end_number ((view (arrays_of b)).end v)) 0 n
   unfolding view
-  ends_shown n few = tabulate_same (end_at_index b.ends) _ 0 n (λ v low below. default_free b.ends v (pos 0) (pos v) (omega (arith, held.ready.ends_long)) ∙ sym (number_of_end (get_or b.ends v (pos v))))
+  ends_shown n few = tabulate_same (end_at_index b.arrays.ends) _ 0 n (λ v low below. default_free b.arrays.ends v (pos 0) (pos v) (omega (arith, held.ready.ends_long)) ∙ sym (number_of_end (get_or b.arrays.ends v (pos v))))
 
   -- THE ANSWER SHOWS THE BOARD
   pub shown_says : (r : Shown) → r.height ≡ told.height → r.width ≡ told.width
-      → take (places told.height told.width) r.edges ≡ record_shown told b.edges → Laid (end_at_index b.ends) 256 r.ends 256
-      → r.flag ≡ flag_in b.count → Shows r B
+      → take (places told.height told.width) r.edges ≡ record_shown told b.arrays.edges → Laid (end_at_index b.arrays.ends) 256 r.ends 256
+      → r.flag ≡ flag_in b.arrays.count → Shows r B
   unfolding model.shown view record_shown edges_only
   shown_says r high wide edges ends flag = record {
     height = high ∙ held.told.height;
@@ -81,7 +81,7 @@ module _ (b : Board) (B : model.Board) (held : Held b B) where
     flag = flag ∙ ap (λ S. S.flag) held.shows;
   }
     where
-      same_field : record_shown told b.edges ≡ (model.shown B).edges
+      same_field : record_shown told b.arrays.edges ≡ (model.shown B).edges
       same_field = λ i. field (held.told.height i) (held.told.width i) (λ e. model.state_byte ((held.shows i).edge e))
 
       same_ends : tabulate (λ v. end_number ((view (arrays_of b)).end v)) 0 (pads told) ≡ (model.shown B).ends

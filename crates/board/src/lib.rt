@@ -16,21 +16,18 @@ ghost use Rattle.board.specs.ShowLaws.{Laid, end_at_index};
 ghost use Rattle.board.specs.CallLaws.{CanGoBack, board_back};
 
 use boardparts::FLAGGED;
+use boardview::Arrays;
 use grid::{Edge, Pads};
 
 // The most checkpoints that may stand.
 const MOST_CHECKPOINTS: usize = 256;
 
-// A byte for each edge, an end number for each pad, the log of decided edges, what is told of the grid, the log's length with the flag;
-// the count of the fresh board, to which undo with no checkpoint standing goes back, flag and all; and the marks of the standing
-// checkpoints: the count that stood then.
+// The arrays; what is told of the grid; the count of the fresh board, to which undo with no checkpoint standing goes back, flag and all;
+// and the marks of the standing checkpoints: the count that stood then.
 #[derive(Clone, Copy)]
 pub struct Board {
-    edges: [u8; 1024],
-    ends: [i64; 512],
-    log: [i64; 1440],
+    arrays: Arrays,
     kind: [u8; 1024],
-    count: usize,
     fresh: usize,
     marks: [usize; 256],
     standing: usize,
@@ -70,22 +67,14 @@ fn pads_at(kind: &[u8; 1024], y: usize, x: usize) -> Pads
 }
 
 // Decides the edge between two pads of the board; where there is none, nothing changes.
-fn decide_pads(
-    edges: &mut [u8; 1024],
-    ends: &mut [i64; 512],
-    log: &mut [i64; 1440],
-    kind: &[u8; 1024],
-    pads: Pads,
-    line: bool,
-    count: usize,
-) -> usize
-    requires { IfEdge (place_of pads) (λ e. OnBoard (grid_in kind.now) e) × Kinds kind.now × Ready (grid_in kind.now) (record { edges = edges.old; ends = ends.old; log = log.old; count = count }) }
-    ensures { IfEdge (place_of pads) (λ e. Decided (grid_in kind.now) (record { edges = edges.old; ends = ends.old; log = log.old; count = count }) e (line_or_none line) (record { edges = edges.new; ends = ends.new; log = log.new; count = result })) }
+fn decide_pads(arrays: &mut Arrays, kind: &[u8; 1024], pads: Pads, line: bool)
+    requires { IfEdge (place_of pads) (λ e. OnBoard (grid_in kind.now) e) × Kinds kind.now × Ready (grid_in kind.now) arrays.old }
+    ensures { IfEdge (place_of pads) (λ e. Decided (grid_in kind.now) arrays.old e (line_or_none line) arrays.new) }
 {
     match pads {
-        Pads::Beside(v, _) => decision::decide_right(edges, ends, log, kind, v, line, count),
-        Pads::Above(v, _) => decision::decide_down(edges, ends, log, kind, v, line, count),
-        Pads::NoEdge => count,
+        Pads::Beside(v, _) => decision::decide_right(arrays, kind, v, line),
+        Pads::Above(v, _) => decision::decide_down(arrays, kind, v, line),
+        Pads::NoEdge => (),
     }
 }
 
@@ -94,12 +83,6 @@ fn flag_number(count: usize) -> usize
     ensures { result ≡ num (flag_in count) }
 {
     if count < FLAGGED { 0 } else { 1 }
-}
-
-fn no_entries() -> [i64; 1440]
-    ensures { length result ≡ 1440 }
-{
-    [0; 1440]
 }
 
 fn no_bytes() -> [u8; 961]
@@ -136,16 +119,12 @@ fn fresh(height: usize, width: usize, cells: &[i64]) -> Board
     requires { Accepted height width cells.now }
     ensures { Held result (model.fresh_board (grid_of height width cells.now)) }
 {
-    let arrays = boardfresh::fresh_board(height, width, cells);
-    let edges = arrays.edges;
-    let ends = arrays.ends;
-    let kind = arrays.kind;
+    let fresh = boardfresh::fresh_board(height, width, cells);
+    let arrays = fresh.board;
+    let kind = fresh.kind;
     Board {
-        edges,
-        ends,
-        log: no_entries(),
+        arrays,
         kind,
-        count: arrays.count,
         fresh: arrays.count,
         marks: no_marks(),
         standing: 0,
@@ -164,33 +143,13 @@ fn decided(board: Board, pads: Pads, line: bool) -> Answer
     requires { IsBoard board × IfEdge (place_of pads) (λ e. OnBoard (grid_in board.kind) e) }
     ensures { (B : model.Board) → Held board B → IfEdge (place_of pads) (λ e. Says result (model.decided B e (line_or_none line))) }
 {
-    let mut edges = board.edges;
-    let mut ends = board.ends;
-    let mut log = board.log;
-    let kind = board.kind;
-    let marks = board.marks;
-    let count = decide_pads(
-        &mut edges,
-        &mut ends,
-        &mut log,
-        &kind,
-        pads,
-        line,
-        board.count,
-    );
+    let mut after = board;
+    decide_pads(&mut after.arrays, &after.kind, pads, line);
+    let answer = flag_number(after.arrays.count);
     Answer {
         number: 0,
-        answer: flag_number(count),
-        board: Board {
-            edges,
-            ends,
-            log,
-            kind,
-            count,
-            fresh: board.fresh,
-            marks,
-            standing: board.standing,
-        },
+        answer,
+        board: after,
     }
 }
 
@@ -199,30 +158,10 @@ fn back_to(board: Board, mark: usize, standing: usize) -> Board
     requires { CanGoBack board mark }
     ensures { result ≡ board_back board mark standing }
 {
-    let mut edges = board.edges;
-    let mut ends = board.ends;
-    let log = board.log;
-    let kind = board.kind;
-    let marks = board.marks;
-    let count = board.count;
-    boardundo::undo(
-        &mut edges,
-        &mut ends,
-        &log,
-        &kind,
-        count % FLAGGED,
-        mark % FLAGGED,
-    );
-    Board {
-        edges,
-        ends,
-        log,
-        kind,
-        count: mark,
-        fresh: board.fresh,
-        marks,
-        standing,
-    }
+    let mut before = board;
+    boardundo::undo(&mut before.arrays, &before.kind, mark);
+    before.standing = standing;
+    before
 }
 
 // The record of the edges; past it the bytes are of no account.
@@ -294,7 +233,7 @@ impl Board {
         ensures { (B : model.Board) → Held self B → Says result (model.read_edge B y x) }
     {
         let kind = self.kind;
-        let edges = self.edges;
+        let edges = self.arrays.edges;
         let pads = pads_at(&kind, y, x);
         if !grid::is_edge(pads) {
             return declined(self, 10);
@@ -317,7 +256,7 @@ impl Board {
             return declined(self, 12);
         }
         let mut board = self;
-        board.marks[standing] = self.count;
+        board.marks[standing] = self.arrays.count;
         board.standing = standing + 1;
         Answer {
             number: 0,
@@ -345,14 +284,14 @@ impl Board {
         ensures { (B : model.Board) → Held self B → Shows result B }
     {
         let kind = self.kind;
-        let edges = self.edges;
-        let ends = self.ends;
+        let edges = self.arrays.edges;
+        let ends = self.arrays.ends;
         Shown {
             height: boardparts::height(&kind),
             width: boardparts::width(&kind),
             edges: record_of(&edges, &kind),
             ends: shown_ends(&ends),
-            flag: self.count >= FLAGGED,
+            flag: self.arrays.count >= FLAGGED,
         }
     }
 }

@@ -13,7 +13,8 @@ use Rattle.rules.specs.Drawing.{Side}
 use Rattle.model.specs.JoinedEnds.{at_pad, bare_end}
 use Rattle.model.specs.PadTests.{is_blank, is_clue, on_board}
 use Rattle.model.specs.Board.{undecided, none, barred, bare}
-use Rattle.boardview.specs.View.{pick, Arrays, slot, slot_on, state_of, end_of, end_at, view, has_bit, clue_bit, taken_bit, corner_bit, bar_bit, cell_in, grid_in, Kinds, Ready}
+use Rattle.boardview.specs.declared.Arrays.{Arrays}
+use Rattle.boardview.specs.View.{pick, slot, slot_on, state_of, end_of, end_at, view, has_bit, clue_bit, taken_bit, corner_bit, bar_bit, cell_in, grid_in, Kinds, Ready}
 use Rattle.model.specs.Lists.{default_free}
 use Rattle.boardview.specs.Bytes.{edge_on}
 use Rattle.boardview.specs.SameKinds.{plain_cell, plain, same_barred, Shows, shown_plain}

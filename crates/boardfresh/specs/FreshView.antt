@@ -6,7 +6,8 @@ use Rattle.std.proofs.Math.Path.{ap}
 use Rattle.std.proofs.lemmas.Bool.{lt-leb}
 use Rattle.rules.specs.Grid.{Grid, pads}
 use Rattle.model.specs.Board.{State, bare, prepared, fresh}
-use Rattle.boardview.specs.View.{pick, Arrays, flag_in, view, grid_in, Kinds, Ready}
+use Rattle.boardview.specs.declared.Arrays.{Arrays}
+use Rattle.boardview.specs.View.{pick, flag_in, view, grid_in, Kinds, Ready}
 use Rattle.boardview.specs.SameKinds.{Shows, shown_prepares}
 use Rattle.boardview.specs.Stores.{relogged}
 use Rattle.boardbare.specs.BareView.{BareBoard}

@@ -12,7 +12,8 @@ use Rattle.rules.specs.Grid.{Edge, right, down, Grid, pads}
 use Rattle.rules.specs.Tests.{is_so}
 use Rattle.model.specs.PadTests.{is_hole, has_left, has_right, has_up, has_down}
 use Rattle.model.specs.Board.{State, none, with_edge, around, decide, enough, shut, shut_at, prepared}
-use Rattle.boardview.specs.View.{pick, Arrays, view, edge_of, slot, slot_on, state_of, ended, has_bit, clue_bit, taken_bit, cell_in, grid_in, Ready, Decided, NoneAt}
+use Rattle.boardview.specs.declared.Arrays.{Arrays}
+use Rattle.boardview.specs.View.{pick, view, edge_of, slot, slot_on, state_of, ended, has_bit, clue_bit, taken_bit, cell_in, grid_in, Ready, Decided, NoneAt}
 use Rattle.boardview.specs.Bytes.{elim_true, elim_false, slot_of_edge, on_slot, right_slot, down_slot}
 use Rattle.boardview.specs.Geometry.{slot_left, slot_right, slot_up, slot_down, edge_left, edge_up}
 use Rattle.boardview.specs.Stores.{flag_of_ended}

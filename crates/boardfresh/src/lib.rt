@@ -12,6 +12,7 @@ ghost use Rattle.boardfresh.specs.Shutting.{Shown, shut_slot};
 ghost use Rattle.boardfresh.specs.FreshView.{restarted, FreshBoard};
 
 use boardparts::{CLUE, ENDED, FLAGGED, TAKEN};
+use boardview::Arrays;
 use grid::Edge;
 
 // The byte of an edge that is none, as the edge type names it.
@@ -29,66 +30,43 @@ fn is_hole(kind: &[u8; 1024], v: usize) -> bool
 }
 
 // Puts the edge at a slot to a decision as none. An edge that is none already stays so, and off the board stands none for ever.
-fn shut_edge(
-    edges: &mut [u8; 1024],
-    ends: &mut [i64; 512],
-    log: &mut [i64; 1440],
-    kind: &[u8; 1024],
-    slot: usize,
-    count: usize,
-) -> usize
-    requires { (slot < 1024) × Kinds kind.now × Ready (grid_in kind.now) (record { edges = edges.old; ends = ends.old; log = log.old; count = count }) }
-    ensures { Shown (grid_in kind.now) (record { edges = edges.new; ends = ends.new; log = log.new; count = result })
-        (shut_slot (grid_in kind.now) slot (view (record { edges = edges.old; ends = ends.old; log = log.old; count = count }))) }
+fn shut_edge(board: &mut Arrays, kind: &[u8; 1024], slot: usize)
+    requires { (slot < 1024) × Kinds kind.now × Ready (grid_in kind.now) board.old }
+    ensures { Shown (grid_in kind.now) board.new
+        (shut_slot (grid_in kind.now) slot (view board.old)) }
 {
-    if edges[slot] == NONE {
-        return count;
+    if board.edges[slot] == NONE {
+        return;
     }
-    decision::decide_none(edges, ends, log, kind, slot, count)
+    decision::decide_none(board, kind, slot);
 }
 
 // Puts the edges at a pad to a decision as none, if it is a hole: left, right, up, down.
-fn shut_pad(
-    edges: &mut [u8; 1024],
-    ends: &mut [i64; 512],
-    log: &mut [i64; 1440],
-    kind: &[u8; 1024],
-    v: usize,
-    count: usize,
-) -> usize
-    requires { (v < pads (grid_in kind.now)) × Kinds kind.now × Ready (grid_in kind.now) (record { edges = edges.old; ends = ends.old; log = log.old; count = count }) }
-    ensures { Shown (grid_in kind.now) (record { edges = edges.new; ends = ends.new; log = log.new; count = result })
-        (shut_at (grid_in kind.now) v (view (record { edges = edges.old; ends = ends.old; log = log.old; count = count }))) }
+fn shut_pad(board: &mut Arrays, kind: &[u8; 1024], v: usize)
+    requires { (v < pads (grid_in kind.now)) × Kinds kind.now × Ready (grid_in kind.now) board.old }
+    ensures { Shown (grid_in kind.now) board.new
+        (shut_at (grid_in kind.now) v (view board.old)) }
 {
     if !is_hole(kind, v) {
-        return count;
+        return;
     }
     let width = boardparts::width(kind);
-    let left = shut_edge(edges, ends, log, kind, 30 + 2 * v, count);
-    let right = shut_edge(edges, ends, log, kind, 32 + 2 * v, left);
-    let up = shut_edge(edges, ends, log, kind, 33 + 2 * v - 2 * width, right);
-    shut_edge(edges, ends, log, kind, 33 + 2 * v, up)
+    shut_edge(board, kind, 30 + 2 * v);
+    shut_edge(board, kind, 32 + 2 * v);
+    shut_edge(board, kind, 33 + 2 * v - 2 * width);
+    shut_edge(board, kind, 33 + 2 * v);
 }
 
 // Shuts all holes, in index order.
-fn shut_holes(
-    edges: &mut [u8; 1024],
-    ends: &mut [i64; 512],
-    log: &mut [i64; 1440],
-    kind: &[u8; 1024],
-) -> usize
-    requires { Kinds kind.now × Ready (grid_in kind.now) (record { edges = edges.old; ends = ends.old; log = log.old; count = 0 }) }
-    ensures { Shown (grid_in kind.now) (record { edges = edges.new; ends = ends.new; log = log.new; count = result })
-        (prepared (grid_in kind.now) (pads (grid_in kind.now)) 0 (view (record { edges = edges.old; ends = ends.old; log = log.old; count = 0 }))) }
+fn shut_holes(board: &mut Arrays, kind: &[u8; 1024])
+    requires { Kinds kind.now × Ready (grid_in kind.now) board.old }
+    ensures { Shown (grid_in kind.now) board.new
+        (prepared (grid_in kind.now) (pads (grid_in kind.now)) 0 (view board.old)) }
 {
     let pads = boardparts::height(kind) * boardparts::width(kind);
-    let mut count = 0;
-    let mut v = 0;
-    while v < pads {
-        count = shut_pad(edges, ends, log, kind, v, count);
-        v += 1;
+    for v in 0..pads {
+        shut_pad(board, kind, v);
     }
-    count
 }
 
 // The count of a log that begins anew, with the flag as it is.
@@ -101,30 +79,30 @@ fn restart(count: usize) -> usize
     ENDED
 }
 
-// The arrays of a fresh board, and its count: the log is empty, and the flag may be set.
+// The arrays of a fresh board, whose log is empty and whose flag may be set, and the kinds of its pads.
 #[derive(Clone, Copy)]
 pub struct Fresh {
-    pub edges: [u8; 1024],
-    pub ends: [i64; 512],
+    pub board: Arrays,
     pub kind: [u8; 1024],
-    pub count: usize,
 }
 
 // The arrays of the fresh board of an accepted grid.
 pub fn fresh_board(height: usize, width: usize, cells: &[i64]) -> Fresh
     requires { Accepted height width cells.now }
-    ensures { FreshBoard (grid_of height width cells.now) result.edges result.ends result.kind result.count }
+    ensures { FreshBoard (grid_of height width cells.now) result.board.edges result.board.ends result.kind result.board.count × (length result.board.log ≡ 1440) }
 {
     let bare = boardbare::bare_board(height, width, cells);
-    let mut edges = bare.edges;
-    let mut ends = bare.ends;
+    let edges = bare.edges;
+    let ends = bare.ends;
     let kind = bare.kind;
-    let mut log = [0i64; 1440];
-    let count = shut_holes(&mut edges, &mut ends, &mut log, &kind);
-    Fresh {
+    let log = [0i64; 1440];
+    let mut board = Arrays {
         edges,
         ends,
-        kind,
-        count: restart(count),
-    }
+        log,
+        count: 0,
+    };
+    shut_holes(&mut board, &kind);
+    board.count = restart(board.count);
+    Fresh { board, kind }
 }

@@ -5,10 +5,11 @@
 ghost use Rattle.std.specs.Prelude.{◌≡◌, true, false, ℕ, ◌+◌, ◌*◌, ◌-◌, ◌/◌, ◌%◌, ◌≤◌, ◌<◌, get_or, set, length, eqb, ltb, pos};
 ghost use Rattle.rules.specs.Drawing.{num};
 ghost use Rattle.model.specs.JoinedEnds.{is_through, unjoinable};
-ghost use Rattle.boardview.specs.View.{pick, stopped, ended, going, end_at, has_bit, grid_in, second_pad, joined, pad_number, code_number, rival, keeps_apart, clue_apart, slot_around, past_around, action_around, Kinds};
+ghost use Rattle.boardview.specs.View.{logged, pick, stopped, ended, going, end_at, has_bit, grid_in, second_pad, joined, pad_number, code_number, rival, keeps_apart, clue_apart, slot_around, past_around, action_around, Kinds};
 ghost use Rattle.boardview.specs.Actions.{action_index};
-ghost use Rattle.boardview.specs.Unwind.{log_stored, log_joined, LineBegun};
+ghost use Rattle.boardview.specs.Unwind.{stored, log_joined, LineBegun};
 
+use boardview::Arrays;
 use grid::Edge;
 
 // The bytes of an edge's states, as the edge type names them.
@@ -200,25 +201,25 @@ pub fn cannot_join(ends: &[i64; 512], v: usize, q: usize) -> bool
 }
 
 // Stores the state of an edge, and an entry of the log for it.
-pub fn store(edges: &mut [u8; 1024], log: &mut [i64; 1440], slot: usize, state: u8, count: usize)
-    requires { (slot < 1024) × (count % 1024 < 480) }
-    ensures { (edges.new ≡ set edges.old slot state) × (log.new ≡ log_stored log.old (count % 1024) slot) }
+pub fn store(board: &mut Arrays, slot: usize, state: u8)
+    requires { (slot < 1024) × (logged board.old < 480) }
+    ensures { board.new ≡ stored board.old slot state }
 {
-    let k = 3 * (count % FLAGGED);
-    edges[slot] = state;
-    log[k] = slot as i64;
-    log[k + 1] = -1;
+    let k = 3 * (board.count % FLAGGED);
+    board.edges[slot] = state;
+    board.log[k] = slot as i64;
+    board.log[k + 1] = -1;
 }
 
 // Stores an entry of the log for a line that joins the chains of pads v and q.
-fn log_line(ends: &[i64; 512], log: &mut [i64; 1440], slot: usize, v: usize, q: usize, count: usize)
-    requires { (slot < 1024) × (v < 512) × (q < 512) × (count % 1024 < 480) × (length ends.now ≡ 512) }
-    ensures { log.new ≡ log_joined log.old (count % 1024) slot (get_or ends.now v (pos v)) (get_or ends.now q (pos q)) }
+fn log_line(board: &mut Arrays, slot: usize, v: usize, q: usize)
+    requires { (slot < 1024) × (v < 512) × (q < 512) × (logged board.old < 480) × (length board.old.ends ≡ 512) }
+    ensures { board.new ≡ record { edges = board.old.edges; ends = board.old.ends; log = log_joined board.old.log (logged board.old) slot (get_or board.old.ends v (pos v)) (get_or board.old.ends q (pos q)); count = board.old.count } }
 {
-    let k = 3 * (count % FLAGGED);
-    log[k] = slot as i64;
-    log[k + 1] = ends[v];
-    log[k + 2] = ends[q];
+    let k = 3 * (board.count % FLAGGED);
+    board.log[k] = slot as i64;
+    board.log[k + 1] = board.ends[v];
+    board.log[k + 2] = board.ends[q];
 }
 
 // Step c: both pads get -1, then pad A (if there is one) gets B and pad B gets A.
@@ -248,54 +249,39 @@ pub fn join_ends(ends: &mut [i64; 512], v: usize, q: usize)
 
 // Steps b and c of a line between pads v and q: its byte and an entry of the log are stored; the ends of its pads are joined, or, where they
 // cannot be, the flag is set and the decision has ended.
-pub fn begin_line(
-    edges: &mut [u8; 1024],
-    ends: &mut [i64; 512],
-    log: &mut [i64; 1440],
-    slot: usize,
-    v: usize,
-    q: usize,
-    count: usize,
-) -> usize
-    requires { (slot < 1024) × (v < 512) × (q < 512) × (count < 3072) × (count % 1024 < 480) × (length ends.old ≡ 512) }
-    ensures { LineBegun (record { edges = edges.old; ends = ends.old; log = log.old; count = count }) slot v q
-        (record { edges = edges.new; ends = ends.new; log = log.new; count = result }) }
+pub fn begin_line(board: &mut Arrays, slot: usize, v: usize, q: usize)
+    requires { (slot < 1024) × (v < 512) × (q < 512) × (board.old.count < 3072) × (logged board.old < 480) × (length board.old.ends ≡ 512) }
+    ensures { LineBegun board.old slot v q board.new }
 {
-    if cannot_join(ends, v, q) {
-        store(edges, log, slot, LINE, count);
-        return stop(count) + 1;
+    if cannot_join(&board.ends, v, q) {
+        store(board, slot, LINE);
+        board.count = stop(board.count) + 1;
+        return;
     }
-    log_line(ends, log, slot, v, q, count);
-    join_ends(ends, v, q);
-    edges[slot] = LINE;
-    go_on(count) + 1
+    log_line(board, slot, v, q);
+    join_ends(&mut board.ends, v, q);
+    board.edges[slot] = LINE;
+    board.count = go_on(board.count) + 1;
 }
 
 // The edge at a slot is to be none, since it leads to a pad whose end is of another clue than `code`. `past` is 16 more than that pad.
-fn keeps_apart(edges: &[u8; 1024], ends: &[i64; 512], code: usize, slot: usize, past: usize) -> bool
-    requires { (slot < 1024) × (past < 528) × (get_or edges.now slot 0 ≡ 0 → 16 ≤ past) × (length ends.now ≡ 512) }
-    ensures { result ≡ keeps_apart edges.now ends.now code slot (past - 16) }
+fn keeps_apart(board: &Arrays, code: usize, slot: usize, past: usize) -> bool
+    requires { (slot < 1024) × (past < 528) × (get_or board.now.edges slot 0 ≡ 0 → 16 ≤ past) × (length board.now.ends ≡ 512) }
+    ensures { result ≡ keeps_apart board.now.edges board.now.ends code slot (past - 16) }
 {
-    if edges[slot] == UNDECIDED {
-        return rivals(code, end_code(ends, past - 16));
+    if board.edges[slot] == UNDECIDED {
+        return rivals(code, end_code(&board.ends, past - 16));
     }
     false
 }
 
 // The slot if its edge is to be none and the decision goes on, else slot 0, which holds none for ever.
-pub fn slot_apart(
-    edges: &[u8; 1024],
-    ends: &[i64; 512],
-    code: usize,
-    slot: usize,
-    past: usize,
-    count: usize,
-) -> usize
-    requires { (slot < 1024) × (past < 528) × (get_or edges.now slot 0 ≡ 0 → 16 ≤ past) × (length ends.now ≡ 512) }
-    ensures { (result ≡ pick (ltb count 2048) (pick (keeps_apart edges.now ends.now code slot (past - 16)) slot 0) 0) × (result < 1024) }
+pub fn slot_apart(board: &Arrays, code: usize, slot: usize, past: usize) -> usize
+    requires { (slot < 1024) × (past < 528) × (get_or board.now.edges slot 0 ≡ 0 → 16 ≤ past) × (length board.now.ends ≡ 512) }
+    ensures { (result ≡ pick (ltb board.now.count 2048) (pick (keeps_apart board.now.edges board.now.ends code slot (past - 16)) slot 0) 0) × (result < 1024) }
 {
-    if count < ENDED {
-        if keeps_apart(edges, ends, code, slot, past) {
+    if board.count < ENDED {
+        if keeps_apart(board, code, slot, past) {
             return slot;
         }
         return 0;
@@ -314,32 +300,32 @@ pub fn count_after(slot: usize, before: usize, after: usize) -> usize
 }
 
 // One of the four edges at a pad is to be none.
-fn some_apart(edges: &[u8; 1024], ends: &[i64; 512], width: usize, v: usize) -> bool
-    requires { (v < 256) × (2 ≤ width) × (width ≤ 16) × (length ends.now ≡ 512) × (get_or edges.now (30 + 2 * v) 0 ≡ 0 → 1 ≤ v) × (get_or edges.now (33 + 2 * v - 2 * width) 0 ≡ 0 → width ≤ v) }
-    ensures { result ≡ clue_apart edges.now ends.now width v }
+fn some_apart(board: &Arrays, width: usize, v: usize) -> bool
+    requires { (v < 256) × (2 ≤ width) × (width ≤ 16) × (length board.now.ends ≡ 512) × (get_or board.now.edges (30 + 2 * v) 0 ≡ 0 → 1 ≤ v) × (get_or board.now.edges (33 + 2 * v - 2 * width) 0 ≡ 0 → width ≤ v) }
+    ensures { result ≡ clue_apart board.now.edges board.now.ends width v }
 {
-    let code = end_code(ends, v);
+    let code = end_code(&board.ends, v);
     if code == 0 {
         return false;
     }
-    if keeps_apart(edges, ends, code, 30 + 2 * v, 15 + v) {
+    if keeps_apart(board, code, 30 + 2 * v, 15 + v) {
         return true;
     }
-    if keeps_apart(edges, ends, code, 32 + 2 * v, 17 + v) {
+    if keeps_apart(board, code, 32 + 2 * v, 17 + v) {
         return true;
     }
-    if keeps_apart(edges, ends, code, 33 + 2 * v - 2 * width, 16 + v - width) {
+    if keeps_apart(board, code, 33 + 2 * v - 2 * width, 16 + v - width) {
         return true;
     }
-    keeps_apart(edges, ends, code, 33 + 2 * v, 16 + v + width)
+    keeps_apart(board, code, 33 + 2 * v, 16 + v + width)
 }
 
 // Behind the last of a pad's four sides if none of its edges is to be none, else the first side.
-pub fn first_side(edges: &[u8; 1024], ends: &[i64; 512], width: usize, v: usize) -> usize
-    requires { (v < 256) × (2 ≤ width) × (width ≤ 16) × (length ends.now ≡ 512) × (get_or edges.now (30 + 2 * v) 0 ≡ 0 → 1 ≤ v) × (get_or edges.now (33 + 2 * v - 2 * width) 0 ≡ 0 → width ≤ v) }
-    ensures { result ≡ pick (clue_apart edges.now ends.now width v) 0 4 }
+pub fn first_side(board: &Arrays, width: usize, v: usize) -> usize
+    requires { (v < 256) × (2 ≤ width) × (width ≤ 16) × (length board.now.ends ≡ 512) × (get_or board.now.edges (30 + 2 * v) 0 ≡ 0 → 1 ≤ v) × (get_or board.now.edges (33 + 2 * v - 2 * width) 0 ≡ 0 → width ≤ v) }
+    ensures { result ≡ pick (clue_apart board.now.edges board.now.ends width v) 0 4 }
 {
-    if some_apart(edges, ends, width, v) {
+    if some_apart(board, width, v) {
         return 0;
     }
     4

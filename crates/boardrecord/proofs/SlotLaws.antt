@@ -1,46 +1,55 @@
 -- The slot of two pads, by how they stand; the byte there; and a test as a number, as the code and as the rules have it. Assumes nothing.
 use Prim.Native.Nat.{ℕ, ◌+◌, ◌*◌, ◌≤◌, ◌<◌}
-use mathlib.Core.Path.{◌≡◌, refl, sym, ap, ◌∙◌}
+use mathlib.Core.Path.{◌≡◌, refl, sym, ap, subst}
 use mathlib.Core.List.{List}
 use lib.ListN.{get_or, length}
 use mathlib.Core.Bool.{Bool, true, false}
 use Rattle.std.specs.Int.{from_bool}
 use Rattle.rules.specs.Drawing.{num}
-use Rattle.rules.specs.Grid.{first, Place}
+use Rattle.rules.specs.Grid.{first, Place, edge}
 use Rattle.rules.specs.Record.{byte_at_place}
-use Rattle.grid.specs.PadsAt.{pads_of, place_of, IfEdge, edge_beside, edge_above, edge_nowhere, told_place}
+use Rattle.std.specs.Prelude.{Some, None}
+use Rattle.grid.specs.PadsAt.{pads_of, edge_of, place_of, IfEdge, told_place}
 use Rattle.grid.specs.declared.Pads.{Pads}
-use Rattle.grid.specs.declared.Pads.TheVariants.{Beside, Above, NoEdge}
+use Rattle.grid.specs.declared.Pads.TheVariants.{Beside, Above}
+use Rattle.boardview.specs.View.{slot}
 use Rattle.boardview.specs.ShownRecord.{bytes_shown, slot_of_place}
-use Rattle.boardview.specs.ShownRecordLaws.{no_byte, byte_at_slot}
+use Rattle.boardview.specs.ShownRecordLaws.{no_byte, edge_byte}
 
-module _ (pads : Pads) where
-  pub slot_beside : {a b : ℕ} → pads ≡ Beside a b → 32 + 2 * a ≡ slot_of_place (place_of pads)
-  unfolding slot_of_place
-  slot_beside are = rw (edge_beside pads are) refl
+-- the slot of two pads, by how they stand
+module _ (pads : Pads) (small : first (edge_of pads) < 256) {a b : ℕ} where
+  pub small_beside : pads ≡ Beside a b → a < 256
+  unfolding edge_of
+  small_beside are = subst (λ p. first (edge_of p) < 256) are small
 
-  pub slot_above : {a b : ℕ} → pads ≡ Above a b → 33 + 2 * a ≡ slot_of_place (place_of pads)
-  unfolding slot_of_place
-  slot_above are = rw (edge_above pads are) refl
+  pub small_above : pads ≡ Above a b → a < 256
+  unfolding edge_of
+  small_above are = subst (λ p. first (edge_of p) < 256) are small
 
-  pub no_slot : pads ≡ NoEdge → 0 ≡ slot_of_place (place_of pads)
-  unfolding slot_of_place
-  no_slot none = rw (edge_nowhere pads none) refl
+  pub slot_beside : pads ≡ Beside a b → 32 + 2 * a ≡ slot (edge_of pads)
+  unfolding edge_of
+  slot_beside are = rw are refl
 
--- the slot that was found for the pads of a place
-module _ (width : ℕ) (p : Place) {pads : Pads} (are : pads ≡ pads_of width p) where
-  told : place_of pads ≡ p
-  told = told_place width p are
+  pub slot_above : pads ≡ Above a b → 33 + 2 * a ≡ slot (edge_of pads)
+  unfolding edge_of
+  slot_above are = rw are refl
 
-  pub told_small : IfEdge p (λ e. first e < 256) → IfEdge (place_of pads) (λ e. first e < 256)
-  told_small small = λ e is. small e (sym told ∙ is)
+-- the pads that were found at a place
+module _ (width : ℕ) (p : Place) where
+  module _ {pads : Pads} (are : Some pads ≡ pads_of width p) where
+    told : edge (edge_of pads) ≡ p
+    unfolding place_of
+    told = told_place width p are
 
-  module _ (edges : List ℕ) {n : ℕ} (is : n ≡ slot_of_place (place_of pads)) where
-    pub nothing_there : n ≡ 0 → 0 ≡ byte_at_place (bytes_shown edges) p
-    nothing_there z = no_byte edges p (sym z ∙ is ∙ ap slot_of_place told)
+    pub told_small : IfEdge p (λ e. first e < 256) → first (edge_of pads) < 256
+    told_small small = small (edge_of pads) (sym told)
 
-    pub byte_there : length edges ≡ 1024 → ((k : ℕ) → get_or edges k 2 ≤ 2) → (n ≡ 0 → ⊥) → n < 1024 → get_or edges n 0 ≡ byte_at_place (bytes_shown edges) p
-    byte_there long bytes some inside = byte_at_slot edges long bytes p n (is ∙ ap slot_of_place told) some inside
+    pub byte_there : (edges : List ℕ) → length edges ≡ 1024 → ((k : ℕ) → get_or edges k 2 ≤ 2) → {n : ℕ} → n ≡ slot (edge_of pads) → n < 1024 → get_or edges n 0 ≡ byte_at_place (bytes_shown edges) p
+    byte_there edges long bytes {n} is inside = subst (λ q. get_or edges n 0 ≡ byte_at_place (bytes_shown edges) q) told (rw is (edge_byte edges long bytes (edge_of pads) (rw is at inside)))
+
+  pub nothing_there : None ≡ pads_of width p → (edges : List ℕ) → 0 ≡ byte_at_place (bytes_shown edges) p
+  unfolding slot_of_place place_of
+  nothing_there none edges = no_byte edges p (ap slot_of_place (told_place width p none))
 
 -- a test as a number
 pub test_number : (b : Bool) → from_bool b ≡ num b

@@ -5,10 +5,10 @@
 ghost use Rattle.std.specs.Prelude.{◌≡◌, ℕ, ◌+◌, ◌*◌, ◌≤◌, ◌<◌, length, get_or};
 ghost use Rattle.rules.specs.Grid.{first, field_side, places, place_at};
 ghost use Rattle.rules.specs.Record.{byte_at_place, record_lines};
-ghost use Rattle.grid.specs.PadsAt.{place_of, IfEdge};
-ghost use Rattle.boardview.specs.View.{grid_in, Kinds};
+ghost use Rattle.grid.specs.PadsAt.{edge_of};
+ghost use Rattle.boardview.specs.View.{grid_in, slot, Kinds};
 ghost use Rattle.model.specs.PutBytes.{put_bytes};
-ghost use Rattle.boardview.specs.ShownRecord.{bytes_shown, row_shown, record_shown, slot_of_place};
+ghost use Rattle.boardview.specs.ShownRecord.{bytes_shown, row_shown, record_shown};
 
 use grid::{Edge, Pads};
 
@@ -25,15 +25,14 @@ pub fn record_size(kind: &[u8; 1024]) -> usize
     (2 * boardparts::height(kind) - 1) * (2 * boardparts::width(kind) - 1)
 }
 
-// The slot of the edge between two pads; 0 where there is no edge.
+// The slot of the edge between two pads.
 pub fn slot_of(pads: Pads) -> usize
-    requires { IfEdge (place_of pads) (λ e. first e < 256) }
-    ensures { (result ≡ slot_of_place (place_of pads)) × (result < 1024) }
+    requires { first (edge_of pads) < 256 }
+    ensures { (result ≡ slot (edge_of pads)) × (result < 1024) }
 {
     match pads {
         Pads::Beside(first, _) => 32 + 2 * first,
         Pads::Above(first, _) => 33 + 2 * first,
-        Pads::NoEdge => 0,
     }
 }
 
@@ -42,11 +41,10 @@ fn byte_at(edges: &[u8; 1024], width: usize, row: usize, column: usize) -> u8
     requires { (width ≤ 16) × (row < 31) × (column < 31) × (length edges.now ≡ 1024) × ((n : ℕ) → get_or edges.now n 2 ≤ 2) }
     ensures { result ≡ byte_at_place (bytes_shown edges.now) (place_at width row column) }
 {
-    let slot = slot_of(grid::pads_at(width, row, column));
-    if slot == 0 {
-        return UNDECIDED;
+    match grid::pads_at(width, row, column) {
+        Some(pads) => edges[slot_of(pads)],
+        None => UNDECIDED,
     }
-    edges[slot]
 }
 
 // Puts one row of the record into the buffer from an index on and counts its lines.

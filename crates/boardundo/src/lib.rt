@@ -1,11 +1,14 @@
 // Undoing entries of the board's log: the edges they decided are undecided again, and the ends that they joined are as before.
-// The result equals boardview's unwinding of the log (View.antt, unwound); with SINCE this is the state before the entries were made.
+// The result equals boardview's unwinding of the log (Unwind.antt, back_to); with SINCE this is the state before the entries were made.
 #![tactic(auto)]
 
-ghost use Rattle.std.specs.Prelude.{◌≡◌, ℕ, ◌+◌, ◌*◌, ◌-◌, ◌≤◌, ◌<◌, get_or, length, pos};
+ghost use Rattle.std.specs.Prelude.{◌≡◌, ℕ, ◌+◌, ◌*◌, ◌-◌, ◌%◌, ◌≤◌, ◌<◌, get_or, length, pos};
 ghost use Rattle.rules.specs.Grid.{pads};
-ghost use Rattle.boardview.specs.View.{end_of, grid_in, Kinds, Entry, pad_number, slot_logged, unjoined, undone_one, unwound};
+ghost use Rattle.boardview.specs.View.{end_of, grid_in, logged, Kinds, Entry, pad_number, slot_logged, unjoined, undone_one};
+ghost use Rattle.boardview.specs.Unwind.{with_shown, back_to};
 
+use boardparts::FLAGGED;
+use boardview::Arrays;
 use grid::Edge;
 
 // The byte of an undecided edge, as the edge type names it.
@@ -59,39 +62,26 @@ fn logged_slot(log: &[i64; 1440], k: usize) -> usize
     log[3 * k] as usize
 }
 
-// Undoes entry k.
-fn undo_one(
-    edges: &mut [u8; 1024],
-    ends: &mut [i64; 512],
-    log: &[i64; 1440],
-    kind: &[u8; 1024],
-    k: usize,
-)
-    requires { (k < 480) × (length ends.old ≡ 512) × Kinds kind.now × (pads (grid_in kind.now) ≤ 256) × Entry (grid_in kind.now) log.now k }
-    ensures { (edges.new, ends.new) ≡ undone_one (grid_in kind.now).width log.now k (edges.old, ends.old) }
+// Undoes entry k, which stays in the log.
+fn undo_one(board: &mut Arrays, kind: &[u8; 1024], k: usize)
+    requires { (k < 480) × (length board.old.ends ≡ 512) × Kinds kind.now × (pads (grid_in kind.now) ≤ 256) × Entry (grid_in kind.now) board.old.log k }
+    ensures { board.new ≡ with_shown board.old (undone_one (grid_in kind.now).width board.old.log k (board.old.edges, board.old.ends)) }
 {
-    let slot = logged_slot(log, k);
+    let slot = logged_slot(&board.log, k);
     let v = boardparts::first_pad(slot);
     let q = boardparts::second_pad(slot, boardparts::width(kind));
-    edges[slot] = UNDECIDED;
-    unjoin(ends, log, k, v, q);
+    board.edges[slot] = UNDECIDED;
+    unjoin(&mut board.ends, &board.log, k, v, q);
 }
 
-// Undoes the entries from `from` down to `to`.
-pub fn undo(
-    edges: &mut [u8; 1024],
-    ends: &mut [i64; 512],
-    log: &[i64; 1440],
-    kind: &[u8; 1024],
-    from: usize,
-    to: usize,
-)
-    requires { (to ≤ from) × (from ≤ 480) × (length ends.old ≡ 512) × Kinds kind.now × (pads (grid_in kind.now) ≤ 256) × ((k : ℕ) → k < from → Entry (grid_in kind.now) log.now k) }
-    ensures { (edges.new, ends.new) ≡ unwound (grid_in kind.now).width log.now to (from - to) (edges.old, ends.old) }
+// Undoes the entries made since a mark, which is the count that stood then, and stands again.
+pub fn undo(board: &mut Arrays, kind: &[u8; 1024], mark: usize)
+    requires { (mark % 1024 ≤ logged board.old) × (logged board.old ≤ 480) × (length board.old.ends ≡ 512) × Kinds kind.now × (pads (grid_in kind.now) ≤ 256) × ((k : ℕ) → k < logged board.old → Entry (grid_in kind.now) board.old.log k) }
+    ensures { board.new ≡ back_to (grid_in kind.now).width board.old mark }
 {
-    let mut k = from;
-    while to < k {
-        k -= 1;
-        undo_one(edges, ends, log, kind, k);
+    let entries = board.count % FLAGGED;
+    for k in (mark % FLAGGED..entries).rev() {
+        undo_one(board, kind, k);
     }
+    board.count = mark;
 }

@@ -7,7 +7,8 @@ use Rattle.rules.specs.Grid.{Edge, right, down, Grid}
 use Rattle.rules.specs.Tests.{both}
 use Rattle.model.specs.PadTests.{on_board}
 use Rattle.model.specs.Board.{undecided, line, none, is_line, is_undecided, same_edge, set_edge}
-use Rattle.boardview.specs.View.{Arrays, slot, edge_of, slot_on, state_of, view, pick, undecided_in, flag_in, end_at}
+use Rattle.boardview.specs.declared.Arrays.{Arrays}
+use Rattle.boardview.specs.View.{slot, edge_of, slot_on, state_of, view, pick, undecided_in, flag_in, end_at}
 
 -- BYTES
 pub undecided_byte_test : (b : ℕ) → is_undecided (state_of b) ≡ eqb b 0

@@ -14,7 +14,8 @@ use Rattle.rules.specs.Tests.{not_so}
 use Rattle.model.specs.JoinedEnds.{End, through, at_pad, at_clue}
 use Rattle.model.specs.PadTests.{has_right, has_left, has_down, has_up}
 use Rattle.model.specs.Board.{line, none, is_undecided, other_clue, State, Item, check_pad, keep_apart, settle, when, Decide, Check, with_edge, keep_aparts, around, do_item, do_items, check_items, decide, check}
-use Rattle.boardview.specs.View.{Arrays, flag_in, ended_in, stopped, ended, pick, edge_of, slot_on, view, end_at, grid_in, undecided_in, Ready, Since, Decided, Done, then, in_a_row, shown, check_at, NoneAt, Settled, action_around, code_number, rival, keeps_apart, keep_at}
+use Rattle.boardview.specs.declared.Arrays.{Arrays}
+use Rattle.boardview.specs.View.{flag_in, ended_in, stopped, ended, pick, edge_of, slot_on, view, end_at, grid_in, undecided_in, Ready, Since, Decided, Done, then, in_a_row, shown, check_at, NoneAt, Settled, action_around, code_number, rival, keeps_apart, keep_at}
 use Rattle.boardview.specs.Bytes.{elim_true, elim_false, right_slot, down_slot, on_slot}
 use Rattle.boardview.specs.Geometry.{slot_left, slot_right, slot_up, slot_down, edge_left, edge_up}
 use Rattle.boardview.specs.Unwind.{since_still, since_then}

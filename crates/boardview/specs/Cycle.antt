@@ -19,10 +19,11 @@ use Rattle.rules.specs.Tests.{both, neither, conflict, not_so, is_so}
 use Rattle.model.specs.JoinedEnds.{End, through, at_pad, at_clue, unjoinable}
 use Rattle.model.specs.PadTests.{has_right, has_left, has_down, has_up, on_board}
 use Rattle.model.specs.Board.{line, Item, has_side, barred, shape_items, keep_aparts, around}
-use Rattle.boardview.specs.View.{Arrays, logged, stopped, ended, going, pick, slot, edge_of, slot_on, state_of, end_at, second_pad, has_bit, grid_in, corner_bit, joined, undecided_in, Kinds, Ready, Decided, Done, NoneAt, Settled, pad_number, detour_at, corner_at, bar_at, check_at, code_number, keeps_apart, some_apart, clue_apart, keep_at, slot_around, past_around, action_around}
+use Rattle.boardview.specs.declared.Arrays.{Arrays}
+use Rattle.boardview.specs.View.{logged, stopped, ended, going, pick, slot, edge_of, slot_on, state_of, end_at, second_pad, has_bit, grid_in, corner_bit, joined, undecided_in, Kinds, Ready, Decided, Done, NoneAt, Settled, pad_number, detour_at, corner_at, bar_at, check_at, code_number, keeps_apart, some_apart, clue_apart, keep_at, slot_around, past_around, action_around}
 use Rattle.model.specs.Lists.{default_free}
 use Rattle.boardview.specs.Bytes.{slot_of_edge, on_slot}
-use Rattle.boardview.specs.Unwind.{log_stored, log_joined, LineBegun}
+use Rattle.boardview.specs.Unwind.{log_stored, log_joined, stored, LineBegun}
 use Rattle.boardview.specs.Geometry.{column_before, right_on, down_on, beyond_right, upper_left, upper_right, upper, lower_left, lower_right, lower, right_items, left_side, lower_left_side, far_left, right_side, lower_right_side, far_right, down_items, next_down_on}
 use Rattle.boardview.specs.Stores.{Stored, going_count, few_logged, first_inside, second_inside}
 use Rattle.boardview.specs.Steps.{with_count, done_then, done_as, done_nothing, slot_is_on}
@@ -78,13 +79,13 @@ module _ (kind : List ℕ) (s : Arrays) (n : ℕ) (h : n < 1024) (k : Kinds kind
     pub none_second : (q w : ℕ) → w ≡ g.width → q ≡ second_pad w n → q < pads g
     none_second q w ew e = omega (arith, (rw ew at e) ∙ second_is, second_inside g s (edge_of n) y edge_there byte_there)
 
-    module _ (es : List ℕ) (l : List ℤ) (r : ℕ) (ee : es ≡ set s.edges n 2) (el : l ≡ log_stored s.log (logged s) n) (er : r ≡ going s.count) where
+    module _ (s₀ : Arrays) (is : s₀ ≡ stored s n 2) (r : ℕ) (er : r ≡ going s₀.count) where
       abbrev after_store : Arrays
-      after_store = record { edges = es; ends = s.ends; log = l; count = r + 1 }
+      after_store = with_count s₀ (r + 1)
 
       starts : none_arrays g s (edge_of n) y edge_there byte_there ≡ after_store
       starts = ap (λ (x : ℕ). record { edges = set s.edges x 2; ends = s.ends; log = log_stored s.log (logged s) x; count = going s.count + 1 }) at_slot
-          ∙ (λ i. record { edges = sym ee i; ends = s.ends; log = sym el i; count = sym er i + 1 })
+          ∙ (λ i. with_count (sym is i) (sym (er ∙ ap (λ (x : Arrays). going x.count) is) i + 1))
 
       pub none_is_stored : Stored g s after_store
       none_is_stored = subst (λ (x : Arrays). Stored g s x) starts (none_stored g s (edge_of n) y edge_there byte_there)

@@ -12,7 +12,8 @@ use Rattle.rules.specs.Tests.{both_off, neither}
 use Rattle.model.specs.JoinedEnds.{End, through, at_pad, at_clue, is_through, unjoinable}
 use Rattle.model.specs.PadTests.{is_blank, is_clue, on_board, has_down}
 use Rattle.model.specs.Board.{EdgeState, line, none, is_line, is_undecided, same_state, State, set_edge, set_flag, Item, corner, bar, check_pad, check_end, when, has_side, shape_items, do_items, cannot_join, join_ends, after_store, decide, check}
-use Rattle.boardview.specs.View.{Arrays, logged, flag_in, stopped, ended, going, slot, edge_of, slot_on, state_of, view, end_at, has_bit, clue_bit, taken_bit, cell_in, grid_in, joined, undecided_in, Kinds, Ready, Decided, Done, then, in_a_row, shown, corner_at, bar_at, check_at, beside, pad_number}
+use Rattle.boardview.specs.declared.Arrays.{Arrays}
+use Rattle.boardview.specs.View.{logged, flag_in, stopped, ended, going, slot, edge_of, slot_on, state_of, view, end_at, has_bit, clue_bit, taken_bit, cell_in, grid_in, joined, undecided_in, Kinds, Ready, Decided, Done, then, in_a_row, shown, corner_at, bar_at, check_at, beside, pad_number}
 use Rattle.model.specs.Lists.{default_free}
 use Rattle.boardview.specs.Bytes.{elim_true, elim_false, undecided_byte_test, view_stored}
 use Rattle.boardview.specs.Unwind.{since_still, since_then, log_stored, log_joined}

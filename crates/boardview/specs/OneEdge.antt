@@ -5,7 +5,8 @@ use Rattle.std.proofs.Common.{◌∙◌}
 use Rattle.rules.specs.Grid.{Edge, right, down, Grid}
 use Rattle.model.specs.PadTests.{on_board}
 use Rattle.model.specs.Board.{EdgeState, line, line_or_none}
-use Rattle.boardview.specs.View.{Arrays, slot, edge_of, Decided, NoneAt}
+use Rattle.boardview.specs.declared.Arrays.{Arrays}
+use Rattle.boardview.specs.View.{slot, edge_of, Decided, NoneAt}
 use Rattle.boardview.specs.Bytes.{right_slot, down_slot, edge_on}
 
 pub edge_of_slot : (e : Edge) → edge_of (slot e) ≡ e

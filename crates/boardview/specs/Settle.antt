@@ -11,7 +11,8 @@ use Rattle.rules.specs.Grid.{Edge, right, down, Grid, pads}
 use Rattle.rules.specs.Drawing.{num}
 use Rattle.model.specs.PadTests.{has_right, has_left, has_down, has_up}
 use Rattle.model.specs.Board.{EdgeState, line, none, is_undecided, State, set_flag, Decide, with_edge, lines, undecideds, decide_first, line_or_none, around, degree, settled}
-use Rattle.boardview.specs.View.{Arrays, pick, edge_of, slot_on, view, grid_in, Ready, edges_around, undecided_around, degree_around, first_around, action_around}
+use Rattle.boardview.specs.declared.Arrays.{Arrays}
+use Rattle.boardview.specs.View.{pick, edge_of, slot_on, view, grid_in, Ready, edges_around, undecided_around, degree_around, first_around, action_around}
 use Rattle.boardview.specs.Bytes.{elim_true, elim_false, right_slot, down_slot, on_slot}
 use Rattle.boardview.specs.Geometry.{slot_left, slot_right, slot_up, slot_down, edge_left, edge_up}
 use Rattle.boardview.specs.Steps.{line_at, undecided_at}

@@ -10,7 +10,8 @@ use Rattle.rules.specs.Grid.{Edge, Grid}
 use Rattle.rules.specs.Tests.{is_so}
 use Rattle.model.specs.PadTests.{is_blank}
 use Rattle.model.specs.Board.{EdgeState, line, none, is_line, is_undecided, State, set_flag, Item, detour, corner, bar, when, Decide, Check, do_item, do_items, decide, check}
-use Rattle.boardview.specs.View.{Arrays, flag_in, ended_in, stopped, edge_of, slot_on, state_of, view, undecided_in, Ready, Decided, Done, then, in_a_row, shown, detour_at}
+use Rattle.boardview.specs.declared.Arrays.{Arrays}
+use Rattle.boardview.specs.View.{flag_in, ended_in, stopped, edge_of, slot_on, state_of, view, undecided_in, Ready, Decided, Done, then, in_a_row, shown, detour_at}
 use Rattle.model.specs.Lists.{default_free}
 use Rattle.boardview.specs.Bytes.{elim_true, elim_false, line_byte_test, undecided_byte_test, slot_of_edge, on_slot}
 use Rattle.boardview.specs.Unwind.{since_still, since_then}

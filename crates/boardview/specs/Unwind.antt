@@ -4,7 +4,8 @@ use Rattle.std.specs.Prelude.{ℕ, zero, suc, ◌+◌, ◌*◌, ◌-◌, ◌%◌
 use Rattle.std.proofs.Common.{sym, ap, ◌∙◌, arith, length-set, get_or-set_same, get_or-set_other, set-set}
 use Rattle.std.proofs.lemmas.List.{set-get_or}
 use Rattle.model.specs.JoinedEnds.{is_through, unjoinable}
-use Rattle.boardview.specs.View.{Arrays, logged, pick, end_of, end_at, put_number, joined, unjoined, second_pad, slot_logged, undone_one, unwound, Since, stopped, going}
+use Rattle.boardview.specs.declared.Arrays.{Arrays}
+use Rattle.boardview.specs.View.{logged, pick, end_of, end_at, put_number, joined, unjoined, second_pad, slot_logged, undone_one, unwound, Since, stopped, going}
 use Rattle.boardview.specs.Ends.{length_put}
 
 -- UNDOING ENTRIES
@@ -49,12 +50,24 @@ since_then w s s₁ s₂ a b = record {
       ∙ a.back));
 }
 
+-- BACK TO A MARK, which is the count that stood then: edges and ends as they were when the log had the length of this mark
+abbrev pub before : ℕ → Arrays → ℕ → List ℕ × List ℤ
+before width s mark = unwound width s.log (mark % 1024) (logged s - mark % 1024) (s.edges, s.ends)
+
+-- the arrays after undoing back to a mark
+unfoldable pub back_to : ℕ → Arrays → ℕ → Arrays
+back_to width s mark = record { edges = (before width s mark).0; ends = (before width s mark).1; log = s.log; count = mark }
+
 -- AN ENTRY: its slot, and the two ends
 abbrev pub log_stored : List ℤ → ℕ → ℕ → List ℤ
 log_stored log n s = set (set log (3 * n) (pos s)) (3 * n + 1) (negsuc 0)
 
 abbrev pub log_joined : List ℤ → ℕ → ℕ → ℤ → ℤ → List ℤ
 log_joined log n s A B = set (set (set log (3 * n) (pos s)) (3 * n + 1) A) (3 * n + 2) B
+
+-- the state of an edge stored, and an entry of the log for it
+abbrev pub stored : Arrays → ℕ → ℕ → Arrays
+stored s n b = record { edges = set s.edges n b; ends = s.ends; log = log_stored s.log (logged s) n; count = s.count }
 
 -- A LINE BEGUN at slot n, between pads v and q: its byte and an entry of the log are stored; the ends of its pads are joined, or, where they
 -- cannot be, the flag is set and the decision has ended.
@@ -116,6 +129,10 @@ since_one w s s' h k b = record { more = 1; longer = h; kept = k; back = ap (λ 
     place = omega arith
 
 -- ENTRY BY ENTRY
+-- the same log and count with other edges and ends
+abbrev pub with_shown : Arrays → List ℕ × List ℤ → Arrays
+with_shown s E = record { edges = E.0; ends = E.1; log = s.log; count = s.count }
+
 pub unwound_step : (w : ℕ) (log : List ℤ) (least k : ℕ) (E : List ℕ × List ℤ) → least < k → unwound w log least (k - least) E ≡ unwound w log least (k - 1 - least) (undone_one w log (k - 1) E)
 unfolding unwound
 unwound_step w log least k E h = ap (λ (n : ℕ). unwound w log least n E) more ∙ ap (λ (n : ℕ). unwound w log least (k - 1 - least) (undone_one w log n E)) place

@@ -7,19 +7,13 @@ use Rattle.rules.specs.Grid.{Edge, right, down, Cell, blank, clue, hole, Grid, p
 use Rattle.rules.specs.Drawing.{num, Side, on_left, on_right}
 use Rattle.model.specs.JoinedEnds.{End, through, at_pad, at_clue, is_through}
 use Rattle.model.specs.PadTests.{has_down, on_board}
+use Rattle.boardview.specs.declared.Arrays.{Arrays}
 use Rattle.model.specs.Board.{EdgeState, undecided, line, none, State, Item, detour, corner, bar, check_pad, keep_apart, when, has_side, barred, do_item, settled, decide, check, Decide, Check}
 
 -- one of two values, by a test
 abbrev pub pick : {A : Type 0} → Bool → A → A → A
 pick true a b = a
 pick false a b = b
-
--- THE ARRAYS of a board.
-pub record Arrays : Type 0 where
-  pub edges : List ℕ
-  pub ends : List ℤ
-  pub log : List ℤ
-  pub count : ℕ
 
 -- THE COUNT: the log's length, plus 1024 if the flag is set, plus 2048 if the flag is set and the decision has ended.
 abbrev pub logged : Arrays → ℕ

@@ -1,7 +1,7 @@
-// A decision and the pad check, which call each other over the board's lent arrays: twice the undecided edges, plus one in the check,
+// A decision and the pad check, which call each other over the board's arrays, which are lent: twice the undecided edges, plus one in the check,
 // falls. Each function equals the model's decision, check or item (boardview's Decided, Done and NoneAt), on flagged boards too, keeps what
 // is true of the arrays of every board, and logs what it stores, so that undoing the log's entries gives back the arrays.
-// `count` is the log's length, plus 1024 if the flag is set, plus 2048 if it is set and the decision has ended; an ended decision goes
+// The board's count is the log's length, plus 1024 if the flag is set, plus 2048 if it is set and the decision has ended; an ended decision goes
 // through every part unchanged.
 #![tactic(auto)]
 
@@ -13,6 +13,7 @@ ghost use Rattle.model.specs.Board.{line, line_or_none};
 ghost use Rattle.boardview.specs.View.{grid_in, has_bit, slot_on, Kinds, Ready, Decided, Done, NoneAt, detour_at, corner_at, bar_at, check_at};
 
 use boardparts::{BAR_LEFT, BAR_RIGHT, CORNER_LEFT, CORNER_RIGHT, ENDED, NONE_THERE, TAKEN};
+use boardview::Arrays;
 use grid::Edge;
 
 // The bytes of an edge's states, as the edge type names them.
@@ -24,46 +25,36 @@ const NONE: u8 = Edge::NONE.0;
 
 // Steps a, b and f: an edge is to have no line. At a slot off the board nothing changes.
 #[cycle(deciding)]
-pub fn decide_none(
-    edges: &mut [u8; 1024],
-    ends: &mut [i64; 512],
-    log: &mut [i64; 1440],
-    kind: &[u8; 1024],
-    slot: usize,
-    count: usize,
-) -> usize
-    requires { (slot < 1024) × Kinds kind.now × Ready (grid_in kind.now) (record { edges = edges.old; ends = ends.old; log = log.old; count = count }) }
-    ensures { NoneAt (grid_in kind.now) (record { edges = edges.old; ends = ends.old; log = log.old; count = count }) slot (record { edges = edges.new; ends = ends.new; log = log.new; count = result }) }
+pub fn decide_none(board: &mut Arrays, kind: &[u8; 1024], slot: usize)
+    requires { (slot < 1024) × Kinds kind.now × Ready (grid_in kind.now) board.old }
+    ensures { NoneAt (grid_in kind.now) board.old slot board.new }
 {
-    let state = edges[slot];
+    let state = board.edges[slot];
     if state == UNDECIDED {
-        boardparts::store(edges, log, slot, NONE, count);
+        boardparts::store(board, slot, NONE);
+        board.count = boardparts::go_on(board.count) + 1;
         let v = boardparts::first_pad(slot);
         let q = boardparts::second_pad(slot, boardparts::width(kind));
-        let after = check(edges, ends, log, kind, v, boardparts::go_on(count) + 1);
-        return boardparts::end(check(edges, ends, log, kind, q, after));
+        check(board, kind, v);
+        check(board, kind, q);
+        board.count = boardparts::end(board.count);
+        return;
     }
     if state == LINE {
-        return boardparts::stop(count);
+        board.count = boardparts::stop(board.count);
+        return;
     }
-    boardparts::end(count)
+    board.count = boardparts::end(board.count);
 }
 
 // Steps a to f: the edge to the right of pad v is to be a line.
 #[cycle(deciding)]
-pub fn decide_line_right(
-    edges: &mut [u8; 1024],
-    ends: &mut [i64; 512],
-    log: &mut [i64; 1440],
-    kind: &[u8; 1024],
-    v: usize,
-    count: usize,
-) -> usize
-    requires { (on_board (grid_in kind.now) (right v) ≡ true) × (v < 256) × Kinds kind.now × Ready (grid_in kind.now) (record { edges = edges.old; ends = ends.old; log = log.old; count = count }) }
-    ensures { Decided (grid_in kind.now) (record { edges = edges.old; ends = ends.old; log = log.old; count = count }) (right v) line (record { edges = edges.new; ends = ends.new; log = log.new; count = result }) }
+pub fn decide_line_right(board: &mut Arrays, kind: &[u8; 1024], v: usize)
+    requires { (on_board (grid_in kind.now) (right v) ≡ true) × (v < 256) × Kinds kind.now × Ready (grid_in kind.now) board.old }
+    ensures { Decided (grid_in kind.now) board.old (right v) line board.new }
 {
     let slot = 32 + 2 * v;
-    let old = edges[slot];
+    let old = board.edges[slot];
     if old == UNDECIDED {
         let w = boardparts::width(kind);
         let q = v + 1;
@@ -75,48 +66,44 @@ pub fn decide_line_right(
         let below = 32 + 2 * v + 2 * w;
         let right_below = v + w + 1;
         let left_below = v + w;
-        let a = boardparts::end_pad(ends, v);
-        let b = boardparts::end_pad(ends, q);
-        let mut after = boardparts::begin_line(edges, ends, log, slot, v, q, count);
-        if ENDED <= after {
-            return after;
+        let a = boardparts::end_pad(&board.ends, v);
+        let b = boardparts::end_pad(&board.ends, q);
+        boardparts::begin_line(board, slot, v, q);
+        if ENDED <= board.count {
+            return;
         }
-        after = detour(edges, ends, log, kind, up_left, up_right, up, after);
-        after = detour(edges, ends, log, kind, up_right, up_left, up, after);
-        after = detour(edges, ends, log, kind, up, up_left, up_right, after);
-        after = detour(edges, ends, log, kind, left, right, below, after);
-        after = detour(edges, ends, log, kind, right, left, below, after);
-        after = detour(edges, ends, log, kind, below, left, right, after);
-        after = corner_right(edges, ends, log, kind, right_below, left, after);
-        after = corner_left(edges, ends, log, kind, left_below, right, after);
-        after = bar(edges, ends, log, kind, v, BAR_RIGHT, left, after);
-        after = bar(edges, ends, log, kind, q, BAR_LEFT, right, after);
-        after = check(edges, ends, log, kind, v, after);
-        after = check(edges, ends, log, kind, q, after);
-        after = check(edges, ends, log, kind, a, after);
-        return boardparts::end(check(edges, ends, log, kind, b, after));
+        detour(board, kind, up_left, up_right, up);
+        detour(board, kind, up_right, up_left, up);
+        detour(board, kind, up, up_left, up_right);
+        detour(board, kind, left, right, below);
+        detour(board, kind, right, left, below);
+        detour(board, kind, below, left, right);
+        corner_right(board, kind, right_below, left);
+        corner_left(board, kind, left_below, right);
+        bar(board, kind, v, BAR_RIGHT, left);
+        bar(board, kind, q, BAR_LEFT, right);
+        check(board, kind, v);
+        check(board, kind, q);
+        check(board, kind, a);
+        check(board, kind, b);
+        board.count = boardparts::end(board.count);
+        return;
     }
     if old == LINE {
-        return boardparts::end(count);
+        board.count = boardparts::end(board.count);
+        return;
     }
-    boardparts::stop(count)
+    board.count = boardparts::stop(board.count);
 }
 
 // Steps a to f: the edge downward from pad v is to be a line.
 #[cycle(deciding)]
-pub fn decide_line_down(
-    edges: &mut [u8; 1024],
-    ends: &mut [i64; 512],
-    log: &mut [i64; 1440],
-    kind: &[u8; 1024],
-    v: usize,
-    count: usize,
-) -> usize
-    requires { (on_board (grid_in kind.now) (down v) ≡ true) × (v < 256) × Kinds kind.now × Ready (grid_in kind.now) (record { edges = edges.old; ends = ends.old; log = log.old; count = count }) }
-    ensures { Decided (grid_in kind.now) (record { edges = edges.old; ends = ends.old; log = log.old; count = count }) (down v) line (record { edges = edges.new; ends = ends.new; log = log.new; count = result }) }
+pub fn decide_line_down(board: &mut Arrays, kind: &[u8; 1024], v: usize)
+    requires { (on_board (grid_in kind.now) (down v) ≡ true) × (v < 256) × Kinds kind.now × Ready (grid_in kind.now) board.old }
+    ensures { Decided (grid_in kind.now) board.old (down v) line board.new }
 {
     let slot = 33 + 2 * v;
-    let old = edges[slot];
+    let old = board.edges[slot];
     if old == UNDECIDED {
         let w = boardparts::width(kind);
         let q = v + w;
@@ -130,231 +117,185 @@ pub fn decide_line_down(
         let pad_right = v + w + 1;
         let if_left = boardparts::slot_where(kind, v, CORNER_LEFT, far_left);
         let if_right = boardparts::slot_where(kind, v, CORNER_RIGHT, far_right);
-        let a = boardparts::end_pad(ends, v);
-        let b = boardparts::end_pad(ends, q);
-        let mut after = boardparts::begin_line(edges, ends, log, slot, v, q, count);
-        if ENDED <= after {
-            return after;
+        let a = boardparts::end_pad(&board.ends, v);
+        let b = boardparts::end_pad(&board.ends, q);
+        boardparts::begin_line(board, slot, v, q);
+        if ENDED <= board.count {
+            return;
         }
-        after = detour(edges, ends, log, kind, left, left_below, far_left, after);
-        after = detour(edges, ends, log, kind, left_below, left, far_left, after);
-        after = detour(edges, ends, log, kind, if_left, left, left_below, after);
-        after = detour(edges, ends, log, kind, right, right_below, far_right, after);
-        after = detour(edges, ends, log, kind, right_below, right, far_right, after);
-        after = detour(edges, ends, log, kind, if_right, right, right_below, after);
-        after = corner_left(edges, ends, log, kind, pad_left, left, after);
-        after = corner_right(edges, ends, log, kind, pad_right, right, after);
-        after = bar(edges, ends, log, kind, v, BAR_LEFT, left, after);
-        after = bar(edges, ends, log, kind, v, BAR_RIGHT, right, after);
-        after = check(edges, ends, log, kind, v, after);
-        after = check(edges, ends, log, kind, q, after);
-        after = check(edges, ends, log, kind, a, after);
-        return boardparts::end(check(edges, ends, log, kind, b, after));
+        detour(board, kind, left, left_below, far_left);
+        detour(board, kind, left_below, left, far_left);
+        detour(board, kind, if_left, left, left_below);
+        detour(board, kind, right, right_below, far_right);
+        detour(board, kind, right_below, right, far_right);
+        detour(board, kind, if_right, right, right_below);
+        corner_left(board, kind, pad_left, left);
+        corner_right(board, kind, pad_right, right);
+        bar(board, kind, v, BAR_LEFT, left);
+        bar(board, kind, v, BAR_RIGHT, right);
+        check(board, kind, v);
+        check(board, kind, q);
+        check(board, kind, a);
+        check(board, kind, b);
+        board.count = boardparts::end(board.count);
+        return;
     }
     if old == LINE {
-        return boardparts::end(count);
+        board.count = boardparts::end(board.count);
+        return;
     }
-    boardparts::stop(count)
+    board.count = boardparts::stop(board.count);
 }
 
 // Step d, one third of a unit square: if the edge at slot a is a line, those at b and c become none.
 #[cycle(deciding)]
-pub fn detour(
-    edges: &mut [u8; 1024],
-    ends: &mut [i64; 512],
-    log: &mut [i64; 1440],
-    kind: &[u8; 1024],
-    a: usize,
-    b: usize,
-    c: usize,
-    count: usize,
-) -> usize
-    requires { (a < 1024) × (b < 1024) × (c < 1024) × (slot_on (grid_in kind.now) a ≡ true → (slot_on (grid_in kind.now) b ≡ true) × (slot_on (grid_in kind.now) c ≡ true)) × Kinds kind.now × Ready (grid_in kind.now) (record { edges = edges.old; ends = ends.old; log = log.old; count = count }) }
-    ensures { Done (grid_in kind.now) 1 (record { edges = edges.old; ends = ends.old; log = log.old; count = count }) (detour_at (grid_in kind.now) a b c) (record { edges = edges.new; ends = ends.new; log = log.new; count = result }) }
+pub fn detour(board: &mut Arrays, kind: &[u8; 1024], a: usize, b: usize, c: usize)
+    requires { (a < 1024) × (b < 1024) × (c < 1024) × (slot_on (grid_in kind.now) a ≡ true → (slot_on (grid_in kind.now) b ≡ true) × (slot_on (grid_in kind.now) c ≡ true)) × Kinds kind.now × Ready (grid_in kind.now) board.old }
+    ensures { Done (grid_in kind.now) 1 board.old (detour_at (grid_in kind.now) a b c) board.new }
 {
-    if ENDED <= count {
-        return count;
+    if ENDED <= board.count {
+        return;
     }
-    if edges[a] != LINE {
-        return count;
+    if board.edges[a] != LINE {
+        return;
     }
-    let after = decide_none(edges, ends, log, kind, b, count);
-    if ENDED <= after {
-        return after;
+    decide_none(board, kind, b);
+    if ENDED <= board.count {
+        return;
     }
-    decide_none(edges, ends, log, kind, c, after)
+    decide_none(board, kind, c);
 }
 
 // Step e: the right and down corner above pad q, if the edge at slot a completes it and q is blank.
 #[cycle(deciding)]
-pub fn corner_right(
-    edges: &mut [u8; 1024],
-    ends: &mut [i64; 512],
-    log: &mut [i64; 1440],
-    kind: &[u8; 1024],
-    q: usize,
-    a: usize,
-    count: usize,
-) -> usize
-    requires { (a < 1024) × (q < 512) × (slot_on (grid_in kind.now) a ≡ true → q < pads (grid_in kind.now)) × Kinds kind.now × Ready (grid_in kind.now) (record { edges = edges.old; ends = ends.old; log = log.old; count = count }) }
-    ensures { Done (grid_in kind.now) 1 (record { edges = edges.old; ends = ends.old; log = log.old; count = count }) (corner_at (grid_in kind.now) on_right q a) (record { edges = edges.new; ends = ends.new; log = log.new; count = result }) }
+pub fn corner_right(board: &mut Arrays, kind: &[u8; 1024], q: usize, a: usize)
+    requires { (a < 1024) × (q < 512) × (slot_on (grid_in kind.now) a ≡ true → q < pads (grid_in kind.now)) × Kinds kind.now × Ready (grid_in kind.now) board.old }
+    ensures { Done (grid_in kind.now) 1 board.old (corner_at (grid_in kind.now) on_right q a) board.new }
 {
-    if ENDED <= count {
-        return count;
+    if ENDED <= board.count {
+        return;
     }
-    if edges[a] != LINE {
-        return count;
+    if board.edges[a] != LINE {
+        return;
     }
     if boardparts::has(kind, q, TAKEN) {
-        return count;
+        return;
     }
     if boardparts::has(kind, q, CORNER_RIGHT) {
-        let after = decide_line_right(edges, ends, log, kind, q, count);
-        let after = decide_line_down(edges, ends, log, kind, q, boardparts::go_on(after));
-        return boardparts::go_on(after);
+        decide_line_right(board, kind, q);
+        board.count = boardparts::go_on(board.count);
+        decide_line_down(board, kind, q);
+        board.count = boardparts::go_on(board.count);
+        return;
     }
-    boardparts::stop(count)
+    board.count = boardparts::stop(board.count);
 }
 
 // Step e: the left and down corner above pad q, if the edge at slot a completes it and q is blank.
 #[cycle(deciding)]
-pub fn corner_left(
-    edges: &mut [u8; 1024],
-    ends: &mut [i64; 512],
-    log: &mut [i64; 1440],
-    kind: &[u8; 1024],
-    q: usize,
-    a: usize,
-    count: usize,
-) -> usize
-    requires { (a < 1024) × (q < 512) × (slot_on (grid_in kind.now) a ≡ true → q < pads (grid_in kind.now)) × Kinds kind.now × Ready (grid_in kind.now) (record { edges = edges.old; ends = ends.old; log = log.old; count = count }) }
-    ensures { Done (grid_in kind.now) 1 (record { edges = edges.old; ends = ends.old; log = log.old; count = count }) (corner_at (grid_in kind.now) on_left q a) (record { edges = edges.new; ends = ends.new; log = log.new; count = result }) }
+pub fn corner_left(board: &mut Arrays, kind: &[u8; 1024], q: usize, a: usize)
+    requires { (a < 1024) × (q < 512) × (slot_on (grid_in kind.now) a ≡ true → q < pads (grid_in kind.now)) × Kinds kind.now × Ready (grid_in kind.now) board.old }
+    ensures { Done (grid_in kind.now) 1 board.old (corner_at (grid_in kind.now) on_left q a) board.new }
 {
-    if ENDED <= count {
-        return count;
+    if ENDED <= board.count {
+        return;
     }
-    if edges[a] != LINE {
-        return count;
+    if board.edges[a] != LINE {
+        return;
     }
     if boardparts::has(kind, q, TAKEN) {
-        return count;
+        return;
     }
     if boardparts::has(kind, q, CORNER_LEFT) {
-        let after = decide_line_right(edges, ends, log, kind, q - 1, count);
-        let after = decide_line_down(edges, ends, log, kind, q, boardparts::go_on(after));
-        return boardparts::go_on(after);
+        decide_line_right(board, kind, q - 1);
+        board.count = boardparts::go_on(board.count);
+        decide_line_down(board, kind, q);
+        board.count = boardparts::go_on(board.count);
+        return;
     }
-    boardparts::stop(count)
+    board.count = boardparts::stop(board.count);
 }
 
 // Step e: if pad v is barred, by this bit of its kind, the edge at the slot becomes none.
 #[cycle(deciding)]
-pub fn bar(
-    edges: &mut [u8; 1024],
-    ends: &mut [i64; 512],
-    log: &mut [i64; 1440],
-    kind: &[u8; 1024],
-    v: usize,
-    bit: u8,
-    slot: usize,
-    count: usize,
-) -> usize
-    requires { (v < 512) × (slot < 1024) × (has_bit kind.now v bit ≡ true → slot_on (grid_in kind.now) slot ≡ true) × Kinds kind.now × Ready (grid_in kind.now) (record { edges = edges.old; ends = ends.old; log = log.old; count = count }) }
-    ensures { Done (grid_in kind.now) 1 (record { edges = edges.old; ends = ends.old; log = log.old; count = count }) (bar_at (grid_in kind.now) (has_bit kind.now v bit) slot) (record { edges = edges.new; ends = ends.new; log = log.new; count = result }) }
+pub fn bar(board: &mut Arrays, kind: &[u8; 1024], v: usize, bit: u8, slot: usize)
+    requires { (v < 512) × (slot < 1024) × (has_bit kind.now v bit ≡ true → slot_on (grid_in kind.now) slot ≡ true) × Kinds kind.now × Ready (grid_in kind.now) board.old }
+    ensures { Done (grid_in kind.now) 1 board.old (bar_at (grid_in kind.now) (has_bit kind.now v bit) slot) board.new }
 {
-    if ENDED <= count {
-        return count;
+    if ENDED <= board.count {
+        return;
     }
     if boardparts::has(kind, v, bit) {
-        return decide_none(edges, ends, log, kind, slot, count);
+        decide_none(board, kind, slot);
     }
-    count
 }
 
 // The pad check; a pad number of 512 stands for no pad.
 #[cycle(deciding)]
-pub fn check(
-    edges: &mut [u8; 1024],
-    ends: &mut [i64; 512],
-    log: &mut [i64; 1440],
-    kind: &[u8; 1024],
-    v: usize,
-    count: usize,
-) -> usize
-    requires { (v ≤ 512) × (v < 512 → v < pads (grid_in kind.now)) × Kinds kind.now × Ready (grid_in kind.now) (record { edges = edges.old; ends = ends.old; log = log.old; count = count }) }
-    ensures { Done (grid_in kind.now) 1 (record { edges = edges.old; ends = ends.old; log = log.old; count = count }) (check_at v) (record { edges = edges.new; ends = ends.new; log = log.new; count = result }) }
+pub fn check(board: &mut Arrays, kind: &[u8; 1024], v: usize)
+    requires { (v ≤ 512) × (v < 512 → v < pads (grid_in kind.now)) × Kinds kind.now × Ready (grid_in kind.now) board.old }
+    ensures { Done (grid_in kind.now) 1 board.old (check_at v) board.new }
 {
-    if ENDED <= count {
-        return count;
+    if ENDED <= board.count {
+        return;
     }
     if v == 512 {
-        return count;
+        return;
     }
     let w = boardparts::width(kind);
-    let code = boardparts::end_code(ends, v);
-    let mut after = count;
-    let mut side = boardparts::first_side(edges, ends, w, v);
+    let code = boardparts::end_code(&board.ends, v);
+    let mut side = boardparts::first_side(board, w, v);
     while side < 4 {
         let there = boardparts::slot_around(w, v, side);
         let past = boardparts::past_around(w, v, side);
-        let slot = boardparts::slot_apart(edges, ends, code, there, past, after);
-        let next = decide_none(edges, ends, log, kind, slot, after);
-        after = boardparts::count_after(slot, after, next);
+        let slot = boardparts::slot_apart(board, code, there, past);
+        let before = board.count;
+        decide_none(board, kind, slot);
+        board.count = boardparts::count_after(slot, before, board.count);
         side += 1;
     }
-    if ENDED <= after {
-        return after;
+    if ENDED <= board.count {
+        return;
     }
-    let action = boardparts::action(edges, kind, w, v);
+    let action = boardparts::action(&board.edges, kind, w, v);
     if action < 2 {
-        return boardparts::rest(action, after);
+        board.count = boardparts::rest(action, board.count);
+        return;
     }
     if NONE_THERE <= action {
-        return decide_none(edges, ends, log, kind, action - NONE_THERE, after);
+        decide_none(board, kind, action - NONE_THERE);
+        return;
     }
     let pad = action / 2 - 16;
     if action % 2 == 0 {
-        return decide_line_right(edges, ends, log, kind, pad, after);
+        decide_line_right(board, kind, pad);
+        return;
     }
-    decide_line_down(edges, ends, log, kind, pad, after)
+    decide_line_down(board, kind, pad);
 }
 
 // The edge to the right of a pad becomes a line or none.
-pub fn decide_right(
-    edges: &mut [u8; 1024],
-    ends: &mut [i64; 512],
-    log: &mut [i64; 1440],
-    kind: &[u8; 1024],
-    v: usize,
-    line: bool,
-    count: usize,
-) -> usize
-    requires { (v < 256) × Kinds kind.now × Ready (grid_in kind.now) (record { edges = edges.old; ends = ends.old; log = log.old; count = count }) × (on_board (grid_in kind.now) (right v) ≡ true) }
-    ensures { Decided (grid_in kind.now) (record { edges = edges.old; ends = ends.old; log = log.old; count = count })
-        (right v) (line_or_none line) (record { edges = edges.new; ends = ends.new; log = log.new; count = result }) }
+pub fn decide_right(board: &mut Arrays, kind: &[u8; 1024], v: usize, line: bool)
+    requires { (v < 256) × Kinds kind.now × Ready (grid_in kind.now) board.old × (on_board (grid_in kind.now) (right v) ≡ true) }
+    ensures { Decided (grid_in kind.now) board.old
+        (right v) (line_or_none line) board.new }
 {
     if line {
-        return decide_line_right(edges, ends, log, kind, v, count);
+        decide_line_right(board, kind, v);
+        return;
     }
-    decide_none(edges, ends, log, kind, 32 + 2 * v, count)
+    decide_none(board, kind, 32 + 2 * v);
 }
 
 // The edge downward from a pad becomes a line or none.
-pub fn decide_down(
-    edges: &mut [u8; 1024],
-    ends: &mut [i64; 512],
-    log: &mut [i64; 1440],
-    kind: &[u8; 1024],
-    v: usize,
-    line: bool,
-    count: usize,
-) -> usize
-    requires { (v < 256) × Kinds kind.now × Ready (grid_in kind.now) (record { edges = edges.old; ends = ends.old; log = log.old; count = count }) × (on_board (grid_in kind.now) (down v) ≡ true) }
-    ensures { Decided (grid_in kind.now) (record { edges = edges.old; ends = ends.old; log = log.old; count = count })
-        (down v) (line_or_none line) (record { edges = edges.new; ends = ends.new; log = log.new; count = result }) }
+pub fn decide_down(board: &mut Arrays, kind: &[u8; 1024], v: usize, line: bool)
+    requires { (v < 256) × Kinds kind.now × Ready (grid_in kind.now) board.old × (on_board (grid_in kind.now) (down v) ≡ true) }
+    ensures { Decided (grid_in kind.now) board.old
+        (down v) (line_or_none line) board.new }
 {
     if line {
-        return decide_line_down(edges, ends, log, kind, v, count);
+        decide_line_down(board, kind, v);
+        return;
     }
-    decide_none(edges, ends, log, kind, 33 + 2 * v, count)
+    decide_none(board, kind, 33 + 2 * v);
 }

@@ -1,52 +1,51 @@
 -- The two pads of a place as the code's answer, and the place that such an answer tells of. Assumes nothing.
-use Rattle.std.specs.Prelude.{ℕ, ◌≡◌, refl, Bool, true, false}
+use Rattle.std.specs.Prelude.{ℕ, ◌≡◌, refl, Option, Some, None}
 use Rattle.std.proofs.Math.Path.{ap}
 use Rattle.std.proofs.Common.{◌∙◌}
 use Rattle.rules.specs.Grid.{Edge, right, down, first, second, Place, edge, no_edge}
 use Rattle.grid.specs.declared.Pads.{Pads}
-use Rattle.grid.specs.declared.Pads.TheVariants.{Beside, Above, NoEdge}
+use Rattle.grid.specs.declared.Pads.TheVariants.{Beside, Above}
 
 -- the first and the second pad of the edge at a place
-unfoldable pub pads_of : ℕ → Place → Pads
-pads_of width (edge (right v)) = Beside (first (right v)) (second width (right v))
-pads_of width (edge (down v)) = Above (first (down v)) (second width (down v))
-pads_of width no_edge = NoEdge
+unfoldable pub pads_of : ℕ → Place → Option Pads
+pads_of width (edge (right v)) = Some (Beside (first (right v)) (second width (right v)))
+pads_of width (edge (down v)) = Some (Above (first (down v)) (second width (down v)))
+pads_of width no_edge = None
+
+-- the edge between two pads
+unfoldable pub edge_of : Pads → Edge
+edge_of (Beside a b) = right a
+edge_of (Above a b) = down a
 
 -- what stands at the place: the edge of these pads
-unfoldable pub place_of : Pads → Place
-place_of (Beside a b) = edge (right a)
-place_of (Above a b) = edge (down a)
-place_of NoEdge = no_edge
-
--- is there an edge?
-unfoldable pub has_edge : Place → Bool
-has_edge (edge e) = true
-has_edge no_edge = false
+unfoldable pub place_of : Option Pads → Place
+place_of (Some pads) = edge (edge_of pads)
+place_of None = no_edge
 
 -- if an edge stands at the place, this is so of it
 abbrev pub IfEdge : Place → (Edge → Type 0) → Type 0
 IfEdge p So = (e : Edge) → p ≡ edge e → So e
 
 pub place_back : (width : ℕ) (p : Place) → place_of (pads_of width p) ≡ p
-unfolding pads_of place_of
+unfolding pads_of place_of edge_of
 place_back width (edge (right v)) = refl
 place_back width (edge (down v)) = refl
 place_back width no_edge = refl
 
 -- by how the pads stand
-module _ (pads : Pads) where
-  pub edge_beside : {a b : ℕ} → pads ≡ Beside a b → place_of pads ≡ edge (right a)
-  unfolding place_of
+module _ (pads : Option Pads) where
+  pub edge_beside : {a b : ℕ} → pads ≡ Some (Beside a b) → place_of pads ≡ edge (right a)
+  unfolding place_of edge_of
   edge_beside are = ap place_of are
 
-  pub edge_above : {a b : ℕ} → pads ≡ Above a b → place_of pads ≡ edge (down a)
-  unfolding place_of
+  pub edge_above : {a b : ℕ} → pads ≡ Some (Above a b) → place_of pads ≡ edge (down a)
+  unfolding place_of edge_of
   edge_above are = ap place_of are
 
-  pub edge_nowhere : pads ≡ NoEdge → place_of pads ≡ no_edge
+  pub edge_nowhere : pads ≡ None → place_of pads ≡ no_edge
   unfolding place_of
   edge_nowhere none = ap place_of none
 
 -- the pads of a place tell of it
-pub told_place : (width : ℕ) (p : Place) {pads : Pads} → pads ≡ pads_of width p → place_of pads ≡ p
+pub told_place : (width : ℕ) (p : Place) {pads : Option Pads} → pads ≡ pads_of width p → place_of pads ≡ p
 told_place width p are = ap place_of are ∙ place_back width p

@@ -1,7 +1,7 @@
 -- The laws of the two pads of an edge, both ways, said of what `grid::pads_at` answers: each edge place gives exactly the first and the second
 -- pad that it joins, a place that is no edge place gives none, and each two neighbouring pads have exactly one place. They are the rules'
 -- PadsOfEdges.antt, by way of the function's contract.
-use Rattle.std.specs.Prelude.{ℕ, ◌≤◌, ◌<◌, ◌≡◌, ◌⊎◌, ◌↔◌}
+use Rattle.std.specs.Prelude.{ℕ, ◌≤◌, ◌<◌, ◌≡◌, ◌⊎◌, ◌↔◌, Option, Some, None}
 use Rattle.std.proofs.Math.Path.{refl, ap}
 use Rattle.std.proofs.Common.{◌∙◌, inl, inr}
 use Rattle.rules.specs.Grid.{Edge, right, down, first, second, field_side, Place, edge, no_edge, place_at, Grid}
@@ -10,15 +10,15 @@ use Rattle.rules.specs.PadsOfEdges.{Neighbours, Joins, Gives, OnePlace}
 use Rattle.rules.proofs.PadsOfEdges.{edge_place_gives_its_pads, other_place_gives_none, neighbours_have_one_place}
 use Rattle.grid.specs.PadsAt.{pads_of}
 use Rattle.grid.specs.declared.Pads.{Pads}
-use Rattle.grid.specs.declared.Pads.TheVariants.{Beside, Above, NoEdge}
+use Rattle.grid.specs.declared.Pads.TheVariants.{Beside, Above}
 
 -- what the contract of `pads_at` says is answered
-abbrev pub answer : Grid → ℕ → ℕ → Pads
+abbrev pub answer : Grid → ℕ → ℕ → Option Pads
 answer g row column = pads_of g.width (place_at g.width row column)
 
 -- the answer is these two pads, in this order
-abbrev pub AreThePads : Pads → ℕ → ℕ → Type 0
-AreThePads pads a b = (pads ≡ Beside a b) ⊎ (pads ≡ Above a b)
+abbrev pub AreThePads : Option Pads → ℕ → ℕ → Type 0
+AreThePads pads a b = (pads ≡ Some (Beside a b)) ⊎ (pads ≡ Some (Above a b))
 
 -- a place of the field
 abbrev pub InField : Grid → ℕ → ℕ → Type 0
@@ -30,8 +30,8 @@ unfolding pads_of
 told g row column a b gives = go gives.found gives.there gives.first_pad gives.second_pad
   where
     go : (e : Edge) → place_at g.width row column ≡ edge e → first e ≡ a → second g.width e ≡ b → AreThePads (answer g row column) a b
-    go (right v) at p q = inl (ap (pads_of g.width) at ∙ (λ i. Beside (p i) (q i)))
-    go (down v) at p q = inr (ap (pads_of g.width) at ∙ (λ i. Above (p i) (q i)))
+    go (right v) at p q = inl (ap (pads_of g.width) at ∙ (λ i. Some (Beside (p i) (q i))))
+    go (down v) at p q = inr (ap (pads_of g.width) at ∙ (λ i. Some (Above (p i) (q i))))
 
 given : (g : Grid) (row column a b : ℕ) → InField g row column → AreThePads (answer g row column) a b → Gives g row column a b
 unfolding pads_of
@@ -57,14 +57,14 @@ module _ (g : Grid) (wide : 2 ≤ g.width) where
   )
 
   -- A PLACE THAT IS NO EDGE PLACE GIVES NONE
-  pub pads_at_gives_none : (row column : ℕ) → InField g row column → (answer g row column ≡ NoEdge) ↔ ((a b : ℕ) → Joins g row column a b → ⊥)
+  pub pads_at_gives_none : (row column : ℕ) → InField g row column → (answer g row column ≡ None) ↔ ((a b : ℕ) → Joins g row column a b → ⊥)
   unfolding pads_of
   pads_at_gives_none row column inside = (
     λ none. (other_place_gives_none g wide row column inside.0 inside.1).0 (empty (place_at g.width row column) none),
     λ no_pads. ap (pads_of g.width) ((other_place_gives_none g wide row column inside.0 inside.1).1 no_pads),
   )
     where
-      empty : (p : Place) → pads_of g.width p ≡ NoEdge → p ≡ no_edge
+      empty : (p : Place) → pads_of g.width p ≡ None → p ≡ no_edge
       empty no_edge is = refl
       empty (edge (right v)) is = zero≢one (cc)
       empty (edge (down v)) is = zero≢one (cc)

@@ -148,7 +148,7 @@ made_code callee = record {
   locals = values (T'.mir ∷ cells_type (named 0) ∷ buffer_type (named 1) ∷ ty_int w64 ∷ ty_int w64 ∷ ty_int w64 ∷ [])
       ++ (local T'.mir memory_slot ∷ values (T'.mir ∷ ty_unit ∷ lent_type erased ∷ ty_ref erased mut (ty_int w8) ∷ buffer_type erased ∷ []));
   body =
-      seq (assign (place 7 []) (aggregate (int w8 0 ∷ int w64 0 ∷ int w64 0 ∷ int w64 481 ∷ [])))
+      seq (assign (place 7 []) (aggregate (int w64 0 ∷ int w64 0 ∷ int w64 481 ∷ [])))
       (seq (assign (place 6 []) (rv_opd (whole 7)))
       (seq (assign (place 9 []) (addr_of (place 6 [])))
       (seq (assign (place 10 []) (addr_of (place 2 (field 0 ∷ deref (ty_int w8) ∷ []))))
@@ -166,7 +166,7 @@ made_matches callee κs = refl
 
 -- WHAT BOTH WALKS USE: a tally's machine value, and what the three numbers own
 abbrev pub machine : Tally → Val
-machine t = vstruct (vcons (vint w8 t.outcome) (vcons (vint w64 t.visited) (vcons (vint w64 t.layouts) (vcons (vint w64 t.fewest) vnil))))
+machine t = vstruct (vcons (vint w64 t.visited) (vcons (vint w64 t.layouts) (vcons (vint w64 t.fewest) vnil)))
 
 module _ (height width limit : ℕ) where
   abbrev pub Numbers : Fml

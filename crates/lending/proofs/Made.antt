@@ -53,7 +53,7 @@ stayed = (stay_none_slice (0 ∷ []) tt (plain (λ _. cell)) yes, (gave_slice (1
 
 -- the machine value of the empty tally is one of the type
 empty_is : Is T.the_row empty (machine empty ∷ [])
-empty_is = LL.owes T.the_type T'.the_laws empty ((refl, lit< tt), ((refl, lit< tt), ((refl, lit< tt), ((refl, lit< tt), tt))))
+empty_is = LL.owes T.the_type T'.the_laws empty ((refl, lit< tt), ((refl, lit< tt), ((refl, lit< tt), tt)))
 
 -- what a local holds, as a tally that can be lent, and back
 module _ {M : Type 1} {𝓤 : Ura M} (𝓛 : Logic 𝓤) (t : Tally) (b : ℕ) where
@@ -142,8 +142,8 @@ module _ (E : Engine) where
             pass1 ! (init ! 20 refl (tt, (tt, (record { fits = c_room.0 }, tt)))) $ pass1 ! (init ! 18 refl (tt, (tt, (record { fits = b_room.0 }, tt)))) $
             pass1 ! (init ! 16 refl (tt, record { fits = height_fits })) $ pass1 ! (init ! 14 refl (tt, record { fits = width_fits })) $ pass1 ! (init ! 12 refl (tt, record { fits = limit_fits })) $ pass0 ! $
             -- [_11 0; _10 2; _9 4; _8 6; _7 8; _6 10; _5 12; _4 14; _3 16; _2 18; _1 20; _0 22; the cells 24, 25; the buffer 26; the tokens 27]
-            assigns ! (agg ! (and_then ! (lit ! tt) (and_then ! (lit ! tt) (and_then ! (lit ! tt) (and_then ! (lit ! tt) (no_more !)))))) (from ! (stop !))
-            (init ! 8 refl (tt, (record { fits = lit< tt }, (record { fits = lit< tt }, (record { fits = lit< tt }, (record { fits = lit< tt }, tt)))))) $
+            assigns ! (agg ! (and_then ! (lit ! tt) (and_then ! (lit ! tt) (and_then ! (lit ! tt) (no_more !))))) (from ! (stop !))
+            (init ! 8 refl (tt, (record { fits = lit< tt }, (record { fits = lit< tt }, (record { fits = lit< tt }, tt))))) $
             assigns ! (of_opd ! (load ! (from ! (stop !)) (look ! 8 refl))) (from ! (stop !)) (init ! 10 refl ((LL.lawful T.the_type T'.the_laws 𝓛).typed empty _ empty_is).0) $
             assigns ! (addr ! (from ! (stop !))) (from ! (stop !)) (init ! 4 refl (tt, tt)) $
             assigns ! (addr ! (from ! (fld ! refl (hop ! (look_in ! 18 (sub ! 0 refl (whole !))) (stop !))))) (from ! (stop !)) (init ! 2 refl (tt, tt)) $

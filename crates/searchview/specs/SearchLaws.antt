@@ -14,8 +14,9 @@ use Rattle.model.specs.Board.{State, is_undecided, line_or_none, decide, enough}
 use Rattle.model.specs.Runs.{Event, layout}
 use Rattle.model.specs.Search.{board_record, degree_so_far, next_pad, try, backtrack, search_from}
 use Rattle.model.specs.SearchStart.{flagged_search, clear_search}
-use Rattle.boardview.specs.View.{Arrays, logged, view, unwound, Entry, Since, Ready, Decided}
-use Rattle.boardview.specs.Unwind.{kept_unwound}
+use Rattle.boardview.specs.declared.Arrays.{Arrays}
+use Rattle.boardview.specs.View.{logged, view, unwound, Entry, Since, Ready, Decided}
+use Rattle.boardview.specs.Unwind.{back_to, kept_unwound}
 use Rattle.runs.specs.Progress.{Progress, advance, entered, stopped, goes_on}
 use Rattle.runs.specs.Turns.{turns_left, four_turns, one_turn}
 use Rattle.boardview.specs.ShownRecord.{edges_only, record_shown}
@@ -316,6 +317,14 @@ taken_back w s s₁ edges ends count since long clear back =
     undone_restored w s s₁ (record { edges = edges; ends = ends; log = s₁.log; count = count }) since long refl (s₁.count % 1024 - s.count)
     (let k = since.longer in omega arith)
     (back ∙ ap (λ (n : ℕ). unwound w s₁.log n (s₁.count % 1024 - s.count) (s₁.edges, s₁.ends)) (sym mark))
+
+-- back to the count that stood then
+pub gone_back : (w : ℕ) (s s₁ s₂ : Arrays) → Since w s s₁ → length s₁.log ≡ length s.log → s₂ ≡ back_to w s₁ s.count → Restored s s₂ × (s₂.count ≡ s.count)
+unfolding back_to
+gone_back w s s₁ s₂ since long is = rw is (
+  undone_restored w s s₁ (back_to w s₁ s.count) since long refl (logged s₁ - logged s) (let k = since.longer in omega arith) refl,
+  refl,
+)
 
 pub log_longer : (w : ℕ) (s s₁ : Arrays) → Since w s s₁ → s.count < 1024 → s.count ≤ s₁.count % 1024
 log_longer w s s₁ since clear = let mark : s.count % 1024 ≡ s.count = native.Mathlib.Nat.mod-eq_of_lt clear in let k = since.longer in omega arith

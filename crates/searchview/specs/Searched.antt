@@ -6,7 +6,8 @@ use Rattle.model.specs.PadTests.{has_right}
 use Rattle.model.specs.Board.{State}
 use Rattle.model.specs.Runs.{Event}
 use Rattle.model.specs.Search.{try, backtrack}
-use Rattle.boardview.specs.View.{Arrays, grid_in, Kinds, view, Ready}
+use Rattle.boardview.specs.declared.Arrays.{Arrays}
+use Rattle.boardview.specs.View.{grid_in, Kinds, view, Ready}
 use Rattle.runs.specs.Progress.{Progress, advance}
 use Rattle.runs.specs.Turns.{turns_left}
 use Rattle.runs.specs.Layouts.{progress}

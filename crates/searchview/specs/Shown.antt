@@ -5,7 +5,8 @@ use Rattle.rules.specs.Grid.{Grid}
 use Rattle.rules.specs.Drawing.{num}
 use Rattle.model.specs.Board.{State}
 use Rattle.model.specs.Search.{degree_so_far}
-use Rattle.boardview.specs.View.{Arrays, slot_on, logged}
+use Rattle.boardview.specs.declared.Arrays.{Arrays}
+use Rattle.boardview.specs.View.{slot_on, logged}
 
 -- what is true of the edges of every board: as READY of the board says it
 pub record EdgesReady (g : Grid) (edges : List ℕ) : Type 0 where

@@ -11,7 +11,8 @@ use Rattle.model.specs.RefusalLaws.{not_refused}
 use Rattle.model.specs.Runs as runs
 use Rattle.model.specs.Search as model
 use Rattle.exact.specs.Exact.{exact, solve_is_run, solve_is_declined}
-use Rattle.boardview.specs.View.{Arrays, view, grid_in}
+use Rattle.boardview.specs.declared.Arrays.{Arrays}
+use Rattle.boardview.specs.View.{view, grid_in}
 use Rattle.boardfresh.specs.FreshView.{FreshBoard}
 use Rattle.tally.specs.declared.Tally.{Tally}
 use Rattle.tally.specs.Empty.{empty}

@@ -1,41 +1,25 @@
-// The port of solver.rs: the search over the board's lent arrays, which calls itself at a later pad; the tally that is lent down it (crate
-// tally); and `solve`. The result and every byte of the lent buffer equal the model's run (crate model, specs/Search.antt), and demands 2
-// and 3 stand in the contract of `solve` (specs/Answers.antt, Solves; promises' Contract.antt).
+// The port of solver.rs: the search over the board's arrays, which are lent to it and which it leaves as they were, and which calls itself
+// at a later pad; the tally that is lent down it (crate tally); and `solve`. The result and every byte of the lent buffer equal the model's
+// run (crate model, specs/Search.antt), and demands 2 and 3 stand in the contract of `solve` (specs/Answers.antt, Solves; promises'
+// Contract.antt).
 #![tactic(auto)]
 
 ghost use Rattle.std.specs.Prelude.{◌≡◌, List, ℕ, ◌-◌, ◌%◌, ◌≤◌, ◌<◌, ℤ};
 ghost use Rattle.rules.specs.Grid.{right, down, Accepted};
-ghost use Rattle.boardview.specs.View.{grid_in, Kinds, Ready, unwound};
-ghost use Rattle.searchview.specs.Searched.{arrays, reached, Begun, Above, Entered, Attempted, Backtracked};
+ghost use Rattle.boardview.specs.View.{grid_in};
+ghost use Rattle.searchview.specs.Searched.{reached, Begun, Above, Entered, Attempted, Backtracked};
 ghost use Rattle.tally.specs.Counts as counts;
 ghost use Rattle.tally.specs.Empty.{empty};
 ghost use Rattle.solver.specs.Answers as answers;
 
 use boardparts::FLAGGED;
+use boardview::Arrays;
 use tally::Tally;
-
-// Undoes what has been decided since.
-fn take_back(
-    edges: &mut [u8; 1024],
-    ends: &mut [i64; 512],
-    log: &[i64; 1440],
-    kind: &[u8; 1024],
-    count: usize,
-    before: usize,
-)
-    requires { Kinds kind.now × Ready (grid_in kind.now) (arrays edges.old ends.old log.now count) × (before ≤ count % 1024) }
-    ensures { ◌≡◌ {A = List ℕ × List ℤ} (edges.new, ends.new)
-        (unwound (grid_in kind.now).width log.now before (count % 1024 - before) (edges.old, ends.old)) }
-{
-    boardundo::undo(edges, ends, log, kind, count % FLAGGED, before);
-}
 
 // One m at a pad: tried where clue + lines is 0 or 2; decide right, decide down, go on if the flag is clear, undo.
 #[cycle(attempt_backtrack)]
 fn attempt(
-    edges: &mut [u8; 1024],
-    ends: &mut [i64; 512],
-    log: &mut [i64; 1440],
+    board: &mut Arrays,
     kind: &[u8; 1024],
     limit: u64,
     buffer: &mut [u8],
@@ -45,36 +29,33 @@ fn attempt(
     v: usize,
     right: bool,
     down: bool,
-    count: usize,
 ) -> u8
-    requires { Begun kind.now (arrays edges.old ends.old log.old count) (reached kind.now 0 visited.old layouts.old fewest.old buffer.old) × Above (grid_in kind.now) v }
+    requires { Begun kind.now board.old (reached kind.now 0 visited.old layouts.old fewest.old buffer.old) × Above (grid_in kind.now) v }
     ensures { Attempted (grid_in kind.now) limit v right down
-        (arrays edges.old ends.old log.old count) (reached kind.now 0 visited.old layouts.old fewest.old buffer.old)
-        (arrays edges.new ends.new log.new count) (reached kind.now result visited.new layouts.new fewest.new buffer.new) }
+        board.old (reached kind.now 0 visited.old layouts.old fewest.old buffer.old)
+        board.new (reached kind.now result visited.new layouts.new fewest.new buffer.new) × (board.new.count ≡ board.old.count) }
 {
-    if !searchparts::tried(edges, kind, v, right, down) {
+    if !searchparts::tried(&board.edges, kind, v, right, down) {
         return 0;
     }
-    let first = decision::decide_right(edges, ends, log, kind, v, right, count);
-    let second = decision::decide_down(edges, ends, log, kind, v, down, first);
-    if second < FLAGGED {
-        let next = searchparts::next_pad(edges, searchparts::first_of_last_row(kind), v + 1);
-        let outcome = backtrack(
-            edges, ends, log, kind, limit, buffer, visited, layouts, fewest, next, second,
-        );
-        take_back(edges, ends, log, kind, second, count);
+    let before = board.count;
+    decision::decide_right(board, kind, v, right);
+    decision::decide_down(board, kind, v, down);
+    if board.count < FLAGGED {
+        let last = searchparts::first_of_last_row(kind);
+        let next = searchparts::next_pad(&board.edges, last, v + 1);
+        let outcome = backtrack(board, kind, limit, buffer, visited, layouts, fewest, next);
+        boardundo::undo(board, kind, before);
         return outcome;
     }
-    take_back(edges, ends, log, kind, second, count);
+    boardundo::undo(board, kind, before);
     0
 }
 
 // The search from a pad on: spent where the next entry would pass the limit; a layout in the last row; else m = 0 to 3.
 #[cycle(attempt_backtrack)]
 fn backtrack(
-    edges: &mut [u8; 1024],
-    ends: &mut [i64; 512],
-    log: &mut [i64; 1440],
+    board: &mut Arrays,
     kind: &[u8; 1024],
     limit: u64,
     buffer: &mut [u8],
@@ -82,26 +63,22 @@ fn backtrack(
     layouts: &mut usize,
     fewest: &mut usize,
     v: usize,
-    count: usize,
 ) -> u8
-    requires { Begun kind.now (arrays edges.old ends.old log.old count) (reached kind.now 0 visited.old layouts.old fewest.old buffer.old) × Entered (grid_in kind.now) v }
+    requires { Begun kind.now board.old (reached kind.now 0 visited.old layouts.old fewest.old buffer.old) × Entered (grid_in kind.now) v }
     ensures { Backtracked (grid_in kind.now) limit v
-        (arrays edges.old ends.old log.old count) (reached kind.now 0 visited.old layouts.old fewest.old buffer.old)
-        (arrays edges.new ends.new log.new count) (reached kind.now result visited.new layouts.new fewest.new buffer.new) }
+        board.old (reached kind.now 0 visited.old layouts.old fewest.old buffer.old)
+        board.new (reached kind.now result visited.new layouts.new fewest.new buffer.new) × (board.new.count ≡ board.old.count) }
 {
     if *visited >= limit {
         return 1;
     }
     *visited += 1;
     if v >= searchparts::first_of_last_row(kind) {
-        return searchparts::add_layout(edges, kind, buffer, layouts, fewest);
+        return searchparts::add_layout(&board.edges, kind, buffer, layouts, fewest);
     }
-    let mut m: usize = 0;
-    while m < 4 {
+    for m in 0..4usize {
         let outcome = attempt(
-            edges,
-            ends,
-            log,
+            board,
             kind,
             limit,
             buffer,
@@ -111,12 +88,10 @@ fn backtrack(
             v,
             m % 2 == 1,
             m / 2 == 1,
-            count,
         );
         if outcome != 0 {
             return outcome;
         }
-        m += 1;
     }
     0
 }
@@ -160,22 +135,17 @@ fn search_from(
     ensures { answers.Counted height width cells.now limit tally buffer.old result buffer.new }
 {
     let fresh = boardfresh::fresh_board(height, width, cells);
-    let count = fresh.count;
-    if FLAGGED <= count {
+    let mut board = fresh.board;
+    let kind = fresh.kind;
+    if FLAGGED <= board.count {
         return tally;
     }
-    let mut edges = fresh.edges;
-    let mut ends = fresh.ends;
-    let kind = fresh.kind;
-    let mut log = [0i64; 1440];
-    let first = searchparts::next_pad(&edges, searchparts::first_of_last_row(&kind), 0);
+    let first = searchparts::next_pad(&board.edges, searchparts::first_of_last_row(&kind), 0);
     let mut visited = tally.visited;
     let mut layouts = tally.layouts;
     let mut fewest = tally.fewest;
     let outcome = backtrack(
-        &mut edges,
-        &mut ends,
-        &mut log,
+        &mut board,
         &kind,
         limit,
         buffer,
@@ -183,7 +153,6 @@ fn search_from(
         &mut layouts,
         &mut fewest,
         first,
-        count,
     );
     Tally {
         outcome,

@@ -2,4 +2,4 @@
 use Rattle.tally.specs.declared.Tally.{Tally}
 
 abbrev pub empty : Tally
-empty = record { outcome = 0; visited = 0; layouts = 0; fewest = 481 }
+empty = record { visited = 0; layouts = 0; fewest = 481 }

@@ -1,14 +1,33 @@
-// The tally of an engine, the search or the slow walk: what it counts while it runs. It is lent to the engine by a thin function over a core that takes it by value,
-// and a function with plain parameters above that one makes it, lends it and hands it back.
+// The tally of an engine, the search or the slow walk: what it counts while it runs, which is lent down it; and what an engine answers.
+// specs/Counts.antt says what an engine counts into a tally.
 #![tactic(auto)]
 
-ghost use Rattle.std.specs.Prelude.{◌≡◌};
-ghost use Rattle.model.specs.Runs as model;
+ghost use Rattle.std.specs.Prelude.{◌≡◌, ◌+◌, ◌*◌, ◌-◌, ◌≤◌, ◌<◌, MatchResult};
+ghost use Rattle.model.specs.Runs.{least};
+ghost use Rattle.tally.specs.declared.Stop.TheVariants.{Full};
+ghost use Rattle.tally.specs.Outcomes.{outcome_number};
 
-// Outcome (0 complete, 1 spent, 2 full), visited boards (or tried codes), layouts, and the fewest lines of a layout, 481 for none.
-#[derive(Clone, Copy)]
+// Why an engine stops before it has gone through everything: it came to its limit, or the buffer had no room for a layout.
+#[derive(Clone, Copy, PartialEq, Eq)]
+pub enum Stop {
+    Spent,
+    Full,
+}
+
+// Document 01's number of an outcome: 0 complete, 1 spent, 2 full.
+pub fn outcome_number(outcome: Result<(), Stop>) -> u8
+    ensures { result ≡ outcome_number outcome }
+{
+    match outcome {
+        Ok(()) => 0,
+        Err(Stop::Spent) => 1,
+        Err(Stop::Full) => 2,
+    }
+}
+
+// Visited boards (or tried codes), layouts, and the fewest lines of a layout, 481 for none.
+#[derive(Clone, Copy, PartialEq, Eq)]
 pub struct Tally {
-    pub outcome: u8,
     pub visited: u64,
     pub layouts: usize,
     pub fewest: usize,
@@ -17,16 +36,36 @@ pub struct Tally {
 impl Tally {
     // Nothing counted yet.
     pub const EMPTY: Tally = Tally {
-        outcome: 0,
         visited: 0,
         layouts: 0,
         fewest: 481,
     };
+
+    // The place of one more record of so many bytes in a buffer of so many; none where there is no room for it.
+    pub fn place(&self, size: usize, room: usize) -> Result<usize, Stop>
+        requires { self.now.layouts * size ≤ room }
+        ensures { MatchResult result (λ at. (at ≡ self.now.layouts * size) × (size ≤ room - at)) (λ stop. (stop ≡ Full) × (room - self.now.layouts * size < size)) }
+    {
+        let at = self.layouts * size;
+        if room - at < size {
+            return Err(Stop::Full);
+        }
+        Ok(at)
+    }
+
+    // One layout more, with so many lines.
+    pub fn add(&mut self, lines: usize)
+        requires { self.old.layouts < usize.MAX }
+        ensures { self.new ≡ record { visited = self.old.visited; layouts = self.old.layouts + 1; fewest = least self.old.fewest lines } }
+    {
+        self.layouts += 1;
+        self.fewest = self.fewest.min(lines);
+    }
 }
 
-// The lesser of two, by which the fewest lines are kept.
-pub fn least(a: usize, b: usize) -> usize
-    ensures { result ≡ model.least a b }
-{
-    if a <= b { a } else { b }
+// What an engine answers: how its run ended, and what it has counted.
+#[derive(Clone, Copy, PartialEq, Eq)]
+pub struct Solved {
+    pub outcome: Result<(), Stop>,
+    pub tally: Tally,
 }

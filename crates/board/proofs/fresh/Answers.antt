@@ -3,4 +3,4 @@ use Rattle.board.specs.DecisionLaws.{fresh_held}
 use Rattle.board.proofs.fresh.Goals as goal
 
 pub returns : goal.returns
-returns c = fresh_held _ _ _ _ _ _ _ c.fresh_board-arrays.ensures c.no_entries.ensures c.no_marks.ensures
+returns c = fresh_held _ _ _ _ _ _ _ c.fresh_board-fresh.ensures.0 c.fresh_board-fresh.ensures.1 c.no_marks.ensures

@@ -20,19 +20,13 @@ overflow_mul-pads c =
 pub loop-v-init : goal.loop-v-init
 loop-v-init c = (omega arith, (λ i. c.height.ensures i * c.width.ensures i), none_shut _ _ c.requires.1)
 
-pub shut_pad-count-requires : goal.shut_pad-count-requires
-shut_pad-count-requires c = let loop = c.loop-v.invariant in
+pub shut_pad-requires : goal.shut_pad-requires
+shut_pad-requires c = let loop = c.loop-v.invariant in
     (omega (arith, c.loop-v-test.true, loop.1), c.requires.0, loop.2.ready)
-
-pub overflow_add-v : goal.overflow_add-v
-overflow_add-v c = let loop = c.loop-v.invariant in omega (arith, c.loop-v-test.true, loop.1, loop.2.ready.few_pads)
-
-pub loop-v-smaller : goal.loop-v-smaller
-loop-v-smaller c = omega arith
 
 pub loop-v-preserved : goal.loop-v-preserved
 loop-v-preserved c = let loop = c.loop-v.invariant in
-    (omega arith, loop.1, one_more_shut _ _ _ _ _ (omega (arith, c.loop-v-test.true, loop.1)) loop.2 c.shut_pad-count.ensures)
+    (omega arith, loop.1, one_more_shut _ _ _ _ _ (omega (arith, c.loop-v-test.true, loop.1)) loop.2 c.shut_pad.ensures)
 
 pub returns : goal.returns
 returns c = let loop = c.loop-v.invariant in all_shut _ _ _ _ (omega (arith, c.loop-v-test.false, loop.1)) loop.2

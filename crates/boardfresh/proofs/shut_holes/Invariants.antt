@@ -8,7 +8,4 @@ use Rattle.boardfresh.proofs.shut_holes.Given as goal
 
 abbrev pub invariant-loop-v : goal.invariant-loop-v
 invariant-loop-v l = (l.v ≤ l.pads) × (l.pads ≡ pads (grid_in l.kind))
-    × ShutBefore (grid_in l.kind) (record { edges = l.initial.edges; ends = l.initial.ends; log = l.initial.log; count = l.initial.count }) l.v (record { edges = l.edges; ends = l.ends; log = l.log; count = l.count })
-
-abbrev pub decreases-loop-v : goal.decreases-loop-v
-decreases-loop-v l = l.pads - l.v
+    × ShutBefore (grid_in l.kind) l.initial.board l.v l.board

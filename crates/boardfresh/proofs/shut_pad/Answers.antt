@@ -13,4 +13,4 @@ pub returns : goal.returns
 returns c =
     let entry = c.requires in
     four_done _ entry.1.least_width entry.1.largest_width _ entry.0 (sym c.is_hole.ensures ∙ not-false _ (ap not c.if-not-is_hole.false))
-    _ c.width-width.ensures _ _ _ _ _ c.shut_edge-left.ensures c.shut_edge-right.ensures c.shut_edge-up.ensures c.shut_edge.ensures
+    _ c.width-width.ensures _ _ _ _ _ c.shut_edge.ensures c.shut_edge-2.ensures c.shut_edge-3.ensures c.shut_edge-4.ensures

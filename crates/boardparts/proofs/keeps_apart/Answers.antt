@@ -6,15 +6,15 @@ use mathlib.Core.Path.{refl}
 use Rattle.boardparts.proofs.keeps_apart.Goals as goal
 
 pub overflow_sub-past : goal.overflow_sub-past
-overflow_sub-past c = omega (arith, c.requires.2 c.if-edges-slot-eq-UNDECIDED.true)
+overflow_sub-past c = omega (arith, c.requires.2 c.if-board-slot-eq-UNDECIDED.true)
 
 pub end_code-requires : goal.end_code-requires
 end_code-requires c = omega (arith, c.requires.1, c.requires.3)
 
-pub returns-then-edges-slot-eq-UNDECIDED : goal.returns-then-edges-slot-eq-UNDECIDED
+pub returns-then-board-slot-eq-UNDECIDED : goal.returns-then-board-slot-eq-UNDECIDED
 unfolding keeps_apart
-returns-then-edges-slot-eq-UNDECIDED c = rw (eq-eqb _ _ c.if-edges-slot-eq-UNDECIDED.true, ← c.end_code.ensures) c.rivals.ensures
+returns-then-board-slot-eq-UNDECIDED c = rw (eq-eqb _ _ c.if-board-slot-eq-UNDECIDED.true, ← c.end_code.ensures) c.rivals.ensures
 
 pub returns : goal.returns
 unfolding keeps_apart
-returns c = rw (ne_eqb _ _ c.if-edges-slot-eq-UNDECIDED.false) refl
+returns c = rw (ne_eqb _ _ c.if-board-slot-eq-UNDECIDED.false) refl

@@ -14,8 +14,8 @@ first_pad-v-requires c = rw c.logged_slot-slot.ensures (slot_bounds (grid_in c.a
 pub second_pad-q-requires : goal.second_pad-q-requires
 second_pad-q-requires c = let b = slot_bounds (grid_in c.args.kind.now) c.requires.2.least_width c.requires.2.largest_width c.requires.3 _ c.requires.4.on in (omega (arith, b.0, c.logged_slot-slot.ensures), omega (arith, b.1, c.logged_slot-slot.ensures), rw c.width.ensures c.requires.2.largest_width)
 
-pub bounds-edges-slot : goal.bounds-edges-slot
-bounds-edges-slot c = let b = slot_bounds (grid_in c.args.kind.now) c.requires.2.least_width c.requires.2.largest_width c.requires.3 _ c.requires.4.on in omega (arith, b.1, c.logged_slot-slot.ensures)
+pub bounds-board-slot : goal.bounds-board-slot
+bounds-board-slot c = let b = slot_bounds (grid_in c.args.kind.now) c.requires.2.least_width c.requires.2.largest_width c.requires.3 _ c.requires.4.on in omega (arith, b.1, c.logged_slot-slot.ensures)
 
 pub unjoin-requires : goal.unjoin-requires
 unjoin-requires c =

@@ -3,7 +3,8 @@ use mathlib.Core.Path.{refl, ap, sym, ◌∙◌}
 use native.Mathlib.Omega.{arith}
 use Rattle.rules.specs.Grid.{right, down}
 use Rattle.rules.specs.Drawing.{on_left, on_right}
-use Rattle.boardview.specs.View.{grid_in, has_bit}
+use Rattle.boardview.specs.View.{grid_in, has_bit, going}
+use Rattle.boardview.specs.declared.Arrays.{Arrays}
 use Rattle.boardview.specs.Stores.{going_count}
 use Rattle.boardview.specs.Steps.{done_then, done_ended, slot_is_on, detour_off, detour_first, detour_both}
 use Rattle.boardview.specs.Items.{recount_decided, corner_off, corner_taken, corner_ends, corner_lines, bar_off, bar_none}
@@ -12,8 +13,8 @@ use Rattle.boardview.specs.Cycle.{same_on, none_room, none_high, none_first, non
 use Prim.Native.Nat.{◌+◌, ◌*◌}
 use Rattle.decision.proofs.+deciding.Goals as goal
 
-pub bar-returns-then-count-ge-ENDED : goal.bar-returns-then-count-ge-ENDED
-bar-returns-then-count-ge-ENDED t c = done_ended (grid_in c.args.kind.now) 1 _ _ c.requires.4 c.if-count-ge-ENDED.true
+pub bar-returns-then-board-ge-ENDED : goal.bar-returns-then-board-ge-ENDED
+bar-returns-then-board-ge-ENDED t c = done_ended (grid_in c.args.kind.now) 1 _ _ c.requires.4 c.if-board-ge-ENDED.true
 
 pub bar-has-requires : goal.bar-has-requires
 bar-has-requires t c = (omega (arith, c.requires.0))
@@ -26,13 +27,13 @@ bar-returns-then-has t c =
     let start = c in
     let has-says = c.has.ensures in
     let if2-taken = c.if-has.true in
-    bar_none (grid_in start.args.kind.now) _ start.requires.4 _ c.if-count-ge-ENDED.false _ (sym (has-says) ∙ if2-taken) (start.requires.2 (sym (has-says) ∙ if2-taken)) _ (c.decide_none.ensures.acts (start.requires.2 (sym (has-says) ∙ if2-taken)))
+    bar_none (grid_in start.args.kind.now) _ start.requires.4 _ c.if-board-ge-ENDED.false _ (sym (has-says) ∙ if2-taken) (start.requires.2 (sym (has-says) ∙ if2-taken)) _ (c.decide_none.ensures.acts (start.requires.2 (sym (has-says) ∙ if2-taken)))
 
-pub bar-returns : goal.bar-returns
-bar-returns t c = let start = c in bar_off (grid_in start.args.kind.now) _ start.requires.4 _ c.if-count-ge-ENDED.false _ (sym c.has.ensures ∙ c.if-has.false)
+pub bar-returns-else-has : goal.bar-returns-else-has
+bar-returns-else-has t c = let start = c in bar_off (grid_in start.args.kind.now) _ start.requires.4 _ c.if-board-ge-ENDED.false _ (sym c.has.ensures ∙ c.if-has.false)
 
-pub check-returns-then-count-ge-ENDED : goal.check-returns-then-count-ge-ENDED
-check-returns-then-count-ge-ENDED t c = done_ended (grid_in c.args.kind.now) 1 _ _ c.requires.3 c.if-count-ge-ENDED.true
+pub check-returns-then-board-ge-ENDED : goal.check-returns-then-board-ge-ENDED
+check-returns-then-board-ge-ENDED t c = done_ended (grid_in c.args.kind.now) 1 _ _ c.requires.3 c.if-board-ge-ENDED.true
 
 pub check-returns-then-v-eq512 : goal.check-returns-then-v-eq512
 check-returns-then-v-eq512 t c = check_nothing (grid_in c.args.kind.now) _ c.requires.3 _ c.if-v-eq512.true
@@ -48,7 +49,7 @@ check-first_side-side-requires t c =
     (small_pad start.args.kind.now _ start.requires.2 start.requires.3 start.args.v (start.requires.1 (omega (arith, start.requires.0, if2-left))), (omega (arith, start.requires.2.least_width, width-says)), (omega (arith, start.requires.2.largest_width, width-says)), start.requires.3.ends_long, past_left start.args.kind.now _ start.requires.2 start.requires.3 start.args.v (start.requires.1 (omega (arith, start.requires.0, if2-left))), past_up start.args.kind.now _ start.requires.2 start.requires.3 start.args.v (start.requires.1 (omega (arith, start.requires.0, if2-left))) _ (width-says))
 
 pub check-loop-side-init : goal.check-loop-side-init
-check-loop-side-init t c = let start = c in apart_begins start.args.kind.now _ start.requires.2 start.requires.3 start.args.v (start.requires.1 (omega (arith, start.requires.0, c.if-v-eq512.false))) _ c.width-w.ensures _ c.end_code-code.ensures c.if-count-ge-ENDED.false _ c.first_side-side.ensures
+check-loop-side-init t c = let start = c in apart_begins start.args.kind.now _ start.requires.2 start.requires.3 start.args.v (start.requires.1 (omega (arith, start.requires.0, c.if-v-eq512.false))) _ c.width-w.ensures _ c.end_code-code.ensures c.if-board-ge-ENDED.false _ c.first_side-side.ensures
 
 pub check-slot_around-there-requires : goal.check-slot_around-there-requires
 check-slot_around-there-requires t c = let start = c in (small_pad start.args.kind.now _ start.requires.2 start.requires.3 start.args.v (start.requires.1 (omega (arith, start.requires.0, c.if-v-eq512.false))), omega (arith, start.requires.2.largest_width, c.width-w.ensures))
@@ -66,8 +67,8 @@ check-slot_apart-slot-requires t c =
     let loop-inv = c.loop-side.invariant in
     (slot-around-says.1, c.past_around-past.ensures.1, (λ z. rw c.past_around-past.ensures.0 (past_there start.args.kind.now _ start.requires.2 start.requires.3 start.args.v (start.requires.1 (omega (arith, start.requires.0, if2-left))) _ (width-says) _ (end-code-says) _ _ (loop-inv) c.loop-side-test.true (rw slot-around-says.0 at z))), (apart_ready start.args.kind.now _ start.requires.2 start.requires.3 start.args.v (start.requires.1 (omega (arith, start.requires.0, if2-left))) _ (width-says) _ (end-code-says) _ _ (loop-inv)).ends_long)
 
-pub check-decide_none-next-requires : goal.check-decide_none-next-requires
-check-decide_none-next-requires t c =
+pub check-decide_none-requires : goal.check-decide_none-requires
+check-decide_none-requires t c =
     let start = c in
     let if2-left = c.if-v-eq512.false in
     let width-says = c.width-w.ensures in
@@ -82,13 +83,13 @@ pub check-loop-side-smaller : goal.check-loop-side-smaller
 check-loop-side-smaller t c = omega (arith, c.loop-side-test.true)
 
 pub check-loop-side-preserved : goal.check-loop-side-preserved
-check-loop-side-preserved t c = let start = c in apart_more start.args.kind.now _ start.requires.2 start.requires.3 start.args.v (start.requires.1 (omega (arith, start.requires.0, c.if-v-eq512.false))) _ c.width-w.ensures _ c.end_code-code.ensures _ _ c.loop-side.invariant c.loop-side-test.true _ (rw (c.slot_around-there.ensures.0, c.past_around-past.ensures.0) at c.slot_apart-slot.ensures.0) _ c.decide_none-next.ensures _ c.count_after-after.ensures
+check-loop-side-preserved t c = let start = c in apart_more start.args.kind.now _ start.requires.2 start.requires.3 start.args.v (start.requires.1 (omega (arith, start.requires.0, c.if-v-eq512.false))) _ c.width-w.ensures _ c.end_code-code.ensures _ _ c.loop-side.invariant c.loop-side-test.true _ (rw (c.slot_around-there.ensures.0, c.past_around-past.ensures.0) at c.slot_apart-slot.ensures.0) _ c.decide_none.ensures _ c.count_after-board.ensures
 
-pub check-returns-then-after-ge-ENDED : goal.check-returns-then-after-ge-ENDED
-check-returns-then-after-ge-ENDED t c =
+pub check-returns-then-board-ge-ENDED-2 : goal.check-returns-then-board-ge-ENDED-2
+check-returns-then-board-ge-ENDED-2 t c =
     let start = c in
     let if2-left = c.if-v-eq512.false in
-    check_ends (grid_in start.args.kind.now) _ _ start.args.v (omega (arith, small_pad start.args.kind.now _ start.requires.2 start.requires.3 start.args.v (start.requires.1 (omega (arith, start.requires.0, if2-left))))) c.if-count-ge-ENDED.false (apart_done start.args.kind.now _ start.requires.2 start.requires.3 start.args.v (start.requires.1 (omega (arith, start.requires.0, if2-left))) _ c.width-w.ensures _ c.end_code-code.ensures _ _ c.loop-side.invariant (λ low. absurd (omega (arith, c.loop-side-test.false)))) c.if-after-ge-ENDED.true
+    check_ends (grid_in start.args.kind.now) _ _ start.args.v (omega (arith, small_pad start.args.kind.now _ start.requires.2 start.requires.3 start.args.v (start.requires.1 (omega (arith, start.requires.0, if2-left))))) c.if-board-ge-ENDED.false (apart_done start.args.kind.now _ start.requires.2 start.requires.3 start.args.v (start.requires.1 (omega (arith, start.requires.0, if2-left))) _ c.width-w.ensures _ c.end_code-code.ensures _ _ c.loop-side.invariant (λ low. absurd (omega (arith, c.loop-side-test.false)))) c.if-board-ge-ENDED-2.true
 
 pub check-action-action-requires : goal.check-action-action-requires
 check-action-action-requires t c =
@@ -97,8 +98,8 @@ check-action-action-requires t c =
     let width-says = c.width-w.ensures in
     (small_pad start.args.kind.now _ start.requires.2 start.requires.3 start.args.v (start.requires.1 (omega (arith, start.requires.0, if2-left))), omega (arith, start.requires.2.largest_width, width-says), (apart_ready start.args.kind.now _ start.requires.2 start.requires.3 start.args.v (start.requires.1 (omega (arith, start.requires.0, if2-left))) _ (width-says) _ c.end_code-code.ensures _ _ c.loop-side.invariant).bytes, start.requires.2)
 
-pub check-rest-requires : goal.check-rest-requires
-check-rest-requires t c = c.if-action-lt2.true
+pub check-rest-board-requires : goal.check-rest-board-requires
+check-rest-board-requires t c = c.if-action-lt2.true
 
 pub check-returns-then-action-lt2 : goal.check-returns-then-action-lt2
 check-returns-then-action-lt2 t c =
@@ -107,10 +108,10 @@ check-returns-then-action-lt2 t c =
     let width-says = c.width-w.ensures in
     let end-code-says = c.end_code-code.ensures in
     let loop-inv = c.loop-side.invariant in
-    check_settles (grid_in start.args.kind.now) _ _ start.args.v (omega (arith, small_pad start.args.kind.now _ start.requires.2 start.requires.3 start.args.v (start.requires.1 (omega (arith, start.requires.0, if2-left))))) c.if-count-ge-ENDED.false (apart_done start.args.kind.now _ start.requires.2 start.requires.3 start.args.v (start.requires.1 (omega (arith, start.requires.0, if2-left))) _ (width-says) _ (end-code-says) _ _ (loop-inv) (λ low. absurd (omega (arith, c.loop-side-test.false)))) c.if-after-ge-ENDED.false _ (settle_rests start.args.kind.now _ start.requires.2 (apart_ready start.args.kind.now _ start.requires.2 start.requires.3 start.args.v (start.requires.1 (omega (arith, start.requires.0, if2-left))) _ (width-says) _ (end-code-says) _ _ (loop-inv)) start.args.v (start.requires.1 (omega (arith, start.requires.0, if2-left))) _ (width-says) _ c.action-action.ensures.0 c.if-action-lt2.true _ c.rest.ensures)
+    check_settles (grid_in start.args.kind.now) _ _ start.args.v (omega (arith, small_pad start.args.kind.now _ start.requires.2 start.requires.3 start.args.v (start.requires.1 (omega (arith, start.requires.0, if2-left))))) c.if-board-ge-ENDED.false (apart_done start.args.kind.now _ start.requires.2 start.requires.3 start.args.v (start.requires.1 (omega (arith, start.requires.0, if2-left))) _ (width-says) _ (end-code-says) _ _ (loop-inv) (λ low. absurd (omega (arith, c.loop-side-test.false)))) c.if-board-ge-ENDED-2.false _ (settle_rests start.args.kind.now _ start.requires.2 (apart_ready start.args.kind.now _ start.requires.2 start.requires.3 start.args.v (start.requires.1 (omega (arith, start.requires.0, if2-left))) _ (width-says) _ (end-code-says) _ _ (loop-inv)) start.args.v (start.requires.1 (omega (arith, start.requires.0, if2-left))) _ (width-says) _ c.action-action.ensures.0 c.if-action-lt2.true _ c.rest-board.ensures)
 
-pub check-decide_none-requires : goal.check-decide_none-requires
-check-decide_none-requires t c =
+pub check-decide_none-requires-then-action-ge-NONE_THERE : goal.check-decide_none-requires-then-action-ge-NONE_THERE
+check-decide_none-requires-then-action-ge-NONE_THERE t c =
     let start = c in
     let if2-left = c.if-v-eq512.false in
     let width-says = c.width-w.ensures in
@@ -125,7 +126,7 @@ check-returns-then-action-ge-NONE_THERE t c =
     let width-says = c.width-w.ensures in
     let end-code-says = c.end_code-code.ensures in
     let loop-inv = c.loop-side.invariant in
-    check_settles (grid_in start.args.kind.now) _ _ start.args.v (omega (arith, small_pad start.args.kind.now _ start.requires.2 start.requires.3 start.args.v (start.requires.1 (omega (arith, start.requires.0, if2-left))))) c.if-count-ge-ENDED.false (apart_done start.args.kind.now _ start.requires.2 start.requires.3 start.args.v (start.requires.1 (omega (arith, start.requires.0, if2-left))) _ (width-says) _ (end-code-says) _ _ (loop-inv) (λ low. absurd (omega (arith, c.loop-side-test.false)))) c.if-after-ge-ENDED.false _ (settle_leaves start.args.kind.now _ start.requires.2 (apart_ready start.args.kind.now _ start.requires.2 start.requires.3 start.args.v (start.requires.1 (omega (arith, start.requires.0, if2-left))) _ (width-says) _ (end-code-says) _ _ (loop-inv)) start.args.v (start.requires.1 (omega (arith, start.requires.0, if2-left))) _ (width-says) _ c.action-action.ensures.0 c.if-action-ge-NONE_THERE.true _ c.decide_none.ensures)
+    check_settles (grid_in start.args.kind.now) _ _ start.args.v (omega (arith, small_pad start.args.kind.now _ start.requires.2 start.requires.3 start.args.v (start.requires.1 (omega (arith, start.requires.0, if2-left))))) c.if-board-ge-ENDED.false (apart_done start.args.kind.now _ start.requires.2 start.requires.3 start.args.v (start.requires.1 (omega (arith, start.requires.0, if2-left))) _ (width-says) _ (end-code-says) _ _ (loop-inv) (λ low. absurd (omega (arith, c.loop-side-test.false)))) c.if-board-ge-ENDED-2.false _ (settle_leaves start.args.kind.now _ start.requires.2 (apart_ready start.args.kind.now _ start.requires.2 start.requires.3 start.args.v (start.requires.1 (omega (arith, start.requires.0, if2-left))) _ (width-says) _ (end-code-says) _ _ (loop-inv)) start.args.v (start.requires.1 (omega (arith, start.requires.0, if2-left))) _ (width-says) _ c.action-action.ensures.0 c.if-action-ge-NONE_THERE.true _ c.decide_none-then-action-ge-NONE_THERE.ensures)
 
 pub check-overflow_sub-pad : goal.check-overflow_sub-pad
 check-overflow_sub-pad t c =
@@ -153,7 +154,7 @@ check-returns-then-action-eq0 t c =
     let width-says = c.width-w.ensures in
     let end-code-says = c.end_code-code.ensures in
     let loop-inv = c.loop-side.invariant in
-    check_settles (grid_in start.args.kind.now) _ _ start.args.v (omega (arith, small_pad start.args.kind.now _ start.requires.2 start.requires.3 start.args.v (start.requires.1 (omega (arith, start.requires.0, if2-left))))) c.if-count-ge-ENDED.false (apart_done start.args.kind.now _ start.requires.2 start.requires.3 start.args.v (start.requires.1 (omega (arith, start.requires.0, if2-left))) _ (width-says) _ (end-code-says) _ _ (loop-inv) (λ low. absurd (omega (arith, c.loop-side-test.false)))) c.if-after-ge-ENDED.false _ (settle_draws_right start.args.kind.now _ start.requires.2 (apart_ready start.args.kind.now _ start.requires.2 start.requires.3 start.args.v (start.requires.1 (omega (arith, start.requires.0, if2-left))) _ (width-says) _ (end-code-says) _ _ (loop-inv)) start.args.v (start.requires.1 (omega (arith, start.requires.0, if2-left))) _ (width-says) _ c.action-action.ensures.0 c.if-action-lt2.false c.if-action-ge-NONE_THERE.false _ refl c.if-action-eq0.true _ c.decide_line_right.ensures)
+    check_settles (grid_in start.args.kind.now) _ _ start.args.v (omega (arith, small_pad start.args.kind.now _ start.requires.2 start.requires.3 start.args.v (start.requires.1 (omega (arith, start.requires.0, if2-left))))) c.if-board-ge-ENDED.false (apart_done start.args.kind.now _ start.requires.2 start.requires.3 start.args.v (start.requires.1 (omega (arith, start.requires.0, if2-left))) _ (width-says) _ (end-code-says) _ _ (loop-inv) (λ low. absurd (omega (arith, c.loop-side-test.false)))) c.if-board-ge-ENDED-2.false _ (settle_draws_right start.args.kind.now _ start.requires.2 (apart_ready start.args.kind.now _ start.requires.2 start.requires.3 start.args.v (start.requires.1 (omega (arith, start.requires.0, if2-left))) _ (width-says) _ (end-code-says) _ _ (loop-inv)) start.args.v (start.requires.1 (omega (arith, start.requires.0, if2-left))) _ (width-says) _ c.action-action.ensures.0 c.if-action-lt2.false c.if-action-ge-NONE_THERE.false _ refl c.if-action-eq0.true _ c.decide_line_right.ensures)
 
 pub check-decide_line_down-requires : goal.check-decide_line_down-requires
 check-decide_line_down-requires t c =
@@ -174,88 +175,88 @@ check-returns t c =
     let width-says = c.width-w.ensures in
     let end-code-says = c.end_code-code.ensures in
     let loop-inv = c.loop-side.invariant in
-    check_settles (grid_in start.args.kind.now) _ _ start.args.v (omega (arith, small_pad start.args.kind.now _ start.requires.2 start.requires.3 start.args.v (start.requires.1 (omega (arith, start.requires.0, if2-left))))) c.if-count-ge-ENDED.false (apart_done start.args.kind.now _ start.requires.2 start.requires.3 start.args.v (start.requires.1 (omega (arith, start.requires.0, if2-left))) _ (width-says) _ (end-code-says) _ _ (loop-inv) (λ low. absurd (omega (arith, c.loop-side-test.false)))) c.if-after-ge-ENDED.false _ (settle_draws_down start.args.kind.now _ start.requires.2 (apart_ready start.args.kind.now _ start.requires.2 start.requires.3 start.args.v (start.requires.1 (omega (arith, start.requires.0, if2-left))) _ (width-says) _ (end-code-says) _ _ (loop-inv)) start.args.v (start.requires.1 (omega (arith, start.requires.0, if2-left))) _ (width-says) _ c.action-action.ensures.0 c.if-action-lt2.false c.if-action-ge-NONE_THERE.false _ refl c.if-action-eq0.false _ c.decide_line_down.ensures)
+    check_settles (grid_in start.args.kind.now) _ _ start.args.v (omega (arith, small_pad start.args.kind.now _ start.requires.2 start.requires.3 start.args.v (start.requires.1 (omega (arith, start.requires.0, if2-left))))) c.if-board-ge-ENDED.false (apart_done start.args.kind.now _ start.requires.2 start.requires.3 start.args.v (start.requires.1 (omega (arith, start.requires.0, if2-left))) _ (width-says) _ (end-code-says) _ _ (loop-inv) (λ low. absurd (omega (arith, c.loop-side-test.false)))) c.if-board-ge-ENDED-2.false _ (settle_draws_down start.args.kind.now _ start.requires.2 (apart_ready start.args.kind.now _ start.requires.2 start.requires.3 start.args.v (start.requires.1 (omega (arith, start.requires.0, if2-left))) _ (width-says) _ (end-code-says) _ _ (loop-inv)) start.args.v (start.requires.1 (omega (arith, start.requires.0, if2-left))) _ (width-says) _ c.action-action.ensures.0 c.if-action-lt2.false c.if-action-ge-NONE_THERE.false _ refl c.if-action-eq0.false _ c.decide_line_down.ensures)
 
-pub corner_left-returns-then-count-ge-ENDED : goal.corner_left-returns-then-count-ge-ENDED
-corner_left-returns-then-count-ge-ENDED t c = done_ended (grid_in c.args.kind.now) 1 _ _ c.requires.4 c.if-count-ge-ENDED.true
+pub corner_left-returns-then-board-ge-ENDED : goal.corner_left-returns-then-board-ge-ENDED
+corner_left-returns-then-board-ge-ENDED t c = done_ended (grid_in c.args.kind.now) 1 _ _ c.requires.4 c.if-board-ge-ENDED.true
 
-pub corner_left-returns-then-edges-a-ne-LINE : goal.corner_left-returns-then-edges-a-ne-LINE
-corner_left-returns-then-edges-a-ne-LINE t c = let start = c in corner_off start.args.kind.now on_left _ start.requires.4 start.args.q start.args.a start.requires.0 c.if-count-ge-ENDED.false c.if-edges-a-ne-LINE.true
+pub corner_left-returns-then-board-a-ne-LINE : goal.corner_left-returns-then-board-a-ne-LINE
+corner_left-returns-then-board-a-ne-LINE t c = let start = c in corner_off start.args.kind.now on_left _ start.requires.4 start.args.q start.args.a start.requires.0 c.if-board-ge-ENDED.false c.if-board-a-ne-LINE.true
 
 pub corner_left-has-requires : goal.corner_left-has-requires
 corner_left-has-requires t c = (omega (arith, c.requires.1))
 
 pub corner_left-returns-then-has : goal.corner_left-returns-then-has
-corner_left-returns-then-has t c = let start = c in corner_taken start.args.kind.now on_left _ start.requires.4 start.args.q start.args.a start.requires.0 c.if-count-ge-ENDED.false c.if-edges-a-ne-LINE.false start.requires.3 (omega (arith, (start.requires.2 (slot_is_on (grid_in start.args.kind.now) _ start.requires.4 start.args.a start.requires.0 (omega (arith, c.if-edges-a-ne-LINE.false)))), start.requires.4.few_pads)) (sym c.has.ensures ∙ c.if-has.true)
+corner_left-returns-then-has t c = let start = c in corner_taken start.args.kind.now on_left _ start.requires.4 start.args.q start.args.a start.requires.0 c.if-board-ge-ENDED.false c.if-board-a-ne-LINE.false start.requires.3 (omega (arith, (start.requires.2 (slot_is_on (grid_in start.args.kind.now) _ start.requires.4 start.args.a start.requires.0 (omega (arith, c.if-board-a-ne-LINE.false)))), start.requires.4.few_pads)) (sym c.has.ensures ∙ c.if-has.true)
 
 pub corner_left-has-requires-2 : goal.corner_left-has-requires-2
 corner_left-has-requires-2 t c = (omega (arith, c.requires.1))
 
 pub corner_left-overflow_sub-q : goal.corner_left-overflow_sub-q
-corner_left-overflow_sub-q t c = let start = c in omega (arith, corner_not_first start.args.kind.now start.requires.3 start.args.q (start.requires.2 (slot_is_on (grid_in start.args.kind.now) _ start.requires.4 start.args.a start.requires.0 (omega (arith, c.if-edges-a-ne-LINE.false)))) _ c.has-2.ensures c.if-has-2.true)
+corner_left-overflow_sub-q t c = let start = c in omega (arith, corner_not_first start.args.kind.now start.requires.3 start.args.q (start.requires.2 (slot_is_on (grid_in start.args.kind.now) _ start.requires.4 start.args.a start.requires.0 (omega (arith, c.if-board-a-ne-LINE.false)))) _ c.has-2.ensures c.if-has-2.true)
 
-pub corner_left-decide_line_right-after-requires : goal.corner_left-decide_line_right-after-requires
-corner_left-decide_line_right-after-requires t c =
+pub corner_left-decide_line_right-requires : goal.corner_left-decide_line_right-requires
+corner_left-decide_line_right-requires t c =
     let start = c in
-    let if2-left = c.if-edges-a-ne-LINE.false in
+    let if2-left = c.if-board-a-ne-LINE.false in
     ((omega (arith, start.decreases)), (corner_line_left start.args.kind.now start.requires.3 start.args.q (start.requires.2 (slot_is_on (grid_in start.args.kind.now) _ start.requires.4 start.args.a start.requires.0 (omega (arith, if2-left)))) _ c.has-2.ensures c.if-has-2.true, (omega (arith, (start.requires.2 (slot_is_on (grid_in start.args.kind.now) _ start.requires.4 start.args.a start.requires.0 (omega (arith, if2-left)))), start.requires.4.few_pads)), start.requires.3, start.requires.4))
 
-pub corner_left-decide_line_down-after-requires : goal.corner_left-decide_line_down-after-requires
-corner_left-decide_line_down-after-requires t c =
+pub corner_left-decide_line_down-requires : goal.corner_left-decide_line_down-requires
+corner_left-decide_line_down-requires t c =
     let start = c in
-    let if2-left = c.if-edges-a-ne-LINE.false in
-    let d = c.decide_line_right-after.ensures in ((omega (arith, start.decreases, d.fewer)), (corner_down start.args.kind.now start.requires.3 start.args.q (start.requires.2 (slot_is_on (grid_in start.args.kind.now) _ start.requires.4 start.args.a start.requires.0 (omega (arith, if2-left)))) _ on_left c.has-2.ensures c.if-has-2.true, (omega (arith, (start.requires.2 (slot_is_on (grid_in start.args.kind.now) _ start.requires.4 start.args.a start.requires.0 (omega (arith, if2-left)))), start.requires.4.few_pads)), start.requires.3, rw c.go_on.ensures (recount_decided d)))
+    let if2-left = c.if-board-a-ne-LINE.false in
+    let d = c.decide_line_right.ensures in ((omega (arith, start.decreases, d.fewer)), (corner_down start.args.kind.now start.requires.3 start.args.q (start.requires.2 (slot_is_on (grid_in start.args.kind.now) _ start.requires.4 start.args.a start.requires.0 (omega (arith, if2-left)))) _ on_left c.has-2.ensures c.if-has-2.true, (omega (arith, (start.requires.2 (slot_is_on (grid_in start.args.kind.now) _ start.requires.4 start.args.a start.requires.0 (omega (arith, if2-left)))), start.requires.4.few_pads)), start.requires.3, rw c.go_on-board.ensures (recount_decided d)))
 
 pub corner_left-returns-then-has-2 : goal.corner_left-returns-then-has-2
 corner_left-returns-then-has-2 t c =
     let start = c in
-    let if2-left = c.if-edges-a-ne-LINE.false in
-    rw c.go_on-then-has-2.ensures (corner_lines start.args.kind.now on_left _ start.requires.4 start.args.q start.args.a start.requires.0 c.if-count-ge-ENDED.false (if2-left) start.requires.3 (omega (arith, (start.requires.2 (slot_is_on (grid_in start.args.kind.now) _ start.requires.4 start.args.a start.requires.0 (omega (arith, if2-left)))), start.requires.4.few_pads)) (sym c.has.ensures ∙ c.if-has.false) (corner_exists start.args.kind.now start.requires.3 start.args.q (start.requires.2 (slot_is_on (grid_in start.args.kind.now) _ start.requires.4 start.args.a start.requires.0 (omega (arith, if2-left)))) _ on_left c.has-2.ensures ∙ c.if-has-2.true) _ _ c.decide_line_right-after.ensures (rw c.go_on.ensures at c.decide_line_down-after.ensures))
+    let if2-left = c.if-board-a-ne-LINE.false in
+    rw c.go_on-board-then-has-2.ensures (corner_lines start.args.kind.now on_left _ start.requires.4 start.args.q start.args.a start.requires.0 c.if-board-ge-ENDED.false (if2-left) start.requires.3 (omega (arith, (start.requires.2 (slot_is_on (grid_in start.args.kind.now) _ start.requires.4 start.args.a start.requires.0 (omega (arith, if2-left)))), start.requires.4.few_pads)) (sym c.has.ensures ∙ c.if-has.false) (corner_exists start.args.kind.now start.requires.3 start.args.q (start.requires.2 (slot_is_on (grid_in start.args.kind.now) _ start.requires.4 start.args.a start.requires.0 (omega (arith, if2-left)))) _ on_left c.has-2.ensures ∙ c.if-has-2.true) _ _ c.decide_line_right.ensures (rw c.go_on-board.ensures at c.decide_line_down.ensures))
 
 pub corner_left-returns : goal.corner_left-returns
 corner_left-returns t c =
     let start = c in
-    let if2-left = c.if-edges-a-ne-LINE.false in
-    rw c.stop.ensures (corner_ends start.args.kind.now on_left _ start.requires.4 start.args.q start.args.a start.requires.0 c.if-count-ge-ENDED.false (if2-left) start.requires.3 (omega (arith, (start.requires.2 (slot_is_on (grid_in start.args.kind.now) _ start.requires.4 start.args.a start.requires.0 (omega (arith, if2-left)))), start.requires.4.few_pads)) (sym c.has.ensures ∙ c.if-has.false) (corner_exists start.args.kind.now start.requires.3 start.args.q (start.requires.2 (slot_is_on (grid_in start.args.kind.now) _ start.requires.4 start.args.a start.requires.0 (omega (arith, if2-left)))) _ on_left c.has-2.ensures ∙ c.if-has-2.false))
+    let if2-left = c.if-board-a-ne-LINE.false in
+    rw c.stop-board.ensures (corner_ends start.args.kind.now on_left _ start.requires.4 start.args.q start.args.a start.requires.0 c.if-board-ge-ENDED.false (if2-left) start.requires.3 (omega (arith, (start.requires.2 (slot_is_on (grid_in start.args.kind.now) _ start.requires.4 start.args.a start.requires.0 (omega (arith, if2-left)))), start.requires.4.few_pads)) (sym c.has.ensures ∙ c.if-has.false) (corner_exists start.args.kind.now start.requires.3 start.args.q (start.requires.2 (slot_is_on (grid_in start.args.kind.now) _ start.requires.4 start.args.a start.requires.0 (omega (arith, if2-left)))) _ on_left c.has-2.ensures ∙ c.if-has-2.false))
 
-pub corner_right-returns-then-count-ge-ENDED : goal.corner_right-returns-then-count-ge-ENDED
-corner_right-returns-then-count-ge-ENDED t c = done_ended (grid_in c.args.kind.now) 1 _ _ c.requires.4 c.if-count-ge-ENDED.true
+pub corner_right-returns-then-board-ge-ENDED : goal.corner_right-returns-then-board-ge-ENDED
+corner_right-returns-then-board-ge-ENDED t c = done_ended (grid_in c.args.kind.now) 1 _ _ c.requires.4 c.if-board-ge-ENDED.true
 
-pub corner_right-returns-then-edges-a-ne-LINE : goal.corner_right-returns-then-edges-a-ne-LINE
-corner_right-returns-then-edges-a-ne-LINE t c = let start = c in corner_off start.args.kind.now on_right _ start.requires.4 start.args.q start.args.a start.requires.0 c.if-count-ge-ENDED.false c.if-edges-a-ne-LINE.true
+pub corner_right-returns-then-board-a-ne-LINE : goal.corner_right-returns-then-board-a-ne-LINE
+corner_right-returns-then-board-a-ne-LINE t c = let start = c in corner_off start.args.kind.now on_right _ start.requires.4 start.args.q start.args.a start.requires.0 c.if-board-ge-ENDED.false c.if-board-a-ne-LINE.true
 
 pub corner_right-has-requires : goal.corner_right-has-requires
 corner_right-has-requires t c = (omega (arith, c.requires.1))
 
 pub corner_right-returns-then-has : goal.corner_right-returns-then-has
-corner_right-returns-then-has t c = let start = c in corner_taken start.args.kind.now on_right _ start.requires.4 start.args.q start.args.a start.requires.0 c.if-count-ge-ENDED.false c.if-edges-a-ne-LINE.false start.requires.3 (omega (arith, (start.requires.2 (slot_is_on (grid_in start.args.kind.now) _ start.requires.4 start.args.a start.requires.0 (omega (arith, c.if-edges-a-ne-LINE.false)))), start.requires.4.few_pads)) (sym c.has.ensures ∙ c.if-has.true)
+corner_right-returns-then-has t c = let start = c in corner_taken start.args.kind.now on_right _ start.requires.4 start.args.q start.args.a start.requires.0 c.if-board-ge-ENDED.false c.if-board-a-ne-LINE.false start.requires.3 (omega (arith, (start.requires.2 (slot_is_on (grid_in start.args.kind.now) _ start.requires.4 start.args.a start.requires.0 (omega (arith, c.if-board-a-ne-LINE.false)))), start.requires.4.few_pads)) (sym c.has.ensures ∙ c.if-has.true)
 
 pub corner_right-has-requires-2 : goal.corner_right-has-requires-2
 corner_right-has-requires-2 t c = (omega (arith, c.requires.1))
 
-pub corner_right-decide_line_right-after-requires : goal.corner_right-decide_line_right-after-requires
-corner_right-decide_line_right-after-requires t c =
+pub corner_right-decide_line_right-requires : goal.corner_right-decide_line_right-requires
+corner_right-decide_line_right-requires t c =
     let start = c in
-    let if2-left = c.if-edges-a-ne-LINE.false in
+    let if2-left = c.if-board-a-ne-LINE.false in
     ((omega (arith, start.decreases)), (corner_line_right start.args.kind.now start.requires.3 start.args.q (start.requires.2 (slot_is_on (grid_in start.args.kind.now) _ start.requires.4 start.args.a start.requires.0 (omega (arith, if2-left)))) _ c.has-2.ensures c.if-has-2.true, (omega (arith, (start.requires.2 (slot_is_on (grid_in start.args.kind.now) _ start.requires.4 start.args.a start.requires.0 (omega (arith, if2-left)))), start.requires.4.few_pads)), start.requires.3, start.requires.4))
 
-pub corner_right-decide_line_down-after-requires : goal.corner_right-decide_line_down-after-requires
-corner_right-decide_line_down-after-requires t c =
+pub corner_right-decide_line_down-requires : goal.corner_right-decide_line_down-requires
+corner_right-decide_line_down-requires t c =
     let start = c in
-    let if2-left = c.if-edges-a-ne-LINE.false in
-    let d = c.decide_line_right-after.ensures in ((omega (arith, start.decreases, d.fewer)), (corner_down start.args.kind.now start.requires.3 start.args.q (start.requires.2 (slot_is_on (grid_in start.args.kind.now) _ start.requires.4 start.args.a start.requires.0 (omega (arith, if2-left)))) _ on_right c.has-2.ensures c.if-has-2.true, (omega (arith, (start.requires.2 (slot_is_on (grid_in start.args.kind.now) _ start.requires.4 start.args.a start.requires.0 (omega (arith, if2-left)))), start.requires.4.few_pads)), start.requires.3, rw c.go_on.ensures (recount_decided d)))
+    let if2-left = c.if-board-a-ne-LINE.false in
+    let d = c.decide_line_right.ensures in ((omega (arith, start.decreases, d.fewer)), (corner_down start.args.kind.now start.requires.3 start.args.q (start.requires.2 (slot_is_on (grid_in start.args.kind.now) _ start.requires.4 start.args.a start.requires.0 (omega (arith, if2-left)))) _ on_right c.has-2.ensures c.if-has-2.true, (omega (arith, (start.requires.2 (slot_is_on (grid_in start.args.kind.now) _ start.requires.4 start.args.a start.requires.0 (omega (arith, if2-left)))), start.requires.4.few_pads)), start.requires.3, rw c.go_on-board.ensures (recount_decided d)))
 
 pub corner_right-returns-then-has-2 : goal.corner_right-returns-then-has-2
 corner_right-returns-then-has-2 t c =
     let start = c in
-    let if2-left = c.if-edges-a-ne-LINE.false in
-    rw c.go_on-then-has-2.ensures (corner_lines start.args.kind.now on_right _ start.requires.4 start.args.q start.args.a start.requires.0 c.if-count-ge-ENDED.false (if2-left) start.requires.3 (omega (arith, (start.requires.2 (slot_is_on (grid_in start.args.kind.now) _ start.requires.4 start.args.a start.requires.0 (omega (arith, if2-left)))), start.requires.4.few_pads)) (sym c.has.ensures ∙ c.if-has.false) (corner_exists start.args.kind.now start.requires.3 start.args.q (start.requires.2 (slot_is_on (grid_in start.args.kind.now) _ start.requires.4 start.args.a start.requires.0 (omega (arith, if2-left)))) _ on_right c.has-2.ensures ∙ c.if-has-2.true) _ _ c.decide_line_right-after.ensures (rw c.go_on.ensures at c.decide_line_down-after.ensures))
+    let if2-left = c.if-board-a-ne-LINE.false in
+    rw c.go_on-board-then-has-2.ensures (corner_lines start.args.kind.now on_right _ start.requires.4 start.args.q start.args.a start.requires.0 c.if-board-ge-ENDED.false (if2-left) start.requires.3 (omega (arith, (start.requires.2 (slot_is_on (grid_in start.args.kind.now) _ start.requires.4 start.args.a start.requires.0 (omega (arith, if2-left)))), start.requires.4.few_pads)) (sym c.has.ensures ∙ c.if-has.false) (corner_exists start.args.kind.now start.requires.3 start.args.q (start.requires.2 (slot_is_on (grid_in start.args.kind.now) _ start.requires.4 start.args.a start.requires.0 (omega (arith, if2-left)))) _ on_right c.has-2.ensures ∙ c.if-has-2.true) _ _ c.decide_line_right.ensures (rw c.go_on-board.ensures at c.decide_line_down.ensures))
 
 pub corner_right-returns : goal.corner_right-returns
 corner_right-returns t c =
     let start = c in
-    let if2-left = c.if-edges-a-ne-LINE.false in
-    rw c.stop.ensures (corner_ends start.args.kind.now on_right _ start.requires.4 start.args.q start.args.a start.requires.0 c.if-count-ge-ENDED.false (if2-left) start.requires.3 (omega (arith, (start.requires.2 (slot_is_on (grid_in start.args.kind.now) _ start.requires.4 start.args.a start.requires.0 (omega (arith, if2-left)))), start.requires.4.few_pads)) (sym c.has.ensures ∙ c.if-has.false) (corner_exists start.args.kind.now start.requires.3 start.args.q (start.requires.2 (slot_is_on (grid_in start.args.kind.now) _ start.requires.4 start.args.a start.requires.0 (omega (arith, if2-left)))) _ on_right c.has-2.ensures ∙ c.if-has-2.false))
+    let if2-left = c.if-board-a-ne-LINE.false in
+    rw c.stop-board.ensures (corner_ends start.args.kind.now on_right _ start.requires.4 start.args.q start.args.a start.requires.0 c.if-board-ge-ENDED.false (if2-left) start.requires.3 (omega (arith, (start.requires.2 (slot_is_on (grid_in start.args.kind.now) _ start.requires.4 start.args.a start.requires.0 (omega (arith, if2-left)))), start.requires.4.few_pads)) (sym c.has.ensures ∙ c.if-has.false) (corner_exists start.args.kind.now start.requires.3 start.args.q (start.requires.2 (slot_is_on (grid_in start.args.kind.now) _ start.requires.4 start.args.a start.requires.0 (omega (arith, if2-left)))) _ on_right c.has-2.ensures ∙ c.if-has-2.false))
 
 pub decide_line_down-overflow_mul-slot : goal.decide_line_down-overflow_mul-slot
 decide_line_down-overflow_mul-slot t c = omega (arith, c.requires.1, c.requires.2.largest_width, c.requires.2.least_width)
@@ -263,8 +264,8 @@ decide_line_down-overflow_mul-slot t c = omega (arith, c.requires.1, c.requires.
 pub decide_line_down-overflow_add-slot : goal.decide_line_down-overflow_add-slot
 decide_line_down-overflow_add-slot t c = omega (arith, c.requires.1, c.requires.2.largest_width, c.requires.2.least_width)
 
-pub decide_line_down-bounds-edges-slot : goal.decide_line_down-bounds-edges-slot
-decide_line_down-bounds-edges-slot t c = omega (arith, c.requires.1)
+pub decide_line_down-bounds-board-slot : goal.decide_line_down-bounds-board-slot
+decide_line_down-bounds-board-slot t c = omega (arith, c.requires.1)
 
 pub decide_line_down-overflow_add-q : goal.decide_line_down-overflow_add-q
 decide_line_down-overflow_add-q t c = let start = c in omega (arith, start.requires.1, start.requires.2.largest_width, c.width-w.ensures, start.requires.2.least_width)
@@ -341,132 +342,132 @@ decide_line_down-end_pad-a-requires t c = let start = c in ((omega (arith, start
 pub decide_line_down-end_pad-b-requires : goal.decide_line_down-end_pad-b-requires
 decide_line_down-end_pad-b-requires t c = let start = c in ((omega (arith, line_second start.args.kind.now _ (down start.args.v) start.requires.2 start.requires.3 start.requires.0 c.if-old-eq-UNDECIDED.true _ (ap (◌+◌ start.args.v) c.width-w.ensures), start.requires.3.few_pads)), start.requires.3.ends_long)
 
-pub decide_line_down-begin_line-after-requires : goal.decide_line_down-begin_line-after-requires
-decide_line_down-begin_line-after-requires t c =
+pub decide_line_down-begin_line-requires : goal.decide_line_down-begin_line-requires
+decide_line_down-begin_line-requires t c =
     let start = c in
     let if1-taken = c.if-old-eq-UNDECIDED.true in
     let width-says = c.width-w.ensures in
     (omega (arith, start.requires.1), omega (arith, start.requires.1), (omega (arith, line_second start.args.kind.now _ (down start.args.v) start.requires.2 start.requires.3 start.requires.0 (if1-taken) _ (ap (◌+◌ start.args.v) (width-says)), start.requires.3.few_pads)), start.requires.3.mode, line_room start.args.kind.now _ (down start.args.v) start.requires.2 start.requires.3 start.requires.0 (if1-taken) _ (ap (◌+◌ start.args.v) (width-says)), start.requires.3.ends_long)
 
-pub decide_line_down-returns-then-after-ge-ENDED : goal.decide_line_down-returns-then-after-ge-ENDED
-decide_line_down-returns-then-after-ge-ENDED t c = let start = c in line_stops start.args.kind.now _ (down start.args.v) start.requires.2 start.requires.3 start.requires.0 c.if-old-eq-UNDECIDED.true _ (ap (◌+◌ start.args.v) c.width-w.ensures) _ c.begin_line-after.ensures c.if-after-ge-ENDED.true
+pub decide_line_down-returns-then-board-ge-ENDED : goal.decide_line_down-returns-then-board-ge-ENDED
+decide_line_down-returns-then-board-ge-ENDED t c = let start = c in line_stops start.args.kind.now _ (down start.args.v) start.requires.2 start.requires.3 start.requires.0 c.if-old-eq-UNDECIDED.true _ (ap (◌+◌ start.args.v) c.width-w.ensures) _ c.begin_line.ensures c.if-board-ge-ENDED.true
 
-pub decide_line_down-detour-after-requires : goal.decide_line_down-detour-after-requires
-decide_line_down-detour-after-requires t c =
+pub decide_line_down-detour-requires : goal.decide_line_down-detour-requires
+decide_line_down-detour-requires t c =
     let start = c in
     let width-says = c.width-w.ensures in
-    let st = line_is_stored start.args.kind.now _ (down start.args.v) start.requires.2 start.requires.3 start.requires.0 c.if-old-eq-UNDECIDED.true _ (ap (◌+◌ start.args.v) (width-says)) _ c.begin_line-after.ensures c.if-after-ge-ENDED.false in ((omega (arith, start.decreases, st.less)), ((omega (arith, start.requires.1, start.requires.2.largest_width, width-says)), (omega (arith, start.requires.1, start.requires.2.largest_width, width-says)), (omega (arith, start.requires.1, start.requires.2.largest_width, width-says)), (λ o. (same_on (down_left start.args.kind.now start.requires.2 start.requires.3.few_pads start.args.v _ (width-says) start.requires.0) (down_left_below start.args.kind.now start.requires.2 start.requires.3.few_pads start.args.v _ (width-says) start.requires.0) o, down_far_left start.args.kind.now start.requires.2 start.requires.3.few_pads start.args.v _ (width-says) start.requires.0 (sym (down_left start.args.kind.now start.requires.2 start.requires.3.few_pads start.args.v _ (width-says) start.requires.0) ∙ o))), start.requires.2, st.ready))
+    let st = line_is_stored start.args.kind.now _ (down start.args.v) start.requires.2 start.requires.3 start.requires.0 c.if-old-eq-UNDECIDED.true _ (ap (◌+◌ start.args.v) (width-says)) _ c.begin_line.ensures c.if-board-ge-ENDED.false in ((omega (arith, start.decreases, st.less)), ((omega (arith, start.requires.1, start.requires.2.largest_width, width-says)), (omega (arith, start.requires.1, start.requires.2.largest_width, width-says)), (omega (arith, start.requires.1, start.requires.2.largest_width, width-says)), (λ o. (same_on (down_left start.args.kind.now start.requires.2 start.requires.3.few_pads start.args.v _ (width-says) start.requires.0) (down_left_below start.args.kind.now start.requires.2 start.requires.3.few_pads start.args.v _ (width-says) start.requires.0) o, down_far_left start.args.kind.now start.requires.2 start.requires.3.few_pads start.args.v _ (width-says) start.requires.0 (sym (down_left start.args.kind.now start.requires.2 start.requires.3.few_pads start.args.v _ (width-says) start.requires.0) ∙ o))), start.requires.2, st.ready))
 
-pub decide_line_down-detour-after-requires-then-old-eq-UNDECIDED : goal.decide_line_down-detour-after-requires-then-old-eq-UNDECIDED
-decide_line_down-detour-after-requires-then-old-eq-UNDECIDED t c =
+pub decide_line_down-detour-requires-then-old-eq-UNDECIDED : goal.decide_line_down-detour-requires-then-old-eq-UNDECIDED
+decide_line_down-detour-requires-then-old-eq-UNDECIDED t c =
     let start = c in
     let width-says = c.width-w.ensures in
-    let detour-says = c.detour-after.ensures in
-    let st = line_is_stored start.args.kind.now _ (down start.args.v) start.requires.2 start.requires.3 start.requires.0 c.if-old-eq-UNDECIDED.true _ (ap (◌+◌ start.args.v) (width-says)) _ c.begin_line-after.ensures c.if-after-ge-ENDED.false in ((omega (arith, start.decreases, st.less, detour-says.fewer)), ((omega (arith, start.requires.1, start.requires.2.largest_width, width-says)), (omega (arith, start.requires.1, start.requires.2.largest_width, width-says)), (omega (arith, start.requires.1, start.requires.2.largest_width, width-says)), (λ o. (same_on (down_left_below start.args.kind.now start.requires.2 start.requires.3.few_pads start.args.v _ (width-says) start.requires.0) (down_left start.args.kind.now start.requires.2 start.requires.3.few_pads start.args.v _ (width-says) start.requires.0) o, down_far_left start.args.kind.now start.requires.2 start.requires.3.few_pads start.args.v _ (width-says) start.requires.0 (sym (down_left_below start.args.kind.now start.requires.2 start.requires.3.few_pads start.args.v _ (width-says) start.requires.0) ∙ o))), start.requires.2, detour-says.ready))
+    let detour-says = c.detour.ensures in
+    let st = line_is_stored start.args.kind.now _ (down start.args.v) start.requires.2 start.requires.3 start.requires.0 c.if-old-eq-UNDECIDED.true _ (ap (◌+◌ start.args.v) (width-says)) _ c.begin_line.ensures c.if-board-ge-ENDED.false in ((omega (arith, start.decreases, st.less, detour-says.fewer)), ((omega (arith, start.requires.1, start.requires.2.largest_width, width-says)), (omega (arith, start.requires.1, start.requires.2.largest_width, width-says)), (omega (arith, start.requires.1, start.requires.2.largest_width, width-says)), (λ o. (same_on (down_left_below start.args.kind.now start.requires.2 start.requires.3.few_pads start.args.v _ (width-says) start.requires.0) (down_left start.args.kind.now start.requires.2 start.requires.3.few_pads start.args.v _ (width-says) start.requires.0) o, down_far_left start.args.kind.now start.requires.2 start.requires.3.few_pads start.args.v _ (width-says) start.requires.0 (sym (down_left_below start.args.kind.now start.requires.2 start.requires.3.few_pads start.args.v _ (width-says) start.requires.0) ∙ o))), start.requires.2, detour-says.ready))
 
-pub decide_line_down-detour-after-requires-then-old-eq-UNDECIDED-2 : goal.decide_line_down-detour-after-requires-then-old-eq-UNDECIDED-2
-decide_line_down-detour-after-requires-then-old-eq-UNDECIDED-2 t c =
+pub decide_line_down-detour-requires-then-old-eq-UNDECIDED-2 : goal.decide_line_down-detour-requires-then-old-eq-UNDECIDED-2
+decide_line_down-detour-requires-then-old-eq-UNDECIDED-2 t c =
     let start = c in
     let width-says = c.width-w.ensures in
-    let detour2-says = c.detour-after-then-old-eq-UNDECIDED.ensures in
+    let detour2-says = c.detour-then-old-eq-UNDECIDED.ensures in
     let slot-where-says = c.slot_where-if_left.ensures in
-    let st = line_is_stored start.args.kind.now _ (down start.args.v) start.requires.2 start.requires.3 start.requires.0 c.if-old-eq-UNDECIDED.true _ (ap (◌+◌ start.args.v) (width-says)) _ c.begin_line-after.ensures c.if-after-ge-ENDED.false in ((omega (arith, start.decreases, st.less, c.detour-after.ensures.fewer, detour2-says.fewer)), (picked_small start.args.kind.now start.requires.2 start.requires.3.few_pads start.args.v _ (width-says) start.requires.0 (has_bit start.args.kind.now start.args.v 16) _ (31 + 2 * start.args.v) (slot-where-says) (omega (arith, start.requires.1, start.requires.2.largest_width, width-says)), (omega (arith, start.requires.1, start.requires.2.largest_width, width-says)), (omega (arith, start.requires.1, start.requires.2.largest_width, width-says)), (λ o. (same_on (down_if_left start.args.kind.now start.requires.2 start.requires.3.few_pads start.args.v _ (width-says) start.requires.0 _ (slot-where-says)) (down_left start.args.kind.now start.requires.2 start.requires.3.few_pads start.args.v _ (width-says) start.requires.0) o, same_on (down_if_left start.args.kind.now start.requires.2 start.requires.3.few_pads start.args.v _ (width-says) start.requires.0 _ (slot-where-says)) (down_left_below start.args.kind.now start.requires.2 start.requires.3.few_pads start.args.v _ (width-says) start.requires.0) o)), start.requires.2, detour2-says.ready))
+    let st = line_is_stored start.args.kind.now _ (down start.args.v) start.requires.2 start.requires.3 start.requires.0 c.if-old-eq-UNDECIDED.true _ (ap (◌+◌ start.args.v) (width-says)) _ c.begin_line.ensures c.if-board-ge-ENDED.false in ((omega (arith, start.decreases, st.less, c.detour.ensures.fewer, detour2-says.fewer)), (picked_small start.args.kind.now start.requires.2 start.requires.3.few_pads start.args.v _ (width-says) start.requires.0 (has_bit start.args.kind.now start.args.v 16) _ (31 + 2 * start.args.v) (slot-where-says) (omega (arith, start.requires.1, start.requires.2.largest_width, width-says)), (omega (arith, start.requires.1, start.requires.2.largest_width, width-says)), (omega (arith, start.requires.1, start.requires.2.largest_width, width-says)), (λ o. (same_on (down_if_left start.args.kind.now start.requires.2 start.requires.3.few_pads start.args.v _ (width-says) start.requires.0 _ (slot-where-says)) (down_left start.args.kind.now start.requires.2 start.requires.3.few_pads start.args.v _ (width-says) start.requires.0) o, same_on (down_if_left start.args.kind.now start.requires.2 start.requires.3.few_pads start.args.v _ (width-says) start.requires.0 _ (slot-where-says)) (down_left_below start.args.kind.now start.requires.2 start.requires.3.few_pads start.args.v _ (width-says) start.requires.0) o)), start.requires.2, detour2-says.ready))
 
-pub decide_line_down-detour-after-requires-then-old-eq-UNDECIDED-3 : goal.decide_line_down-detour-after-requires-then-old-eq-UNDECIDED-3
-decide_line_down-detour-after-requires-then-old-eq-UNDECIDED-3 t c =
+pub decide_line_down-detour-requires-then-old-eq-UNDECIDED-3 : goal.decide_line_down-detour-requires-then-old-eq-UNDECIDED-3
+decide_line_down-detour-requires-then-old-eq-UNDECIDED-3 t c =
     let start = c in
     let width-says = c.width-w.ensures in
-    let detour3-says = c.detour-after-then-old-eq-UNDECIDED-2.ensures in
-    let st = line_is_stored start.args.kind.now _ (down start.args.v) start.requires.2 start.requires.3 start.requires.0 c.if-old-eq-UNDECIDED.true _ (ap (◌+◌ start.args.v) (width-says)) _ c.begin_line-after.ensures c.if-after-ge-ENDED.false in ((omega (arith, start.decreases, st.less, c.detour-after.ensures.fewer, c.detour-after-then-old-eq-UNDECIDED.ensures.fewer, detour3-says.fewer)), ((omega (arith, start.requires.1, start.requires.2.largest_width, width-says)), (omega (arith, start.requires.1, start.requires.2.largest_width, width-says)), (omega (arith, start.requires.1, start.requires.2.largest_width, width-says)), (λ o. (same_on (down_right start.args.kind.now start.requires.2 start.requires.3.few_pads start.args.v _ (width-says) start.requires.0) (down_right_below start.args.kind.now start.requires.2 start.requires.3.few_pads start.args.v _ (width-says) start.requires.0) o, down_far_right start.args.kind.now start.requires.2 start.requires.3.few_pads start.args.v _ (width-says) start.requires.0 (sym (down_right start.args.kind.now start.requires.2 start.requires.3.few_pads start.args.v _ (width-says) start.requires.0) ∙ o))), start.requires.2, detour3-says.ready))
+    let detour3-says = c.detour-then-old-eq-UNDECIDED-2.ensures in
+    let st = line_is_stored start.args.kind.now _ (down start.args.v) start.requires.2 start.requires.3 start.requires.0 c.if-old-eq-UNDECIDED.true _ (ap (◌+◌ start.args.v) (width-says)) _ c.begin_line.ensures c.if-board-ge-ENDED.false in ((omega (arith, start.decreases, st.less, c.detour.ensures.fewer, c.detour-then-old-eq-UNDECIDED.ensures.fewer, detour3-says.fewer)), ((omega (arith, start.requires.1, start.requires.2.largest_width, width-says)), (omega (arith, start.requires.1, start.requires.2.largest_width, width-says)), (omega (arith, start.requires.1, start.requires.2.largest_width, width-says)), (λ o. (same_on (down_right start.args.kind.now start.requires.2 start.requires.3.few_pads start.args.v _ (width-says) start.requires.0) (down_right_below start.args.kind.now start.requires.2 start.requires.3.few_pads start.args.v _ (width-says) start.requires.0) o, down_far_right start.args.kind.now start.requires.2 start.requires.3.few_pads start.args.v _ (width-says) start.requires.0 (sym (down_right start.args.kind.now start.requires.2 start.requires.3.few_pads start.args.v _ (width-says) start.requires.0) ∙ o))), start.requires.2, detour3-says.ready))
 
-pub decide_line_down-detour-after-requires-then-old-eq-UNDECIDED-4 : goal.decide_line_down-detour-after-requires-then-old-eq-UNDECIDED-4
-decide_line_down-detour-after-requires-then-old-eq-UNDECIDED-4 t c =
+pub decide_line_down-detour-requires-then-old-eq-UNDECIDED-4 : goal.decide_line_down-detour-requires-then-old-eq-UNDECIDED-4
+decide_line_down-detour-requires-then-old-eq-UNDECIDED-4 t c =
     let start = c in
     let width-says = c.width-w.ensures in
-    let detour4-says = c.detour-after-then-old-eq-UNDECIDED-3.ensures in
-    let st = line_is_stored start.args.kind.now _ (down start.args.v) start.requires.2 start.requires.3 start.requires.0 c.if-old-eq-UNDECIDED.true _ (ap (◌+◌ start.args.v) (width-says)) _ c.begin_line-after.ensures c.if-after-ge-ENDED.false in ((omega (arith, start.decreases, st.less, c.detour-after.ensures.fewer, c.detour-after-then-old-eq-UNDECIDED.ensures.fewer, c.detour-after-then-old-eq-UNDECIDED-2.ensures.fewer, detour4-says.fewer)), ((omega (arith, start.requires.1, start.requires.2.largest_width, width-says)), (omega (arith, start.requires.1, start.requires.2.largest_width, width-says)), (omega (arith, start.requires.1, start.requires.2.largest_width, width-says)), (λ o. (same_on (down_right_below start.args.kind.now start.requires.2 start.requires.3.few_pads start.args.v _ (width-says) start.requires.0) (down_right start.args.kind.now start.requires.2 start.requires.3.few_pads start.args.v _ (width-says) start.requires.0) o, down_far_right start.args.kind.now start.requires.2 start.requires.3.few_pads start.args.v _ (width-says) start.requires.0 (sym (down_right_below start.args.kind.now start.requires.2 start.requires.3.few_pads start.args.v _ (width-says) start.requires.0) ∙ o))), start.requires.2, detour4-says.ready))
+    let detour4-says = c.detour-then-old-eq-UNDECIDED-3.ensures in
+    let st = line_is_stored start.args.kind.now _ (down start.args.v) start.requires.2 start.requires.3 start.requires.0 c.if-old-eq-UNDECIDED.true _ (ap (◌+◌ start.args.v) (width-says)) _ c.begin_line.ensures c.if-board-ge-ENDED.false in ((omega (arith, start.decreases, st.less, c.detour.ensures.fewer, c.detour-then-old-eq-UNDECIDED.ensures.fewer, c.detour-then-old-eq-UNDECIDED-2.ensures.fewer, detour4-says.fewer)), ((omega (arith, start.requires.1, start.requires.2.largest_width, width-says)), (omega (arith, start.requires.1, start.requires.2.largest_width, width-says)), (omega (arith, start.requires.1, start.requires.2.largest_width, width-says)), (λ o. (same_on (down_right_below start.args.kind.now start.requires.2 start.requires.3.few_pads start.args.v _ (width-says) start.requires.0) (down_right start.args.kind.now start.requires.2 start.requires.3.few_pads start.args.v _ (width-says) start.requires.0) o, down_far_right start.args.kind.now start.requires.2 start.requires.3.few_pads start.args.v _ (width-says) start.requires.0 (sym (down_right_below start.args.kind.now start.requires.2 start.requires.3.few_pads start.args.v _ (width-says) start.requires.0) ∙ o))), start.requires.2, detour4-says.ready))
 
-pub decide_line_down-detour-after-requires-then-old-eq-UNDECIDED-5 : goal.decide_line_down-detour-after-requires-then-old-eq-UNDECIDED-5
-decide_line_down-detour-after-requires-then-old-eq-UNDECIDED-5 t c =
+pub decide_line_down-detour-requires-then-old-eq-UNDECIDED-5 : goal.decide_line_down-detour-requires-then-old-eq-UNDECIDED-5
+decide_line_down-detour-requires-then-old-eq-UNDECIDED-5 t c =
     let start = c in
     let width-says = c.width-w.ensures in
-    let detour5-says = c.detour-after-then-old-eq-UNDECIDED-4.ensures in
+    let detour5-says = c.detour-then-old-eq-UNDECIDED-4.ensures in
     let slot-where2-says = c.slot_where-if_right.ensures in
-    let st = line_is_stored start.args.kind.now _ (down start.args.v) start.requires.2 start.requires.3 start.requires.0 c.if-old-eq-UNDECIDED.true _ (ap (◌+◌ start.args.v) (width-says)) _ c.begin_line-after.ensures c.if-after-ge-ENDED.false in ((omega (arith, start.decreases, st.less, c.detour-after.ensures.fewer, c.detour-after-then-old-eq-UNDECIDED.ensures.fewer, c.detour-after-then-old-eq-UNDECIDED-2.ensures.fewer, c.detour-after-then-old-eq-UNDECIDED-3.ensures.fewer, detour5-says.fewer)), (picked_small start.args.kind.now start.requires.2 start.requires.3.few_pads start.args.v _ (width-says) start.requires.0 (has_bit start.args.kind.now start.args.v 8) _ (35 + 2 * start.args.v) (slot-where2-says) (omega (arith, start.requires.1, start.requires.2.largest_width, width-says)), (omega (arith, start.requires.1, start.requires.2.largest_width, width-says)), (omega (arith, start.requires.1, start.requires.2.largest_width, width-says)), (λ o. (same_on (down_if_right start.args.kind.now start.requires.2 start.requires.3.few_pads start.args.v _ (width-says) start.requires.0 _ (slot-where2-says)) (down_right start.args.kind.now start.requires.2 start.requires.3.few_pads start.args.v _ (width-says) start.requires.0) o, same_on (down_if_right start.args.kind.now start.requires.2 start.requires.3.few_pads start.args.v _ (width-says) start.requires.0 _ (slot-where2-says)) (down_right_below start.args.kind.now start.requires.2 start.requires.3.few_pads start.args.v _ (width-says) start.requires.0) o)), start.requires.2, detour5-says.ready))
+    let st = line_is_stored start.args.kind.now _ (down start.args.v) start.requires.2 start.requires.3 start.requires.0 c.if-old-eq-UNDECIDED.true _ (ap (◌+◌ start.args.v) (width-says)) _ c.begin_line.ensures c.if-board-ge-ENDED.false in ((omega (arith, start.decreases, st.less, c.detour.ensures.fewer, c.detour-then-old-eq-UNDECIDED.ensures.fewer, c.detour-then-old-eq-UNDECIDED-2.ensures.fewer, c.detour-then-old-eq-UNDECIDED-3.ensures.fewer, detour5-says.fewer)), (picked_small start.args.kind.now start.requires.2 start.requires.3.few_pads start.args.v _ (width-says) start.requires.0 (has_bit start.args.kind.now start.args.v 8) _ (35 + 2 * start.args.v) (slot-where2-says) (omega (arith, start.requires.1, start.requires.2.largest_width, width-says)), (omega (arith, start.requires.1, start.requires.2.largest_width, width-says)), (omega (arith, start.requires.1, start.requires.2.largest_width, width-says)), (λ o. (same_on (down_if_right start.args.kind.now start.requires.2 start.requires.3.few_pads start.args.v _ (width-says) start.requires.0 _ (slot-where2-says)) (down_right start.args.kind.now start.requires.2 start.requires.3.few_pads start.args.v _ (width-says) start.requires.0) o, same_on (down_if_right start.args.kind.now start.requires.2 start.requires.3.few_pads start.args.v _ (width-says) start.requires.0 _ (slot-where2-says)) (down_right_below start.args.kind.now start.requires.2 start.requires.3.few_pads start.args.v _ (width-says) start.requires.0) o)), start.requires.2, detour5-says.ready))
 
-pub decide_line_down-corner_left-after-requires : goal.decide_line_down-corner_left-after-requires
-decide_line_down-corner_left-after-requires t c =
+pub decide_line_down-corner_left-requires : goal.decide_line_down-corner_left-requires
+decide_line_down-corner_left-requires t c =
     let start = c in
     let width-says = c.width-w.ensures in
-    let detour6-says = c.detour-after-then-old-eq-UNDECIDED-5.ensures in
-    let st = line_is_stored start.args.kind.now _ (down start.args.v) start.requires.2 start.requires.3 start.requires.0 c.if-old-eq-UNDECIDED.true _ (ap (◌+◌ start.args.v) (width-says)) _ c.begin_line-after.ensures c.if-after-ge-ENDED.false in ((omega (arith, start.decreases, st.less, c.detour-after.ensures.fewer, c.detour-after-then-old-eq-UNDECIDED.ensures.fewer, c.detour-after-then-old-eq-UNDECIDED-2.ensures.fewer, c.detour-after-then-old-eq-UNDECIDED-3.ensures.fewer, c.detour-after-then-old-eq-UNDECIDED-4.ensures.fewer, detour6-says.fewer)), ((omega (arith, start.requires.1, start.requires.2.largest_width, width-says)), (omega (arith, start.requires.1, start.requires.2.largest_width, width-says)), (λ o. down_left_corner start.args.kind.now start.requires.2 start.requires.3.few_pads start.args.v _ (width-says) start.requires.0 _ refl), start.requires.2, detour6-says.ready))
+    let detour6-says = c.detour-then-old-eq-UNDECIDED-5.ensures in
+    let st = line_is_stored start.args.kind.now _ (down start.args.v) start.requires.2 start.requires.3 start.requires.0 c.if-old-eq-UNDECIDED.true _ (ap (◌+◌ start.args.v) (width-says)) _ c.begin_line.ensures c.if-board-ge-ENDED.false in ((omega (arith, start.decreases, st.less, c.detour.ensures.fewer, c.detour-then-old-eq-UNDECIDED.ensures.fewer, c.detour-then-old-eq-UNDECIDED-2.ensures.fewer, c.detour-then-old-eq-UNDECIDED-3.ensures.fewer, c.detour-then-old-eq-UNDECIDED-4.ensures.fewer, detour6-says.fewer)), ((omega (arith, start.requires.1, start.requires.2.largest_width, width-says)), (omega (arith, start.requires.1, start.requires.2.largest_width, width-says)), (λ o. down_left_corner start.args.kind.now start.requires.2 start.requires.3.few_pads start.args.v _ (width-says) start.requires.0 _ refl), start.requires.2, detour6-says.ready))
 
-pub decide_line_down-corner_right-after-requires : goal.decide_line_down-corner_right-after-requires
-decide_line_down-corner_right-after-requires t c =
+pub decide_line_down-corner_right-requires : goal.decide_line_down-corner_right-requires
+decide_line_down-corner_right-requires t c =
     let start = c in
     let width-says = c.width-w.ensures in
-    let corner-left-says = c.corner_left-after.ensures in
-    let st = line_is_stored start.args.kind.now _ (down start.args.v) start.requires.2 start.requires.3 start.requires.0 c.if-old-eq-UNDECIDED.true _ (ap (◌+◌ start.args.v) (width-says)) _ c.begin_line-after.ensures c.if-after-ge-ENDED.false in ((omega (arith, start.decreases, st.less, c.detour-after.ensures.fewer, c.detour-after-then-old-eq-UNDECIDED.ensures.fewer, c.detour-after-then-old-eq-UNDECIDED-2.ensures.fewer, c.detour-after-then-old-eq-UNDECIDED-3.ensures.fewer, c.detour-after-then-old-eq-UNDECIDED-4.ensures.fewer, c.detour-after-then-old-eq-UNDECIDED-5.ensures.fewer, corner-left-says.fewer)), ((omega (arith, start.requires.1, start.requires.2.largest_width, width-says)), (omega (arith, start.requires.1, start.requires.2.largest_width, width-says)), (λ o. down_right_corner start.args.kind.now start.requires.2 start.requires.3.few_pads start.args.v _ (width-says) start.requires.0 _ refl o), start.requires.2, corner-left-says.ready))
+    let corner-left-says = c.corner_left.ensures in
+    let st = line_is_stored start.args.kind.now _ (down start.args.v) start.requires.2 start.requires.3 start.requires.0 c.if-old-eq-UNDECIDED.true _ (ap (◌+◌ start.args.v) (width-says)) _ c.begin_line.ensures c.if-board-ge-ENDED.false in ((omega (arith, start.decreases, st.less, c.detour.ensures.fewer, c.detour-then-old-eq-UNDECIDED.ensures.fewer, c.detour-then-old-eq-UNDECIDED-2.ensures.fewer, c.detour-then-old-eq-UNDECIDED-3.ensures.fewer, c.detour-then-old-eq-UNDECIDED-4.ensures.fewer, c.detour-then-old-eq-UNDECIDED-5.ensures.fewer, corner-left-says.fewer)), ((omega (arith, start.requires.1, start.requires.2.largest_width, width-says)), (omega (arith, start.requires.1, start.requires.2.largest_width, width-says)), (λ o. down_right_corner start.args.kind.now start.requires.2 start.requires.3.few_pads start.args.v _ (width-says) start.requires.0 _ refl o), start.requires.2, corner-left-says.ready))
 
-pub decide_line_down-bar-after-requires : goal.decide_line_down-bar-after-requires
-decide_line_down-bar-after-requires t c =
+pub decide_line_down-bar-requires : goal.decide_line_down-bar-requires
+decide_line_down-bar-requires t c =
     let start = c in
     let width-says = c.width-w.ensures in
-    let corner-right-says = c.corner_right-after.ensures in
-    let st = line_is_stored start.args.kind.now _ (down start.args.v) start.requires.2 start.requires.3 start.requires.0 c.if-old-eq-UNDECIDED.true _ (ap (◌+◌ start.args.v) (width-says)) _ c.begin_line-after.ensures c.if-after-ge-ENDED.false in ((omega (arith, start.decreases, st.less, c.detour-after.ensures.fewer, c.detour-after-then-old-eq-UNDECIDED.ensures.fewer, c.detour-after-then-old-eq-UNDECIDED-2.ensures.fewer, c.detour-after-then-old-eq-UNDECIDED-3.ensures.fewer, c.detour-after-then-old-eq-UNDECIDED-4.ensures.fewer, c.detour-after-then-old-eq-UNDECIDED-5.ensures.fewer, c.corner_left-after.ensures.fewer, corner-right-says.fewer)), ((omega (arith, start.requires.1, start.requires.2.largest_width, width-says)), (omega (arith, start.requires.1, start.requires.2.largest_width, width-says)), down_left_bar_on start.args.kind.now start.requires.2 start.requires.3.few_pads start.args.v _ (width-says) start.requires.0, start.requires.2, corner-right-says.ready))
+    let corner-right-says = c.corner_right.ensures in
+    let st = line_is_stored start.args.kind.now _ (down start.args.v) start.requires.2 start.requires.3 start.requires.0 c.if-old-eq-UNDECIDED.true _ (ap (◌+◌ start.args.v) (width-says)) _ c.begin_line.ensures c.if-board-ge-ENDED.false in ((omega (arith, start.decreases, st.less, c.detour.ensures.fewer, c.detour-then-old-eq-UNDECIDED.ensures.fewer, c.detour-then-old-eq-UNDECIDED-2.ensures.fewer, c.detour-then-old-eq-UNDECIDED-3.ensures.fewer, c.detour-then-old-eq-UNDECIDED-4.ensures.fewer, c.detour-then-old-eq-UNDECIDED-5.ensures.fewer, c.corner_left.ensures.fewer, corner-right-says.fewer)), ((omega (arith, start.requires.1, start.requires.2.largest_width, width-says)), (omega (arith, start.requires.1, start.requires.2.largest_width, width-says)), down_left_bar_on start.args.kind.now start.requires.2 start.requires.3.few_pads start.args.v _ (width-says) start.requires.0, start.requires.2, corner-right-says.ready))
 
-pub decide_line_down-bar-after-requires-then-old-eq-UNDECIDED : goal.decide_line_down-bar-after-requires-then-old-eq-UNDECIDED
-decide_line_down-bar-after-requires-then-old-eq-UNDECIDED t c =
+pub decide_line_down-bar-requires-then-old-eq-UNDECIDED : goal.decide_line_down-bar-requires-then-old-eq-UNDECIDED
+decide_line_down-bar-requires-then-old-eq-UNDECIDED t c =
     let start = c in
     let width-says = c.width-w.ensures in
-    let bar-says = c.bar-after.ensures in
-    let st = line_is_stored start.args.kind.now _ (down start.args.v) start.requires.2 start.requires.3 start.requires.0 c.if-old-eq-UNDECIDED.true _ (ap (◌+◌ start.args.v) (width-says)) _ c.begin_line-after.ensures c.if-after-ge-ENDED.false in ((omega (arith, start.decreases, st.less, c.detour-after.ensures.fewer, c.detour-after-then-old-eq-UNDECIDED.ensures.fewer, c.detour-after-then-old-eq-UNDECIDED-2.ensures.fewer, c.detour-after-then-old-eq-UNDECIDED-3.ensures.fewer, c.detour-after-then-old-eq-UNDECIDED-4.ensures.fewer, c.detour-after-then-old-eq-UNDECIDED-5.ensures.fewer, c.corner_left-after.ensures.fewer, c.corner_right-after.ensures.fewer, bar-says.fewer)), ((omega (arith, start.requires.1, start.requires.2.largest_width, width-says)), (omega (arith, start.requires.1, start.requires.2.largest_width, width-says)), down_right_bar_on start.args.kind.now start.requires.2 start.requires.3.few_pads start.args.v _ (width-says) start.requires.0, start.requires.2, bar-says.ready))
-
-pub decide_line_down-check-after-requires : goal.decide_line_down-check-after-requires
-decide_line_down-check-after-requires t c =
-    let start = c in
-    let if1-taken = c.if-old-eq-UNDECIDED.true in
-    let width-says = c.width-w.ensures in
-    let bar2-says = c.bar-after-then-old-eq-UNDECIDED.ensures in
-    let st = line_is_stored start.args.kind.now _ (down start.args.v) start.requires.2 start.requires.3 start.requires.0 (if1-taken) _ (ap (◌+◌ start.args.v) (width-says)) _ c.begin_line-after.ensures c.if-after-ge-ENDED.false in ((omega (arith, start.decreases, st.less, c.detour-after.ensures.fewer, c.detour-after-then-old-eq-UNDECIDED.ensures.fewer, c.detour-after-then-old-eq-UNDECIDED-2.ensures.fewer, c.detour-after-then-old-eq-UNDECIDED-3.ensures.fewer, c.detour-after-then-old-eq-UNDECIDED-4.ensures.fewer, c.detour-after-then-old-eq-UNDECIDED-5.ensures.fewer, c.corner_left-after.ensures.fewer, c.corner_right-after.ensures.fewer, c.bar-after.ensures.fewer, bar2-says.fewer)), ((omega (arith, (line_first start.args.kind.now _ (down start.args.v) start.requires.2 start.requires.3 start.requires.0 (if1-taken) _ (ap (◌+◌ start.args.v) (width-says))), start.requires.3.few_pads)), (λ h. (line_first start.args.kind.now _ (down start.args.v) start.requires.2 start.requires.3 start.requires.0 (if1-taken) _ (ap (◌+◌ start.args.v) (width-says)))), start.requires.2, bar2-says.ready))
-
-pub decide_line_down-check-after-requires-then-old-eq-UNDECIDED : goal.decide_line_down-check-after-requires-then-old-eq-UNDECIDED
-decide_line_down-check-after-requires-then-old-eq-UNDECIDED t c =
-    let start = c in
-    let if1-taken = c.if-old-eq-UNDECIDED.true in
-    let width-says = c.width-w.ensures in
-    let check-says = c.check-after.ensures in
-    let st = line_is_stored start.args.kind.now _ (down start.args.v) start.requires.2 start.requires.3 start.requires.0 (if1-taken) _ (ap (◌+◌ start.args.v) (width-says)) _ c.begin_line-after.ensures c.if-after-ge-ENDED.false in ((omega (arith, start.decreases, st.less, c.detour-after.ensures.fewer, c.detour-after-then-old-eq-UNDECIDED.ensures.fewer, c.detour-after-then-old-eq-UNDECIDED-2.ensures.fewer, c.detour-after-then-old-eq-UNDECIDED-3.ensures.fewer, c.detour-after-then-old-eq-UNDECIDED-4.ensures.fewer, c.detour-after-then-old-eq-UNDECIDED-5.ensures.fewer, c.corner_left-after.ensures.fewer, c.corner_right-after.ensures.fewer, c.bar-after.ensures.fewer, c.bar-after-then-old-eq-UNDECIDED.ensures.fewer, check-says.fewer)), ((omega (arith, (line_second start.args.kind.now _ (down start.args.v) start.requires.2 start.requires.3 start.requires.0 (if1-taken) _ (ap (◌+◌ start.args.v) (width-says))), start.requires.3.few_pads)), (λ h. (line_second start.args.kind.now _ (down start.args.v) start.requires.2 start.requires.3 start.requires.0 (if1-taken) _ (ap (◌+◌ start.args.v) (width-says)))), start.requires.2, check-says.ready))
-
-pub decide_line_down-check-after-requires-then-old-eq-UNDECIDED-2 : goal.decide_line_down-check-after-requires-then-old-eq-UNDECIDED-2
-decide_line_down-check-after-requires-then-old-eq-UNDECIDED-2 t c =
-    let start = c in
-    let if1-taken = c.if-old-eq-UNDECIDED.true in
-    let width-says = c.width-w.ensures in
-    let check2-says = c.check-after-then-old-eq-UNDECIDED.ensures in
-    let end-pad-says = c.end_pad-a.ensures in
-    let st = line_is_stored start.args.kind.now _ (down start.args.v) start.requires.2 start.requires.3 start.requires.0 (if1-taken) _ (ap (◌+◌ start.args.v) (width-says)) _ c.begin_line-after.ensures c.if-after-ge-ENDED.false in ((omega (arith, start.decreases, st.less, c.detour-after.ensures.fewer, c.detour-after-then-old-eq-UNDECIDED.ensures.fewer, c.detour-after-then-old-eq-UNDECIDED-2.ensures.fewer, c.detour-after-then-old-eq-UNDECIDED-3.ensures.fewer, c.detour-after-then-old-eq-UNDECIDED-4.ensures.fewer, c.detour-after-then-old-eq-UNDECIDED-5.ensures.fewer, c.corner_left-after.ensures.fewer, c.corner_right-after.ensures.fewer, c.bar-after.ensures.fewer, c.bar-after-then-old-eq-UNDECIDED.ensures.fewer, c.check-after.ensures.fewer, check2-says.fewer)), ((line_end start.args.kind.now _ (down start.args.v) start.requires.2 start.requires.3 start.requires.0 (if1-taken) _ (ap (◌+◌ start.args.v) (width-says)) start.args.v (line_first start.args.kind.now _ (down start.args.v) start.requires.2 start.requires.3 start.requires.0 (if1-taken) _ (ap (◌+◌ start.args.v) (width-says))) _ (end-pad-says)).0, (line_end start.args.kind.now _ (down start.args.v) start.requires.2 start.requires.3 start.requires.0 (if1-taken) _ (ap (◌+◌ start.args.v) (width-says)) start.args.v (line_first start.args.kind.now _ (down start.args.v) start.requires.2 start.requires.3 start.requires.0 (if1-taken) _ (ap (◌+◌ start.args.v) (width-says))) _ (end-pad-says)).1, start.requires.2, check2-says.ready))
+    let bar-says = c.bar.ensures in
+    let st = line_is_stored start.args.kind.now _ (down start.args.v) start.requires.2 start.requires.3 start.requires.0 c.if-old-eq-UNDECIDED.true _ (ap (◌+◌ start.args.v) (width-says)) _ c.begin_line.ensures c.if-board-ge-ENDED.false in ((omega (arith, start.decreases, st.less, c.detour.ensures.fewer, c.detour-then-old-eq-UNDECIDED.ensures.fewer, c.detour-then-old-eq-UNDECIDED-2.ensures.fewer, c.detour-then-old-eq-UNDECIDED-3.ensures.fewer, c.detour-then-old-eq-UNDECIDED-4.ensures.fewer, c.detour-then-old-eq-UNDECIDED-5.ensures.fewer, c.corner_left.ensures.fewer, c.corner_right.ensures.fewer, bar-says.fewer)), ((omega (arith, start.requires.1, start.requires.2.largest_width, width-says)), (omega (arith, start.requires.1, start.requires.2.largest_width, width-says)), down_right_bar_on start.args.kind.now start.requires.2 start.requires.3.few_pads start.args.v _ (width-says) start.requires.0, start.requires.2, bar-says.ready))
 
 pub decide_line_down-check-requires : goal.decide_line_down-check-requires
 decide_line_down-check-requires t c =
     let start = c in
     let if1-taken = c.if-old-eq-UNDECIDED.true in
     let width-says = c.width-w.ensures in
-    let check3-says = c.check-after-then-old-eq-UNDECIDED-2.ensures in
+    let bar2-says = c.bar-then-old-eq-UNDECIDED.ensures in
+    let st = line_is_stored start.args.kind.now _ (down start.args.v) start.requires.2 start.requires.3 start.requires.0 (if1-taken) _ (ap (◌+◌ start.args.v) (width-says)) _ c.begin_line.ensures c.if-board-ge-ENDED.false in ((omega (arith, start.decreases, st.less, c.detour.ensures.fewer, c.detour-then-old-eq-UNDECIDED.ensures.fewer, c.detour-then-old-eq-UNDECIDED-2.ensures.fewer, c.detour-then-old-eq-UNDECIDED-3.ensures.fewer, c.detour-then-old-eq-UNDECIDED-4.ensures.fewer, c.detour-then-old-eq-UNDECIDED-5.ensures.fewer, c.corner_left.ensures.fewer, c.corner_right.ensures.fewer, c.bar.ensures.fewer, bar2-says.fewer)), ((omega (arith, (line_first start.args.kind.now _ (down start.args.v) start.requires.2 start.requires.3 start.requires.0 (if1-taken) _ (ap (◌+◌ start.args.v) (width-says))), start.requires.3.few_pads)), (λ h. (line_first start.args.kind.now _ (down start.args.v) start.requires.2 start.requires.3 start.requires.0 (if1-taken) _ (ap (◌+◌ start.args.v) (width-says)))), start.requires.2, bar2-says.ready))
+
+pub decide_line_down-check-requires-then-old-eq-UNDECIDED : goal.decide_line_down-check-requires-then-old-eq-UNDECIDED
+decide_line_down-check-requires-then-old-eq-UNDECIDED t c =
+    let start = c in
+    let if1-taken = c.if-old-eq-UNDECIDED.true in
+    let width-says = c.width-w.ensures in
+    let check-says = c.check.ensures in
+    let st = line_is_stored start.args.kind.now _ (down start.args.v) start.requires.2 start.requires.3 start.requires.0 (if1-taken) _ (ap (◌+◌ start.args.v) (width-says)) _ c.begin_line.ensures c.if-board-ge-ENDED.false in ((omega (arith, start.decreases, st.less, c.detour.ensures.fewer, c.detour-then-old-eq-UNDECIDED.ensures.fewer, c.detour-then-old-eq-UNDECIDED-2.ensures.fewer, c.detour-then-old-eq-UNDECIDED-3.ensures.fewer, c.detour-then-old-eq-UNDECIDED-4.ensures.fewer, c.detour-then-old-eq-UNDECIDED-5.ensures.fewer, c.corner_left.ensures.fewer, c.corner_right.ensures.fewer, c.bar.ensures.fewer, c.bar-then-old-eq-UNDECIDED.ensures.fewer, check-says.fewer)), ((omega (arith, (line_second start.args.kind.now _ (down start.args.v) start.requires.2 start.requires.3 start.requires.0 (if1-taken) _ (ap (◌+◌ start.args.v) (width-says))), start.requires.3.few_pads)), (λ h. (line_second start.args.kind.now _ (down start.args.v) start.requires.2 start.requires.3 start.requires.0 (if1-taken) _ (ap (◌+◌ start.args.v) (width-says)))), start.requires.2, check-says.ready))
+
+pub decide_line_down-check-requires-then-old-eq-UNDECIDED-2 : goal.decide_line_down-check-requires-then-old-eq-UNDECIDED-2
+decide_line_down-check-requires-then-old-eq-UNDECIDED-2 t c =
+    let start = c in
+    let if1-taken = c.if-old-eq-UNDECIDED.true in
+    let width-says = c.width-w.ensures in
+    let check2-says = c.check-then-old-eq-UNDECIDED.ensures in
+    let end-pad-says = c.end_pad-a.ensures in
+    let st = line_is_stored start.args.kind.now _ (down start.args.v) start.requires.2 start.requires.3 start.requires.0 (if1-taken) _ (ap (◌+◌ start.args.v) (width-says)) _ c.begin_line.ensures c.if-board-ge-ENDED.false in ((omega (arith, start.decreases, st.less, c.detour.ensures.fewer, c.detour-then-old-eq-UNDECIDED.ensures.fewer, c.detour-then-old-eq-UNDECIDED-2.ensures.fewer, c.detour-then-old-eq-UNDECIDED-3.ensures.fewer, c.detour-then-old-eq-UNDECIDED-4.ensures.fewer, c.detour-then-old-eq-UNDECIDED-5.ensures.fewer, c.corner_left.ensures.fewer, c.corner_right.ensures.fewer, c.bar.ensures.fewer, c.bar-then-old-eq-UNDECIDED.ensures.fewer, c.check.ensures.fewer, check2-says.fewer)), ((line_end start.args.kind.now _ (down start.args.v) start.requires.2 start.requires.3 start.requires.0 (if1-taken) _ (ap (◌+◌ start.args.v) (width-says)) start.args.v (line_first start.args.kind.now _ (down start.args.v) start.requires.2 start.requires.3 start.requires.0 (if1-taken) _ (ap (◌+◌ start.args.v) (width-says))) _ (end-pad-says)).0, (line_end start.args.kind.now _ (down start.args.v) start.requires.2 start.requires.3 start.requires.0 (if1-taken) _ (ap (◌+◌ start.args.v) (width-says)) start.args.v (line_first start.args.kind.now _ (down start.args.v) start.requires.2 start.requires.3 start.requires.0 (if1-taken) _ (ap (◌+◌ start.args.v) (width-says))) _ (end-pad-says)).1, start.requires.2, check2-says.ready))
+
+pub decide_line_down-check-requires-then-old-eq-UNDECIDED-3 : goal.decide_line_down-check-requires-then-old-eq-UNDECIDED-3
+decide_line_down-check-requires-then-old-eq-UNDECIDED-3 t c =
+    let start = c in
+    let if1-taken = c.if-old-eq-UNDECIDED.true in
+    let width-says = c.width-w.ensures in
+    let check3-says = c.check-then-old-eq-UNDECIDED-2.ensures in
     let end-pad2-says = c.end_pad-b.ensures in
-    let st = line_is_stored start.args.kind.now _ (down start.args.v) start.requires.2 start.requires.3 start.requires.0 (if1-taken) _ (ap (◌+◌ start.args.v) (width-says)) _ c.begin_line-after.ensures c.if-after-ge-ENDED.false in ((omega (arith, start.decreases, st.less, c.detour-after.ensures.fewer, c.detour-after-then-old-eq-UNDECIDED.ensures.fewer, c.detour-after-then-old-eq-UNDECIDED-2.ensures.fewer, c.detour-after-then-old-eq-UNDECIDED-3.ensures.fewer, c.detour-after-then-old-eq-UNDECIDED-4.ensures.fewer, c.detour-after-then-old-eq-UNDECIDED-5.ensures.fewer, c.corner_left-after.ensures.fewer, c.corner_right-after.ensures.fewer, c.bar-after.ensures.fewer, c.bar-after-then-old-eq-UNDECIDED.ensures.fewer, c.check-after.ensures.fewer, c.check-after-then-old-eq-UNDECIDED.ensures.fewer, check3-says.fewer)), ((line_end start.args.kind.now _ (down start.args.v) start.requires.2 start.requires.3 start.requires.0 (if1-taken) _ (ap (◌+◌ start.args.v) (width-says)) _ (line_second start.args.kind.now _ (down start.args.v) start.requires.2 start.requires.3 start.requires.0 (if1-taken) _ (ap (◌+◌ start.args.v) (width-says))) _ (end-pad2-says)).0, (line_end start.args.kind.now _ (down start.args.v) start.requires.2 start.requires.3 start.requires.0 (if1-taken) _ (ap (◌+◌ start.args.v) (width-says)) _ (line_second start.args.kind.now _ (down start.args.v) start.requires.2 start.requires.3 start.requires.0 (if1-taken) _ (ap (◌+◌ start.args.v) (width-says))) _ (end-pad2-says)).1, start.requires.2, check3-says.ready))
+    let st = line_is_stored start.args.kind.now _ (down start.args.v) start.requires.2 start.requires.3 start.requires.0 (if1-taken) _ (ap (◌+◌ start.args.v) (width-says)) _ c.begin_line.ensures c.if-board-ge-ENDED.false in ((omega (arith, start.decreases, st.less, c.detour.ensures.fewer, c.detour-then-old-eq-UNDECIDED.ensures.fewer, c.detour-then-old-eq-UNDECIDED-2.ensures.fewer, c.detour-then-old-eq-UNDECIDED-3.ensures.fewer, c.detour-then-old-eq-UNDECIDED-4.ensures.fewer, c.detour-then-old-eq-UNDECIDED-5.ensures.fewer, c.corner_left.ensures.fewer, c.corner_right.ensures.fewer, c.bar.ensures.fewer, c.bar-then-old-eq-UNDECIDED.ensures.fewer, c.check.ensures.fewer, c.check-then-old-eq-UNDECIDED.ensures.fewer, check3-says.fewer)), ((line_end start.args.kind.now _ (down start.args.v) start.requires.2 start.requires.3 start.requires.0 (if1-taken) _ (ap (◌+◌ start.args.v) (width-says)) _ (line_second start.args.kind.now _ (down start.args.v) start.requires.2 start.requires.3 start.requires.0 (if1-taken) _ (ap (◌+◌ start.args.v) (width-says))) _ (end-pad2-says)).0, (line_end start.args.kind.now _ (down start.args.v) start.requires.2 start.requires.3 start.requires.0 (if1-taken) _ (ap (◌+◌ start.args.v) (width-says)) _ (line_second start.args.kind.now _ (down start.args.v) start.requires.2 start.requires.3 start.requires.0 (if1-taken) _ (ap (◌+◌ start.args.v) (width-says))) _ (end-pad2-says)).1, start.requires.2, check3-says.ready))
 
 pub decide_line_down-returns-then-old-eq-UNDECIDED : goal.decide_line_down-returns-then-old-eq-UNDECIDED
 decide_line_down-returns-then-old-eq-UNDECIDED t c =
     let start = c in
     let width-says = c.width-w.ensures in
-    line_returns start.args.kind.now _ (down start.args.v) start.requires.2 start.requires.3 start.requires.0 c.if-old-eq-UNDECIDED.true _ (ap (◌+◌ start.args.v) (width-says)) _ c.begin_line-after.ensures c.if-after-ge-ENDED.false _ _ c.end_pad-a.ensures c.end_pad-b.ensures _ (down_done start.args.kind.now start.requires.2 start.requires.3.few_pads start.args.v _ (width-says) start.requires.0 _ _ c.slot_where-if_left.ensures c.slot_where-if_right.ensures _ (done_then (grid_in start.args.kind.now) c.detour-after.ensures (done_then (grid_in start.args.kind.now) c.detour-after-then-old-eq-UNDECIDED.ensures (done_then (grid_in start.args.kind.now) c.detour-after-then-old-eq-UNDECIDED-2.ensures (done_then (grid_in start.args.kind.now) c.detour-after-then-old-eq-UNDECIDED-3.ensures (done_then (grid_in start.args.kind.now) c.detour-after-then-old-eq-UNDECIDED-4.ensures (done_then (grid_in start.args.kind.now) c.detour-after-then-old-eq-UNDECIDED-5.ensures (done_then (grid_in start.args.kind.now) c.corner_left-after.ensures (done_then (grid_in start.args.kind.now) c.corner_right-after.ensures (done_then (grid_in start.args.kind.now) c.bar-after.ensures (done_then (grid_in start.args.kind.now) c.bar-after-then-old-eq-UNDECIDED.ensures (done_then (grid_in start.args.kind.now) c.check-after.ensures (done_then (grid_in start.args.kind.now) c.check-after-then-old-eq-UNDECIDED.ensures (done_then (grid_in start.args.kind.now) c.check-after-then-old-eq-UNDECIDED-2.ensures c.check.ensures)))))))))))))) _ c.end.ensures
+    line_returns start.args.kind.now _ (down start.args.v) start.requires.2 start.requires.3 start.requires.0 c.if-old-eq-UNDECIDED.true _ (ap (◌+◌ start.args.v) (width-says)) _ c.begin_line.ensures c.if-board-ge-ENDED.false _ _ c.end_pad-a.ensures c.end_pad-b.ensures _ (down_done start.args.kind.now start.requires.2 start.requires.3.few_pads start.args.v _ (width-says) start.requires.0 _ _ c.slot_where-if_left.ensures c.slot_where-if_right.ensures _ (done_then (grid_in start.args.kind.now) c.detour.ensures (done_then (grid_in start.args.kind.now) c.detour-then-old-eq-UNDECIDED.ensures (done_then (grid_in start.args.kind.now) c.detour-then-old-eq-UNDECIDED-2.ensures (done_then (grid_in start.args.kind.now) c.detour-then-old-eq-UNDECIDED-3.ensures (done_then (grid_in start.args.kind.now) c.detour-then-old-eq-UNDECIDED-4.ensures (done_then (grid_in start.args.kind.now) c.detour-then-old-eq-UNDECIDED-5.ensures (done_then (grid_in start.args.kind.now) c.corner_left.ensures (done_then (grid_in start.args.kind.now) c.corner_right.ensures (done_then (grid_in start.args.kind.now) c.bar.ensures (done_then (grid_in start.args.kind.now) c.bar-then-old-eq-UNDECIDED.ensures (done_then (grid_in start.args.kind.now) c.check.ensures (done_then (grid_in start.args.kind.now) c.check-then-old-eq-UNDECIDED.ensures (done_then (grid_in start.args.kind.now) c.check-then-old-eq-UNDECIDED-2.ensures c.check-then-old-eq-UNDECIDED-3.ensures)))))))))))))) _ c.end-board.ensures
 
 pub decide_line_down-returns-then-old-eq-LINE : goal.decide_line_down-returns-then-old-eq-LINE
-decide_line_down-returns-then-old-eq-LINE t c = let start = c in line_again start.args.kind.now _ (down start.args.v) start.requires.2 start.requires.3 start.requires.0 c.if-old-eq-LINE.true _ c.end-then-old-eq-LINE.ensures
+decide_line_down-returns-then-old-eq-LINE t c = let start = c in line_again start.args.kind.now _ (down start.args.v) start.requires.2 start.requires.3 start.requires.0 c.if-old-eq-LINE.true _ c.end-board-then-old-eq-LINE.ensures
 
 pub decide_line_down-returns : goal.decide_line_down-returns
-decide_line_down-returns t c = let start = c in line_raised start.args.kind.now _ (down start.args.v) start.requires.2 start.requires.3 start.requires.0 c.if-old-eq-UNDECIDED.false c.if-old-eq-LINE.false _ c.stop.ensures
+decide_line_down-returns t c = let start = c in line_raised start.args.kind.now _ (down start.args.v) start.requires.2 start.requires.3 start.requires.0 c.if-old-eq-UNDECIDED.false c.if-old-eq-LINE.false _ c.stop-board.ensures
 
 pub decide_line_right-overflow_mul-slot : goal.decide_line_right-overflow_mul-slot
 decide_line_right-overflow_mul-slot t c = omega (arith, c.requires.1, c.requires.2.largest_width, c.requires.2.least_width)
@@ -474,8 +475,8 @@ decide_line_right-overflow_mul-slot t c = omega (arith, c.requires.1, c.requires
 pub decide_line_right-overflow_add-slot : goal.decide_line_right-overflow_add-slot
 decide_line_right-overflow_add-slot t c = omega (arith, c.requires.1, c.requires.2.largest_width, c.requires.2.least_width)
 
-pub decide_line_right-bounds-edges-slot : goal.decide_line_right-bounds-edges-slot
-decide_line_right-bounds-edges-slot t c = omega (arith, c.requires.1)
+pub decide_line_right-bounds-board-slot : goal.decide_line_right-bounds-board-slot
+decide_line_right-bounds-board-slot t c = omega (arith, c.requires.1)
 
 pub decide_line_right-overflow_add-q : goal.decide_line_right-overflow_add-q
 decide_line_right-overflow_add-q t c = let start = c in omega (arith, start.requires.1, start.requires.2.largest_width, c.width-w.ensures, start.requires.2.least_width)
@@ -555,122 +556,122 @@ decide_line_right-end_pad-a-requires t c = let start = c in ((omega (arith, star
 pub decide_line_right-end_pad-b-requires : goal.decide_line_right-end_pad-b-requires
 decide_line_right-end_pad-b-requires t c = let start = c in ((omega (arith, line_second start.args.kind.now _ (right start.args.v) start.requires.2 start.requires.3 start.requires.0 c.if-old-eq-UNDECIDED.true _ refl, start.requires.3.few_pads)), start.requires.3.ends_long)
 
-pub decide_line_right-begin_line-after-requires : goal.decide_line_right-begin_line-after-requires
-decide_line_right-begin_line-after-requires t c =
+pub decide_line_right-begin_line-requires : goal.decide_line_right-begin_line-requires
+decide_line_right-begin_line-requires t c =
     let start = c in
     let if1-taken = c.if-old-eq-UNDECIDED.true in
     (omega (arith, start.requires.1), omega (arith, start.requires.1), (omega (arith, line_second start.args.kind.now _ (right start.args.v) start.requires.2 start.requires.3 start.requires.0 (if1-taken) _ refl, start.requires.3.few_pads)), start.requires.3.mode, line_room start.args.kind.now _ (right start.args.v) start.requires.2 start.requires.3 start.requires.0 (if1-taken) _ refl, start.requires.3.ends_long)
 
-pub decide_line_right-returns-then-after-ge-ENDED : goal.decide_line_right-returns-then-after-ge-ENDED
-decide_line_right-returns-then-after-ge-ENDED t c = let start = c in line_stops start.args.kind.now _ (right start.args.v) start.requires.2 start.requires.3 start.requires.0 c.if-old-eq-UNDECIDED.true _ refl _ c.begin_line-after.ensures c.if-after-ge-ENDED.true
+pub decide_line_right-returns-then-board-ge-ENDED : goal.decide_line_right-returns-then-board-ge-ENDED
+decide_line_right-returns-then-board-ge-ENDED t c = let start = c in line_stops start.args.kind.now _ (right start.args.v) start.requires.2 start.requires.3 start.requires.0 c.if-old-eq-UNDECIDED.true _ refl _ c.begin_line.ensures c.if-board-ge-ENDED.true
 
-pub decide_line_right-detour-after-requires : goal.decide_line_right-detour-after-requires
-decide_line_right-detour-after-requires t c =
+pub decide_line_right-detour-requires : goal.decide_line_right-detour-requires
+decide_line_right-detour-requires t c =
     let start = c in
     let width-says = c.width-w.ensures in
-    let st = line_is_stored start.args.kind.now _ (right start.args.v) start.requires.2 start.requires.3 start.requires.0 c.if-old-eq-UNDECIDED.true _ refl _ c.begin_line-after.ensures c.if-after-ge-ENDED.false in ((omega (arith, start.decreases, st.less)), ((omega (arith, start.requires.1, start.requires.2.largest_width, width-says)), (omega (arith, start.requires.1, start.requires.2.largest_width, width-says)), (omega (arith, start.requires.1, start.requires.2.largest_width, width-says)), (λ o. (same_on (right_up_left start.args.kind.now start.requires.2 start.requires.3.few_pads start.args.v _ (width-says) start.requires.0) (right_up_right start.args.kind.now start.requires.2 start.requires.3.few_pads start.args.v _ (width-says) start.requires.0) o, same_on (right_up_left start.args.kind.now start.requires.2 start.requires.3.few_pads start.args.v _ (width-says) start.requires.0) (right_up start.args.kind.now start.requires.2 start.requires.3.few_pads start.args.v _ (width-says) start.requires.0) o)), start.requires.2, st.ready))
+    let st = line_is_stored start.args.kind.now _ (right start.args.v) start.requires.2 start.requires.3 start.requires.0 c.if-old-eq-UNDECIDED.true _ refl _ c.begin_line.ensures c.if-board-ge-ENDED.false in ((omega (arith, start.decreases, st.less)), ((omega (arith, start.requires.1, start.requires.2.largest_width, width-says)), (omega (arith, start.requires.1, start.requires.2.largest_width, width-says)), (omega (arith, start.requires.1, start.requires.2.largest_width, width-says)), (λ o. (same_on (right_up_left start.args.kind.now start.requires.2 start.requires.3.few_pads start.args.v _ (width-says) start.requires.0) (right_up_right start.args.kind.now start.requires.2 start.requires.3.few_pads start.args.v _ (width-says) start.requires.0) o, same_on (right_up_left start.args.kind.now start.requires.2 start.requires.3.few_pads start.args.v _ (width-says) start.requires.0) (right_up start.args.kind.now start.requires.2 start.requires.3.few_pads start.args.v _ (width-says) start.requires.0) o)), start.requires.2, st.ready))
 
-pub decide_line_right-detour-after-requires-then-old-eq-UNDECIDED : goal.decide_line_right-detour-after-requires-then-old-eq-UNDECIDED
-decide_line_right-detour-after-requires-then-old-eq-UNDECIDED t c =
+pub decide_line_right-detour-requires-then-old-eq-UNDECIDED : goal.decide_line_right-detour-requires-then-old-eq-UNDECIDED
+decide_line_right-detour-requires-then-old-eq-UNDECIDED t c =
     let start = c in
-    let detour-says = c.detour-after.ensures in
+    let detour-says = c.detour.ensures in
     let width-says = c.width-w.ensures in
-    let st = line_is_stored start.args.kind.now _ (right start.args.v) start.requires.2 start.requires.3 start.requires.0 c.if-old-eq-UNDECIDED.true _ refl _ c.begin_line-after.ensures c.if-after-ge-ENDED.false in ((omega (arith, start.decreases, st.less, detour-says.fewer)), ((omega (arith, start.requires.1, start.requires.2.largest_width, width-says)), (omega (arith, start.requires.1, start.requires.2.largest_width, width-says)), (omega (arith, start.requires.1, start.requires.2.largest_width, width-says)), (λ o. (same_on (right_up_right start.args.kind.now start.requires.2 start.requires.3.few_pads start.args.v _ (width-says) start.requires.0) (right_up_left start.args.kind.now start.requires.2 start.requires.3.few_pads start.args.v _ (width-says) start.requires.0) o, same_on (right_up_right start.args.kind.now start.requires.2 start.requires.3.few_pads start.args.v _ (width-says) start.requires.0) (right_up start.args.kind.now start.requires.2 start.requires.3.few_pads start.args.v _ (width-says) start.requires.0) o)), start.requires.2, detour-says.ready))
+    let st = line_is_stored start.args.kind.now _ (right start.args.v) start.requires.2 start.requires.3 start.requires.0 c.if-old-eq-UNDECIDED.true _ refl _ c.begin_line.ensures c.if-board-ge-ENDED.false in ((omega (arith, start.decreases, st.less, detour-says.fewer)), ((omega (arith, start.requires.1, start.requires.2.largest_width, width-says)), (omega (arith, start.requires.1, start.requires.2.largest_width, width-says)), (omega (arith, start.requires.1, start.requires.2.largest_width, width-says)), (λ o. (same_on (right_up_right start.args.kind.now start.requires.2 start.requires.3.few_pads start.args.v _ (width-says) start.requires.0) (right_up_left start.args.kind.now start.requires.2 start.requires.3.few_pads start.args.v _ (width-says) start.requires.0) o, same_on (right_up_right start.args.kind.now start.requires.2 start.requires.3.few_pads start.args.v _ (width-says) start.requires.0) (right_up start.args.kind.now start.requires.2 start.requires.3.few_pads start.args.v _ (width-says) start.requires.0) o)), start.requires.2, detour-says.ready))
 
-pub decide_line_right-detour-after-requires-then-old-eq-UNDECIDED-2 : goal.decide_line_right-detour-after-requires-then-old-eq-UNDECIDED-2
-decide_line_right-detour-after-requires-then-old-eq-UNDECIDED-2 t c =
+pub decide_line_right-detour-requires-then-old-eq-UNDECIDED-2 : goal.decide_line_right-detour-requires-then-old-eq-UNDECIDED-2
+decide_line_right-detour-requires-then-old-eq-UNDECIDED-2 t c =
     let start = c in
-    let detour2-says = c.detour-after-then-old-eq-UNDECIDED.ensures in
+    let detour2-says = c.detour-then-old-eq-UNDECIDED.ensures in
     let width-says = c.width-w.ensures in
-    let st = line_is_stored start.args.kind.now _ (right start.args.v) start.requires.2 start.requires.3 start.requires.0 c.if-old-eq-UNDECIDED.true _ refl _ c.begin_line-after.ensures c.if-after-ge-ENDED.false in ((omega (arith, start.decreases, st.less, c.detour-after.ensures.fewer, detour2-says.fewer)), ((omega (arith, start.requires.1, start.requires.2.largest_width, width-says)), (omega (arith, start.requires.1, start.requires.2.largest_width, width-says)), (omega (arith, start.requires.1, start.requires.2.largest_width, width-says)), (λ o. (same_on (right_up start.args.kind.now start.requires.2 start.requires.3.few_pads start.args.v _ (width-says) start.requires.0) (right_up_left start.args.kind.now start.requires.2 start.requires.3.few_pads start.args.v _ (width-says) start.requires.0) o, same_on (right_up start.args.kind.now start.requires.2 start.requires.3.few_pads start.args.v _ (width-says) start.requires.0) (right_up_right start.args.kind.now start.requires.2 start.requires.3.few_pads start.args.v _ (width-says) start.requires.0) o)), start.requires.2, detour2-says.ready))
+    let st = line_is_stored start.args.kind.now _ (right start.args.v) start.requires.2 start.requires.3 start.requires.0 c.if-old-eq-UNDECIDED.true _ refl _ c.begin_line.ensures c.if-board-ge-ENDED.false in ((omega (arith, start.decreases, st.less, c.detour.ensures.fewer, detour2-says.fewer)), ((omega (arith, start.requires.1, start.requires.2.largest_width, width-says)), (omega (arith, start.requires.1, start.requires.2.largest_width, width-says)), (omega (arith, start.requires.1, start.requires.2.largest_width, width-says)), (λ o. (same_on (right_up start.args.kind.now start.requires.2 start.requires.3.few_pads start.args.v _ (width-says) start.requires.0) (right_up_left start.args.kind.now start.requires.2 start.requires.3.few_pads start.args.v _ (width-says) start.requires.0) o, same_on (right_up start.args.kind.now start.requires.2 start.requires.3.few_pads start.args.v _ (width-says) start.requires.0) (right_up_right start.args.kind.now start.requires.2 start.requires.3.few_pads start.args.v _ (width-says) start.requires.0) o)), start.requires.2, detour2-says.ready))
 
-pub decide_line_right-detour-after-requires-then-old-eq-UNDECIDED-3 : goal.decide_line_right-detour-after-requires-then-old-eq-UNDECIDED-3
-decide_line_right-detour-after-requires-then-old-eq-UNDECIDED-3 t c =
+pub decide_line_right-detour-requires-then-old-eq-UNDECIDED-3 : goal.decide_line_right-detour-requires-then-old-eq-UNDECIDED-3
+decide_line_right-detour-requires-then-old-eq-UNDECIDED-3 t c =
     let start = c in
-    let detour3-says = c.detour-after-then-old-eq-UNDECIDED-2.ensures in
+    let detour3-says = c.detour-then-old-eq-UNDECIDED-2.ensures in
     let width-says = c.width-w.ensures in
-    let st = line_is_stored start.args.kind.now _ (right start.args.v) start.requires.2 start.requires.3 start.requires.0 c.if-old-eq-UNDECIDED.true _ refl _ c.begin_line-after.ensures c.if-after-ge-ENDED.false in ((omega (arith, start.decreases, st.less, c.detour-after.ensures.fewer, c.detour-after-then-old-eq-UNDECIDED.ensures.fewer, detour3-says.fewer)), ((omega (arith, start.requires.1, start.requires.2.largest_width, width-says)), (omega (arith, start.requires.1, start.requires.2.largest_width, width-says)), (omega (arith, start.requires.1, start.requires.2.largest_width, width-says)), (λ o. (same_on (right_left start.args.kind.now start.requires.2 start.requires.3.few_pads start.args.v _ (width-says) start.requires.0) (right_right start.args.kind.now start.requires.2 start.requires.3.few_pads start.args.v _ (width-says) start.requires.0) o, same_on (right_left start.args.kind.now start.requires.2 start.requires.3.few_pads start.args.v _ (width-says) start.requires.0) (right_below start.args.kind.now start.requires.2 start.requires.3.few_pads start.args.v _ (width-says) start.requires.0) o)), start.requires.2, detour3-says.ready))
+    let st = line_is_stored start.args.kind.now _ (right start.args.v) start.requires.2 start.requires.3 start.requires.0 c.if-old-eq-UNDECIDED.true _ refl _ c.begin_line.ensures c.if-board-ge-ENDED.false in ((omega (arith, start.decreases, st.less, c.detour.ensures.fewer, c.detour-then-old-eq-UNDECIDED.ensures.fewer, detour3-says.fewer)), ((omega (arith, start.requires.1, start.requires.2.largest_width, width-says)), (omega (arith, start.requires.1, start.requires.2.largest_width, width-says)), (omega (arith, start.requires.1, start.requires.2.largest_width, width-says)), (λ o. (same_on (right_left start.args.kind.now start.requires.2 start.requires.3.few_pads start.args.v _ (width-says) start.requires.0) (right_right start.args.kind.now start.requires.2 start.requires.3.few_pads start.args.v _ (width-says) start.requires.0) o, same_on (right_left start.args.kind.now start.requires.2 start.requires.3.few_pads start.args.v _ (width-says) start.requires.0) (right_below start.args.kind.now start.requires.2 start.requires.3.few_pads start.args.v _ (width-says) start.requires.0) o)), start.requires.2, detour3-says.ready))
 
-pub decide_line_right-detour-after-requires-then-old-eq-UNDECIDED-4 : goal.decide_line_right-detour-after-requires-then-old-eq-UNDECIDED-4
-decide_line_right-detour-after-requires-then-old-eq-UNDECIDED-4 t c =
+pub decide_line_right-detour-requires-then-old-eq-UNDECIDED-4 : goal.decide_line_right-detour-requires-then-old-eq-UNDECIDED-4
+decide_line_right-detour-requires-then-old-eq-UNDECIDED-4 t c =
     let start = c in
-    let detour4-says = c.detour-after-then-old-eq-UNDECIDED-3.ensures in
+    let detour4-says = c.detour-then-old-eq-UNDECIDED-3.ensures in
     let width-says = c.width-w.ensures in
-    let st = line_is_stored start.args.kind.now _ (right start.args.v) start.requires.2 start.requires.3 start.requires.0 c.if-old-eq-UNDECIDED.true _ refl _ c.begin_line-after.ensures c.if-after-ge-ENDED.false in ((omega (arith, start.decreases, st.less, c.detour-after.ensures.fewer, c.detour-after-then-old-eq-UNDECIDED.ensures.fewer, c.detour-after-then-old-eq-UNDECIDED-2.ensures.fewer, detour4-says.fewer)), ((omega (arith, start.requires.1, start.requires.2.largest_width, width-says)), (omega (arith, start.requires.1, start.requires.2.largest_width, width-says)), (omega (arith, start.requires.1, start.requires.2.largest_width, width-says)), (λ o. (same_on (right_right start.args.kind.now start.requires.2 start.requires.3.few_pads start.args.v _ (width-says) start.requires.0) (right_left start.args.kind.now start.requires.2 start.requires.3.few_pads start.args.v _ (width-says) start.requires.0) o, same_on (right_right start.args.kind.now start.requires.2 start.requires.3.few_pads start.args.v _ (width-says) start.requires.0) (right_below start.args.kind.now start.requires.2 start.requires.3.few_pads start.args.v _ (width-says) start.requires.0) o)), start.requires.2, detour4-says.ready))
+    let st = line_is_stored start.args.kind.now _ (right start.args.v) start.requires.2 start.requires.3 start.requires.0 c.if-old-eq-UNDECIDED.true _ refl _ c.begin_line.ensures c.if-board-ge-ENDED.false in ((omega (arith, start.decreases, st.less, c.detour.ensures.fewer, c.detour-then-old-eq-UNDECIDED.ensures.fewer, c.detour-then-old-eq-UNDECIDED-2.ensures.fewer, detour4-says.fewer)), ((omega (arith, start.requires.1, start.requires.2.largest_width, width-says)), (omega (arith, start.requires.1, start.requires.2.largest_width, width-says)), (omega (arith, start.requires.1, start.requires.2.largest_width, width-says)), (λ o. (same_on (right_right start.args.kind.now start.requires.2 start.requires.3.few_pads start.args.v _ (width-says) start.requires.0) (right_left start.args.kind.now start.requires.2 start.requires.3.few_pads start.args.v _ (width-says) start.requires.0) o, same_on (right_right start.args.kind.now start.requires.2 start.requires.3.few_pads start.args.v _ (width-says) start.requires.0) (right_below start.args.kind.now start.requires.2 start.requires.3.few_pads start.args.v _ (width-says) start.requires.0) o)), start.requires.2, detour4-says.ready))
 
-pub decide_line_right-detour-after-requires-then-old-eq-UNDECIDED-5 : goal.decide_line_right-detour-after-requires-then-old-eq-UNDECIDED-5
-decide_line_right-detour-after-requires-then-old-eq-UNDECIDED-5 t c =
+pub decide_line_right-detour-requires-then-old-eq-UNDECIDED-5 : goal.decide_line_right-detour-requires-then-old-eq-UNDECIDED-5
+decide_line_right-detour-requires-then-old-eq-UNDECIDED-5 t c =
     let start = c in
-    let detour5-says = c.detour-after-then-old-eq-UNDECIDED-4.ensures in
+    let detour5-says = c.detour-then-old-eq-UNDECIDED-4.ensures in
     let width-says = c.width-w.ensures in
-    let st = line_is_stored start.args.kind.now _ (right start.args.v) start.requires.2 start.requires.3 start.requires.0 c.if-old-eq-UNDECIDED.true _ refl _ c.begin_line-after.ensures c.if-after-ge-ENDED.false in ((omega (arith, start.decreases, st.less, c.detour-after.ensures.fewer, c.detour-after-then-old-eq-UNDECIDED.ensures.fewer, c.detour-after-then-old-eq-UNDECIDED-2.ensures.fewer, c.detour-after-then-old-eq-UNDECIDED-3.ensures.fewer, detour5-says.fewer)), ((omega (arith, start.requires.1, start.requires.2.largest_width, width-says)), (omega (arith, start.requires.1, start.requires.2.largest_width, width-says)), (omega (arith, start.requires.1, start.requires.2.largest_width, width-says)), (λ o. (same_on (right_below start.args.kind.now start.requires.2 start.requires.3.few_pads start.args.v _ (width-says) start.requires.0) (right_left start.args.kind.now start.requires.2 start.requires.3.few_pads start.args.v _ (width-says) start.requires.0) o, same_on (right_below start.args.kind.now start.requires.2 start.requires.3.few_pads start.args.v _ (width-says) start.requires.0) (right_right start.args.kind.now start.requires.2 start.requires.3.few_pads start.args.v _ (width-says) start.requires.0) o)), start.requires.2, detour5-says.ready))
+    let st = line_is_stored start.args.kind.now _ (right start.args.v) start.requires.2 start.requires.3 start.requires.0 c.if-old-eq-UNDECIDED.true _ refl _ c.begin_line.ensures c.if-board-ge-ENDED.false in ((omega (arith, start.decreases, st.less, c.detour.ensures.fewer, c.detour-then-old-eq-UNDECIDED.ensures.fewer, c.detour-then-old-eq-UNDECIDED-2.ensures.fewer, c.detour-then-old-eq-UNDECIDED-3.ensures.fewer, detour5-says.fewer)), ((omega (arith, start.requires.1, start.requires.2.largest_width, width-says)), (omega (arith, start.requires.1, start.requires.2.largest_width, width-says)), (omega (arith, start.requires.1, start.requires.2.largest_width, width-says)), (λ o. (same_on (right_below start.args.kind.now start.requires.2 start.requires.3.few_pads start.args.v _ (width-says) start.requires.0) (right_left start.args.kind.now start.requires.2 start.requires.3.few_pads start.args.v _ (width-says) start.requires.0) o, same_on (right_below start.args.kind.now start.requires.2 start.requires.3.few_pads start.args.v _ (width-says) start.requires.0) (right_right start.args.kind.now start.requires.2 start.requires.3.few_pads start.args.v _ (width-says) start.requires.0) o)), start.requires.2, detour5-says.ready))
 
-pub decide_line_right-corner_right-after-requires : goal.decide_line_right-corner_right-after-requires
-decide_line_right-corner_right-after-requires t c =
+pub decide_line_right-corner_right-requires : goal.decide_line_right-corner_right-requires
+decide_line_right-corner_right-requires t c =
     let start = c in
-    let detour6-says = c.detour-after-then-old-eq-UNDECIDED-5.ensures in
+    let detour6-says = c.detour-then-old-eq-UNDECIDED-5.ensures in
     let width-says = c.width-w.ensures in
-    let st = line_is_stored start.args.kind.now _ (right start.args.v) start.requires.2 start.requires.3 start.requires.0 c.if-old-eq-UNDECIDED.true _ refl _ c.begin_line-after.ensures c.if-after-ge-ENDED.false in ((omega (arith, start.decreases, st.less, c.detour-after.ensures.fewer, c.detour-after-then-old-eq-UNDECIDED.ensures.fewer, c.detour-after-then-old-eq-UNDECIDED-2.ensures.fewer, c.detour-after-then-old-eq-UNDECIDED-3.ensures.fewer, c.detour-after-then-old-eq-UNDECIDED-4.ensures.fewer, detour6-says.fewer)), ((omega (arith, start.requires.1, start.requires.2.largest_width, width-says)), (omega (arith, start.requires.1, start.requires.2.largest_width, width-says)), (λ o. right_corner start.args.kind.now start.requires.2 start.requires.3.few_pads start.args.v _ (width-says) start.requires.0 _ refl o), start.requires.2, detour6-says.ready))
+    let st = line_is_stored start.args.kind.now _ (right start.args.v) start.requires.2 start.requires.3 start.requires.0 c.if-old-eq-UNDECIDED.true _ refl _ c.begin_line.ensures c.if-board-ge-ENDED.false in ((omega (arith, start.decreases, st.less, c.detour.ensures.fewer, c.detour-then-old-eq-UNDECIDED.ensures.fewer, c.detour-then-old-eq-UNDECIDED-2.ensures.fewer, c.detour-then-old-eq-UNDECIDED-3.ensures.fewer, c.detour-then-old-eq-UNDECIDED-4.ensures.fewer, detour6-says.fewer)), ((omega (arith, start.requires.1, start.requires.2.largest_width, width-says)), (omega (arith, start.requires.1, start.requires.2.largest_width, width-says)), (λ o. right_corner start.args.kind.now start.requires.2 start.requires.3.few_pads start.args.v _ (width-says) start.requires.0 _ refl o), start.requires.2, detour6-says.ready))
 
-pub decide_line_right-corner_left-after-requires : goal.decide_line_right-corner_left-after-requires
-decide_line_right-corner_left-after-requires t c =
+pub decide_line_right-corner_left-requires : goal.decide_line_right-corner_left-requires
+decide_line_right-corner_left-requires t c =
     let start = c in
-    let corner-right-says = c.corner_right-after.ensures in
+    let corner-right-says = c.corner_right.ensures in
     let width-says = c.width-w.ensures in
-    let st = line_is_stored start.args.kind.now _ (right start.args.v) start.requires.2 start.requires.3 start.requires.0 c.if-old-eq-UNDECIDED.true _ refl _ c.begin_line-after.ensures c.if-after-ge-ENDED.false in ((omega (arith, start.decreases, st.less, c.detour-after.ensures.fewer, c.detour-after-then-old-eq-UNDECIDED.ensures.fewer, c.detour-after-then-old-eq-UNDECIDED-2.ensures.fewer, c.detour-after-then-old-eq-UNDECIDED-3.ensures.fewer, c.detour-after-then-old-eq-UNDECIDED-4.ensures.fewer, c.detour-after-then-old-eq-UNDECIDED-5.ensures.fewer, corner-right-says.fewer)), ((omega (arith, start.requires.1, start.requires.2.largest_width, width-says)), (omega (arith, start.requires.1, start.requires.2.largest_width, width-says)), (λ o. left_corner start.args.kind.now start.requires.2 start.requires.3.few_pads start.args.v _ (width-says) start.requires.0 _ refl o), start.requires.2, corner-right-says.ready))
+    let st = line_is_stored start.args.kind.now _ (right start.args.v) start.requires.2 start.requires.3 start.requires.0 c.if-old-eq-UNDECIDED.true _ refl _ c.begin_line.ensures c.if-board-ge-ENDED.false in ((omega (arith, start.decreases, st.less, c.detour.ensures.fewer, c.detour-then-old-eq-UNDECIDED.ensures.fewer, c.detour-then-old-eq-UNDECIDED-2.ensures.fewer, c.detour-then-old-eq-UNDECIDED-3.ensures.fewer, c.detour-then-old-eq-UNDECIDED-4.ensures.fewer, c.detour-then-old-eq-UNDECIDED-5.ensures.fewer, corner-right-says.fewer)), ((omega (arith, start.requires.1, start.requires.2.largest_width, width-says)), (omega (arith, start.requires.1, start.requires.2.largest_width, width-says)), (λ o. left_corner start.args.kind.now start.requires.2 start.requires.3.few_pads start.args.v _ (width-says) start.requires.0 _ refl o), start.requires.2, corner-right-says.ready))
 
-pub decide_line_right-bar-after-requires : goal.decide_line_right-bar-after-requires
-decide_line_right-bar-after-requires t c =
+pub decide_line_right-bar-requires : goal.decide_line_right-bar-requires
+decide_line_right-bar-requires t c =
     let start = c in
-    let corner-left-says = c.corner_left-after.ensures in
+    let corner-left-says = c.corner_left.ensures in
     let width-says = c.width-w.ensures in
-    let st = line_is_stored start.args.kind.now _ (right start.args.v) start.requires.2 start.requires.3 start.requires.0 c.if-old-eq-UNDECIDED.true _ refl _ c.begin_line-after.ensures c.if-after-ge-ENDED.false in ((omega (arith, start.decreases, st.less, c.detour-after.ensures.fewer, c.detour-after-then-old-eq-UNDECIDED.ensures.fewer, c.detour-after-then-old-eq-UNDECIDED-2.ensures.fewer, c.detour-after-then-old-eq-UNDECIDED-3.ensures.fewer, c.detour-after-then-old-eq-UNDECIDED-4.ensures.fewer, c.detour-after-then-old-eq-UNDECIDED-5.ensures.fewer, c.corner_right-after.ensures.fewer, corner-left-says.fewer)), ((omega (arith, start.requires.1, start.requires.2.largest_width, width-says)), (omega (arith, start.requires.1, start.requires.2.largest_width, width-says)), right_bar_on start.args.kind.now start.requires.2 start.requires.3.few_pads start.args.v _ (width-says) start.requires.0, start.requires.2, corner-left-says.ready))
+    let st = line_is_stored start.args.kind.now _ (right start.args.v) start.requires.2 start.requires.3 start.requires.0 c.if-old-eq-UNDECIDED.true _ refl _ c.begin_line.ensures c.if-board-ge-ENDED.false in ((omega (arith, start.decreases, st.less, c.detour.ensures.fewer, c.detour-then-old-eq-UNDECIDED.ensures.fewer, c.detour-then-old-eq-UNDECIDED-2.ensures.fewer, c.detour-then-old-eq-UNDECIDED-3.ensures.fewer, c.detour-then-old-eq-UNDECIDED-4.ensures.fewer, c.detour-then-old-eq-UNDECIDED-5.ensures.fewer, c.corner_right.ensures.fewer, corner-left-says.fewer)), ((omega (arith, start.requires.1, start.requires.2.largest_width, width-says)), (omega (arith, start.requires.1, start.requires.2.largest_width, width-says)), right_bar_on start.args.kind.now start.requires.2 start.requires.3.few_pads start.args.v _ (width-says) start.requires.0, start.requires.2, corner-left-says.ready))
 
-pub decide_line_right-bar-after-requires-then-old-eq-UNDECIDED : goal.decide_line_right-bar-after-requires-then-old-eq-UNDECIDED
-decide_line_right-bar-after-requires-then-old-eq-UNDECIDED t c =
+pub decide_line_right-bar-requires-then-old-eq-UNDECIDED : goal.decide_line_right-bar-requires-then-old-eq-UNDECIDED
+decide_line_right-bar-requires-then-old-eq-UNDECIDED t c =
     let start = c in
-    let bar-says = c.bar-after.ensures in
+    let bar-says = c.bar.ensures in
     let width-says = c.width-w.ensures in
-    let st = line_is_stored start.args.kind.now _ (right start.args.v) start.requires.2 start.requires.3 start.requires.0 c.if-old-eq-UNDECIDED.true _ refl _ c.begin_line-after.ensures c.if-after-ge-ENDED.false in ((omega (arith, start.decreases, st.less, c.detour-after.ensures.fewer, c.detour-after-then-old-eq-UNDECIDED.ensures.fewer, c.detour-after-then-old-eq-UNDECIDED-2.ensures.fewer, c.detour-after-then-old-eq-UNDECIDED-3.ensures.fewer, c.detour-after-then-old-eq-UNDECIDED-4.ensures.fewer, c.detour-after-then-old-eq-UNDECIDED-5.ensures.fewer, c.corner_right-after.ensures.fewer, c.corner_left-after.ensures.fewer, bar-says.fewer)), ((omega (arith, start.requires.1, start.requires.2.largest_width, width-says)), (omega (arith, start.requires.1, start.requires.2.largest_width, width-says)), left_bar_on start.args.kind.now start.requires.2 start.requires.3.few_pads start.args.v _ (width-says) start.requires.0, start.requires.2, bar-says.ready))
-
-pub decide_line_right-check-after-requires : goal.decide_line_right-check-after-requires
-decide_line_right-check-after-requires t c =
-    let start = c in
-    let if1-taken = c.if-old-eq-UNDECIDED.true in
-    let bar2-says = c.bar-after-then-old-eq-UNDECIDED.ensures in
-    let st = line_is_stored start.args.kind.now _ (right start.args.v) start.requires.2 start.requires.3 start.requires.0 (if1-taken) _ refl _ c.begin_line-after.ensures c.if-after-ge-ENDED.false in ((omega (arith, start.decreases, st.less, c.detour-after.ensures.fewer, c.detour-after-then-old-eq-UNDECIDED.ensures.fewer, c.detour-after-then-old-eq-UNDECIDED-2.ensures.fewer, c.detour-after-then-old-eq-UNDECIDED-3.ensures.fewer, c.detour-after-then-old-eq-UNDECIDED-4.ensures.fewer, c.detour-after-then-old-eq-UNDECIDED-5.ensures.fewer, c.corner_right-after.ensures.fewer, c.corner_left-after.ensures.fewer, c.bar-after.ensures.fewer, bar2-says.fewer)), ((omega (arith, (line_first start.args.kind.now _ (right start.args.v) start.requires.2 start.requires.3 start.requires.0 (if1-taken) _ refl), start.requires.3.few_pads)), (λ h. (line_first start.args.kind.now _ (right start.args.v) start.requires.2 start.requires.3 start.requires.0 (if1-taken) _ refl)), start.requires.2, bar2-says.ready))
-
-pub decide_line_right-check-after-requires-then-old-eq-UNDECIDED : goal.decide_line_right-check-after-requires-then-old-eq-UNDECIDED
-decide_line_right-check-after-requires-then-old-eq-UNDECIDED t c =
-    let start = c in
-    let if1-taken = c.if-old-eq-UNDECIDED.true in
-    let check-says = c.check-after.ensures in
-    let st = line_is_stored start.args.kind.now _ (right start.args.v) start.requires.2 start.requires.3 start.requires.0 (if1-taken) _ refl _ c.begin_line-after.ensures c.if-after-ge-ENDED.false in ((omega (arith, start.decreases, st.less, c.detour-after.ensures.fewer, c.detour-after-then-old-eq-UNDECIDED.ensures.fewer, c.detour-after-then-old-eq-UNDECIDED-2.ensures.fewer, c.detour-after-then-old-eq-UNDECIDED-3.ensures.fewer, c.detour-after-then-old-eq-UNDECIDED-4.ensures.fewer, c.detour-after-then-old-eq-UNDECIDED-5.ensures.fewer, c.corner_right-after.ensures.fewer, c.corner_left-after.ensures.fewer, c.bar-after.ensures.fewer, c.bar-after-then-old-eq-UNDECIDED.ensures.fewer, check-says.fewer)), ((omega (arith, (line_second start.args.kind.now _ (right start.args.v) start.requires.2 start.requires.3 start.requires.0 (if1-taken) _ refl), start.requires.3.few_pads)), (λ h. (line_second start.args.kind.now _ (right start.args.v) start.requires.2 start.requires.3 start.requires.0 (if1-taken) _ refl)), start.requires.2, check-says.ready))
-
-pub decide_line_right-check-after-requires-then-old-eq-UNDECIDED-2 : goal.decide_line_right-check-after-requires-then-old-eq-UNDECIDED-2
-decide_line_right-check-after-requires-then-old-eq-UNDECIDED-2 t c =
-    let start = c in
-    let if1-taken = c.if-old-eq-UNDECIDED.true in
-    let check2-says = c.check-after-then-old-eq-UNDECIDED.ensures in
-    let end-pad-says = c.end_pad-a.ensures in
-    let st = line_is_stored start.args.kind.now _ (right start.args.v) start.requires.2 start.requires.3 start.requires.0 (if1-taken) _ refl _ c.begin_line-after.ensures c.if-after-ge-ENDED.false in ((omega (arith, start.decreases, st.less, c.detour-after.ensures.fewer, c.detour-after-then-old-eq-UNDECIDED.ensures.fewer, c.detour-after-then-old-eq-UNDECIDED-2.ensures.fewer, c.detour-after-then-old-eq-UNDECIDED-3.ensures.fewer, c.detour-after-then-old-eq-UNDECIDED-4.ensures.fewer, c.detour-after-then-old-eq-UNDECIDED-5.ensures.fewer, c.corner_right-after.ensures.fewer, c.corner_left-after.ensures.fewer, c.bar-after.ensures.fewer, c.bar-after-then-old-eq-UNDECIDED.ensures.fewer, c.check-after.ensures.fewer, check2-says.fewer)), ((line_end start.args.kind.now _ (right start.args.v) start.requires.2 start.requires.3 start.requires.0 (if1-taken) _ refl start.args.v (line_first start.args.kind.now _ (right start.args.v) start.requires.2 start.requires.3 start.requires.0 (if1-taken) _ refl) _ (end-pad-says)).0, (line_end start.args.kind.now _ (right start.args.v) start.requires.2 start.requires.3 start.requires.0 (if1-taken) _ refl start.args.v (line_first start.args.kind.now _ (right start.args.v) start.requires.2 start.requires.3 start.requires.0 (if1-taken) _ refl) _ (end-pad-says)).1, start.requires.2, check2-says.ready))
+    let st = line_is_stored start.args.kind.now _ (right start.args.v) start.requires.2 start.requires.3 start.requires.0 c.if-old-eq-UNDECIDED.true _ refl _ c.begin_line.ensures c.if-board-ge-ENDED.false in ((omega (arith, start.decreases, st.less, c.detour.ensures.fewer, c.detour-then-old-eq-UNDECIDED.ensures.fewer, c.detour-then-old-eq-UNDECIDED-2.ensures.fewer, c.detour-then-old-eq-UNDECIDED-3.ensures.fewer, c.detour-then-old-eq-UNDECIDED-4.ensures.fewer, c.detour-then-old-eq-UNDECIDED-5.ensures.fewer, c.corner_right.ensures.fewer, c.corner_left.ensures.fewer, bar-says.fewer)), ((omega (arith, start.requires.1, start.requires.2.largest_width, width-says)), (omega (arith, start.requires.1, start.requires.2.largest_width, width-says)), left_bar_on start.args.kind.now start.requires.2 start.requires.3.few_pads start.args.v _ (width-says) start.requires.0, start.requires.2, bar-says.ready))
 
 pub decide_line_right-check-requires : goal.decide_line_right-check-requires
 decide_line_right-check-requires t c =
     let start = c in
     let if1-taken = c.if-old-eq-UNDECIDED.true in
-    let check3-says = c.check-after-then-old-eq-UNDECIDED-2.ensures in
+    let bar2-says = c.bar-then-old-eq-UNDECIDED.ensures in
+    let st = line_is_stored start.args.kind.now _ (right start.args.v) start.requires.2 start.requires.3 start.requires.0 (if1-taken) _ refl _ c.begin_line.ensures c.if-board-ge-ENDED.false in ((omega (arith, start.decreases, st.less, c.detour.ensures.fewer, c.detour-then-old-eq-UNDECIDED.ensures.fewer, c.detour-then-old-eq-UNDECIDED-2.ensures.fewer, c.detour-then-old-eq-UNDECIDED-3.ensures.fewer, c.detour-then-old-eq-UNDECIDED-4.ensures.fewer, c.detour-then-old-eq-UNDECIDED-5.ensures.fewer, c.corner_right.ensures.fewer, c.corner_left.ensures.fewer, c.bar.ensures.fewer, bar2-says.fewer)), ((omega (arith, (line_first start.args.kind.now _ (right start.args.v) start.requires.2 start.requires.3 start.requires.0 (if1-taken) _ refl), start.requires.3.few_pads)), (λ h. (line_first start.args.kind.now _ (right start.args.v) start.requires.2 start.requires.3 start.requires.0 (if1-taken) _ refl)), start.requires.2, bar2-says.ready))
+
+pub decide_line_right-check-requires-then-old-eq-UNDECIDED : goal.decide_line_right-check-requires-then-old-eq-UNDECIDED
+decide_line_right-check-requires-then-old-eq-UNDECIDED t c =
+    let start = c in
+    let if1-taken = c.if-old-eq-UNDECIDED.true in
+    let check-says = c.check.ensures in
+    let st = line_is_stored start.args.kind.now _ (right start.args.v) start.requires.2 start.requires.3 start.requires.0 (if1-taken) _ refl _ c.begin_line.ensures c.if-board-ge-ENDED.false in ((omega (arith, start.decreases, st.less, c.detour.ensures.fewer, c.detour-then-old-eq-UNDECIDED.ensures.fewer, c.detour-then-old-eq-UNDECIDED-2.ensures.fewer, c.detour-then-old-eq-UNDECIDED-3.ensures.fewer, c.detour-then-old-eq-UNDECIDED-4.ensures.fewer, c.detour-then-old-eq-UNDECIDED-5.ensures.fewer, c.corner_right.ensures.fewer, c.corner_left.ensures.fewer, c.bar.ensures.fewer, c.bar-then-old-eq-UNDECIDED.ensures.fewer, check-says.fewer)), ((omega (arith, (line_second start.args.kind.now _ (right start.args.v) start.requires.2 start.requires.3 start.requires.0 (if1-taken) _ refl), start.requires.3.few_pads)), (λ h. (line_second start.args.kind.now _ (right start.args.v) start.requires.2 start.requires.3 start.requires.0 (if1-taken) _ refl)), start.requires.2, check-says.ready))
+
+pub decide_line_right-check-requires-then-old-eq-UNDECIDED-2 : goal.decide_line_right-check-requires-then-old-eq-UNDECIDED-2
+decide_line_right-check-requires-then-old-eq-UNDECIDED-2 t c =
+    let start = c in
+    let if1-taken = c.if-old-eq-UNDECIDED.true in
+    let check2-says = c.check-then-old-eq-UNDECIDED.ensures in
+    let end-pad-says = c.end_pad-a.ensures in
+    let st = line_is_stored start.args.kind.now _ (right start.args.v) start.requires.2 start.requires.3 start.requires.0 (if1-taken) _ refl _ c.begin_line.ensures c.if-board-ge-ENDED.false in ((omega (arith, start.decreases, st.less, c.detour.ensures.fewer, c.detour-then-old-eq-UNDECIDED.ensures.fewer, c.detour-then-old-eq-UNDECIDED-2.ensures.fewer, c.detour-then-old-eq-UNDECIDED-3.ensures.fewer, c.detour-then-old-eq-UNDECIDED-4.ensures.fewer, c.detour-then-old-eq-UNDECIDED-5.ensures.fewer, c.corner_right.ensures.fewer, c.corner_left.ensures.fewer, c.bar.ensures.fewer, c.bar-then-old-eq-UNDECIDED.ensures.fewer, c.check.ensures.fewer, check2-says.fewer)), ((line_end start.args.kind.now _ (right start.args.v) start.requires.2 start.requires.3 start.requires.0 (if1-taken) _ refl start.args.v (line_first start.args.kind.now _ (right start.args.v) start.requires.2 start.requires.3 start.requires.0 (if1-taken) _ refl) _ (end-pad-says)).0, (line_end start.args.kind.now _ (right start.args.v) start.requires.2 start.requires.3 start.requires.0 (if1-taken) _ refl start.args.v (line_first start.args.kind.now _ (right start.args.v) start.requires.2 start.requires.3 start.requires.0 (if1-taken) _ refl) _ (end-pad-says)).1, start.requires.2, check2-says.ready))
+
+pub decide_line_right-check-requires-then-old-eq-UNDECIDED-3 : goal.decide_line_right-check-requires-then-old-eq-UNDECIDED-3
+decide_line_right-check-requires-then-old-eq-UNDECIDED-3 t c =
+    let start = c in
+    let if1-taken = c.if-old-eq-UNDECIDED.true in
+    let check3-says = c.check-then-old-eq-UNDECIDED-2.ensures in
     let end-pad2-says = c.end_pad-b.ensures in
-    let st = line_is_stored start.args.kind.now _ (right start.args.v) start.requires.2 start.requires.3 start.requires.0 (if1-taken) _ refl _ c.begin_line-after.ensures c.if-after-ge-ENDED.false in ((omega (arith, start.decreases, st.less, c.detour-after.ensures.fewer, c.detour-after-then-old-eq-UNDECIDED.ensures.fewer, c.detour-after-then-old-eq-UNDECIDED-2.ensures.fewer, c.detour-after-then-old-eq-UNDECIDED-3.ensures.fewer, c.detour-after-then-old-eq-UNDECIDED-4.ensures.fewer, c.detour-after-then-old-eq-UNDECIDED-5.ensures.fewer, c.corner_right-after.ensures.fewer, c.corner_left-after.ensures.fewer, c.bar-after.ensures.fewer, c.bar-after-then-old-eq-UNDECIDED.ensures.fewer, c.check-after.ensures.fewer, c.check-after-then-old-eq-UNDECIDED.ensures.fewer, check3-says.fewer)), ((line_end start.args.kind.now _ (right start.args.v) start.requires.2 start.requires.3 start.requires.0 (if1-taken) _ refl _ (line_second start.args.kind.now _ (right start.args.v) start.requires.2 start.requires.3 start.requires.0 (if1-taken) _ refl) _ (end-pad2-says)).0, (line_end start.args.kind.now _ (right start.args.v) start.requires.2 start.requires.3 start.requires.0 (if1-taken) _ refl _ (line_second start.args.kind.now _ (right start.args.v) start.requires.2 start.requires.3 start.requires.0 (if1-taken) _ refl) _ (end-pad2-says)).1, start.requires.2, check3-says.ready))
+    let st = line_is_stored start.args.kind.now _ (right start.args.v) start.requires.2 start.requires.3 start.requires.0 (if1-taken) _ refl _ c.begin_line.ensures c.if-board-ge-ENDED.false in ((omega (arith, start.decreases, st.less, c.detour.ensures.fewer, c.detour-then-old-eq-UNDECIDED.ensures.fewer, c.detour-then-old-eq-UNDECIDED-2.ensures.fewer, c.detour-then-old-eq-UNDECIDED-3.ensures.fewer, c.detour-then-old-eq-UNDECIDED-4.ensures.fewer, c.detour-then-old-eq-UNDECIDED-5.ensures.fewer, c.corner_right.ensures.fewer, c.corner_left.ensures.fewer, c.bar.ensures.fewer, c.bar-then-old-eq-UNDECIDED.ensures.fewer, c.check.ensures.fewer, c.check-then-old-eq-UNDECIDED.ensures.fewer, check3-says.fewer)), ((line_end start.args.kind.now _ (right start.args.v) start.requires.2 start.requires.3 start.requires.0 (if1-taken) _ refl _ (line_second start.args.kind.now _ (right start.args.v) start.requires.2 start.requires.3 start.requires.0 (if1-taken) _ refl) _ (end-pad2-says)).0, (line_end start.args.kind.now _ (right start.args.v) start.requires.2 start.requires.3 start.requires.0 (if1-taken) _ refl _ (line_second start.args.kind.now _ (right start.args.v) start.requires.2 start.requires.3 start.requires.0 (if1-taken) _ refl) _ (end-pad2-says)).1, start.requires.2, check3-says.ready))
 
 pub decide_line_right-returns-then-old-eq-UNDECIDED : goal.decide_line_right-returns-then-old-eq-UNDECIDED
-decide_line_right-returns-then-old-eq-UNDECIDED t c = let start = c in line_returns start.args.kind.now _ (right start.args.v) start.requires.2 start.requires.3 start.requires.0 c.if-old-eq-UNDECIDED.true _ refl _ c.begin_line-after.ensures c.if-after-ge-ENDED.false _ _ c.end_pad-a.ensures c.end_pad-b.ensures _ (right_done start.args.kind.now start.requires.2 start.requires.3.few_pads start.args.v _ c.width-w.ensures start.requires.0 _ (done_then (grid_in start.args.kind.now) c.detour-after.ensures (done_then (grid_in start.args.kind.now) c.detour-after-then-old-eq-UNDECIDED.ensures (done_then (grid_in start.args.kind.now) c.detour-after-then-old-eq-UNDECIDED-2.ensures (done_then (grid_in start.args.kind.now) c.detour-after-then-old-eq-UNDECIDED-3.ensures (done_then (grid_in start.args.kind.now) c.detour-after-then-old-eq-UNDECIDED-4.ensures (done_then (grid_in start.args.kind.now) c.detour-after-then-old-eq-UNDECIDED-5.ensures (done_then (grid_in start.args.kind.now) c.corner_right-after.ensures (done_then (grid_in start.args.kind.now) c.corner_left-after.ensures (done_then (grid_in start.args.kind.now) c.bar-after.ensures (done_then (grid_in start.args.kind.now) c.bar-after-then-old-eq-UNDECIDED.ensures (done_then (grid_in start.args.kind.now) c.check-after.ensures (done_then (grid_in start.args.kind.now) c.check-after-then-old-eq-UNDECIDED.ensures (done_then (grid_in start.args.kind.now) c.check-after-then-old-eq-UNDECIDED-2.ensures c.check.ensures)))))))))))))) _ c.end.ensures
+decide_line_right-returns-then-old-eq-UNDECIDED t c = let start = c in line_returns start.args.kind.now _ (right start.args.v) start.requires.2 start.requires.3 start.requires.0 c.if-old-eq-UNDECIDED.true _ refl _ c.begin_line.ensures c.if-board-ge-ENDED.false _ _ c.end_pad-a.ensures c.end_pad-b.ensures _ (right_done start.args.kind.now start.requires.2 start.requires.3.few_pads start.args.v _ c.width-w.ensures start.requires.0 _ (done_then (grid_in start.args.kind.now) c.detour.ensures (done_then (grid_in start.args.kind.now) c.detour-then-old-eq-UNDECIDED.ensures (done_then (grid_in start.args.kind.now) c.detour-then-old-eq-UNDECIDED-2.ensures (done_then (grid_in start.args.kind.now) c.detour-then-old-eq-UNDECIDED-3.ensures (done_then (grid_in start.args.kind.now) c.detour-then-old-eq-UNDECIDED-4.ensures (done_then (grid_in start.args.kind.now) c.detour-then-old-eq-UNDECIDED-5.ensures (done_then (grid_in start.args.kind.now) c.corner_right.ensures (done_then (grid_in start.args.kind.now) c.corner_left.ensures (done_then (grid_in start.args.kind.now) c.bar.ensures (done_then (grid_in start.args.kind.now) c.bar-then-old-eq-UNDECIDED.ensures (done_then (grid_in start.args.kind.now) c.check.ensures (done_then (grid_in start.args.kind.now) c.check-then-old-eq-UNDECIDED.ensures (done_then (grid_in start.args.kind.now) c.check-then-old-eq-UNDECIDED-2.ensures c.check-then-old-eq-UNDECIDED-3.ensures)))))))))))))) _ c.end-board.ensures
 
 pub decide_line_right-returns-then-old-eq-LINE : goal.decide_line_right-returns-then-old-eq-LINE
-decide_line_right-returns-then-old-eq-LINE t c = let start = c in line_again start.args.kind.now _ (right start.args.v) start.requires.2 start.requires.3 start.requires.0 c.if-old-eq-LINE.true _ c.end-then-old-eq-LINE.ensures
+decide_line_right-returns-then-old-eq-LINE t c = let start = c in line_again start.args.kind.now _ (right start.args.v) start.requires.2 start.requires.3 start.requires.0 c.if-old-eq-LINE.true _ c.end-board-then-old-eq-LINE.ensures
 
 pub decide_line_right-returns : goal.decide_line_right-returns
-decide_line_right-returns t c = let start = c in line_raised start.args.kind.now _ (right start.args.v) start.requires.2 start.requires.3 start.requires.0 c.if-old-eq-UNDECIDED.false c.if-old-eq-LINE.false _ c.stop.ensures
+decide_line_right-returns t c = let start = c in line_raised start.args.kind.now _ (right start.args.v) start.requires.2 start.requires.3 start.requires.0 c.if-old-eq-UNDECIDED.false c.if-old-eq-LINE.false _ c.stop-board.ensures
 
 pub decide_none-store-requires : goal.decide_none-store-requires
 decide_none-store-requires t c = let start = c in (start.requires.0, none_room start.args.kind.now _ start.args.slot start.requires.0 start.requires.1 start.requires.2 c.if-state-eq-UNDECIDED.true)
@@ -681,56 +682,56 @@ decide_none-first_pad-v-requires t c = let start = c in none_high start.args.kin
 pub decide_none-second_pad-q-requires : goal.decide_none-second_pad-q-requires
 decide_none-second_pad-q-requires t c = let start = c in (none_high start.args.kind.now _ start.args.slot start.requires.0 start.requires.1 start.requires.2 c.if-state-eq-UNDECIDED.true, start.requires.0, rw c.width.ensures start.requires.1.largest_width)
 
-pub decide_none-overflow_add-go_on : goal.decide_none-overflow_add-go_on
-decide_none-overflow_add-go_on t c = let start = c in (omega (arith, c.go_on.ensures, (going_count start.args.count start.requires.2.mode).1))
-
-pub decide_none-check-after-requires : goal.decide_none-check-after-requires
-decide_none-check-after-requires t c =
-    let start = c in
-    let if1-taken = c.if-state-eq-UNDECIDED.true in
-    let store-says = c.store.ensures in
-    let st = none_is_stored start.args.kind.now _ start.args.slot start.requires.0 start.requires.1 start.requires.2 (if1-taken) _ _ _ store-says.0 store-says.1 c.go_on.ensures in let b = none_first start.args.kind.now _ start.args.slot start.requires.0 start.requires.1 start.requires.2 (if1-taken) _ c.first_pad-v.ensures in ((omega (arith, start.decreases, st.less)), ((omega (arith, b, start.requires.2.few_pads)), (λ h. b), start.requires.1, st.ready))
+pub decide_none-overflow_add-board : goal.decide_none-overflow_add-board
+decide_none-overflow_add-board t c = let start = c in omega (arith, c.go_on.ensures, ap (λ (s : Arrays). going s.count) c.store.ensures, (going_count start.args.board.now.count start.requires.2.mode).1)
 
 pub decide_none-check-requires : goal.decide_none-check-requires
 decide_none-check-requires t c =
     let start = c in
     let if1-taken = c.if-state-eq-UNDECIDED.true in
     let store-says = c.store.ensures in
-    let check-says = c.check-after.ensures in
-    let st = none_is_stored start.args.kind.now _ start.args.slot start.requires.0 start.requires.1 start.requires.2 (if1-taken) _ _ _ store-says.0 store-says.1 c.go_on.ensures in let b = none_second start.args.kind.now _ start.args.slot start.requires.0 start.requires.1 start.requires.2 (if1-taken) _ _ c.width.ensures c.second_pad-q.ensures in ((omega (arith, start.decreases, st.less, check-says.fewer)), ((omega (arith, b, start.requires.2.few_pads)), (λ h. b), start.requires.1, check-says.ready))
+    let st = none_is_stored start.args.kind.now _ start.args.slot start.requires.0 start.requires.1 start.requires.2 (if1-taken) _ store-says _ c.go_on.ensures in let b = none_first start.args.kind.now _ start.args.slot start.requires.0 start.requires.1 start.requires.2 (if1-taken) _ c.first_pad-v.ensures in ((omega (arith, start.decreases, st.less)), ((omega (arith, b, start.requires.2.few_pads)), (λ h. b), start.requires.1, st.ready))
+
+pub decide_none-check-requires-then-state-eq-UNDECIDED : goal.decide_none-check-requires-then-state-eq-UNDECIDED
+decide_none-check-requires-then-state-eq-UNDECIDED t c =
+    let start = c in
+    let if1-taken = c.if-state-eq-UNDECIDED.true in
+    let store-says = c.store.ensures in
+    let check-says = c.check.ensures in
+    let st = none_is_stored start.args.kind.now _ start.args.slot start.requires.0 start.requires.1 start.requires.2 (if1-taken) _ store-says _ c.go_on.ensures in let b = none_second start.args.kind.now _ start.args.slot start.requires.0 start.requires.1 start.requires.2 (if1-taken) _ _ c.width.ensures c.second_pad-q.ensures in ((omega (arith, start.decreases, st.less, check-says.fewer)), ((omega (arith, b, start.requires.2.few_pads)), (λ h. b), start.requires.1, check-says.ready))
 
 pub decide_none-returns-then-state-eq-UNDECIDED : goal.decide_none-returns-then-state-eq-UNDECIDED
 decide_none-returns-then-state-eq-UNDECIDED t c =
     let start = c in
     let store-says = c.store.ensures in
-    none_returns start.args.kind.now _ start.args.slot start.requires.0 start.requires.1 start.requires.2 c.if-state-eq-UNDECIDED.true _ _ _ store-says.0 store-says.1 c.go_on.ensures _ _ _ c.first_pad-v.ensures c.width.ensures c.second_pad-q.ensures _ _ c.check-after.ensures c.check.ensures _ c.end.ensures
+    none_returns start.args.kind.now _ start.args.slot start.requires.0 start.requires.1 start.requires.2 c.if-state-eq-UNDECIDED.true _ store-says _ c.go_on.ensures _ _ _ c.first_pad-v.ensures c.width.ensures c.second_pad-q.ensures _ _ c.check.ensures c.check-then-state-eq-UNDECIDED.ensures _ c.end-board.ensures
 
 pub decide_none-returns-then-state-eq-LINE : goal.decide_none-returns-then-state-eq-LINE
-decide_none-returns-then-state-eq-LINE t c = let start = c in none_raised start.args.kind.now _ start.args.slot start.requires.0 start.requires.1 start.requires.2 c.if-state-eq-UNDECIDED.false c.if-state-eq-LINE.true _ c.stop.ensures
+decide_none-returns-then-state-eq-LINE t c = let start = c in none_raised start.args.kind.now _ start.args.slot start.requires.0 start.requires.1 start.requires.2 c.if-state-eq-UNDECIDED.false c.if-state-eq-LINE.true _ c.stop-board.ensures
 
 pub decide_none-returns : goal.decide_none-returns
-decide_none-returns t c = let start = c in none_again start.args.kind.now _ start.args.slot start.requires.0 start.requires.1 start.requires.2 c.if-state-eq-UNDECIDED.false c.if-state-eq-LINE.false _ c.end-2.ensures
+decide_none-returns t c = let start = c in none_again start.args.kind.now _ start.args.slot start.requires.0 start.requires.1 start.requires.2 c.if-state-eq-UNDECIDED.false c.if-state-eq-LINE.false _ c.end-board-2.ensures
 
-pub detour-returns-then-count-ge-ENDED : goal.detour-returns-then-count-ge-ENDED
-detour-returns-then-count-ge-ENDED t c = done_ended (grid_in c.args.kind.now) 1 _ _ c.requires.5 c.if-count-ge-ENDED.true
+pub detour-returns-then-board-ge-ENDED : goal.detour-returns-then-board-ge-ENDED
+detour-returns-then-board-ge-ENDED t c = done_ended (grid_in c.args.kind.now) 1 _ _ c.requires.5 c.if-board-ge-ENDED.true
 
-pub detour-returns-then-edges-a-ne-LINE : goal.detour-returns-then-edges-a-ne-LINE
-detour-returns-then-edges-a-ne-LINE t c = let start = c in detour_off (grid_in start.args.kind.now) _ start.requires.5 start.args.a start.args.b start.args.c start.requires.0 c.if-count-ge-ENDED.false c.if-edges-a-ne-LINE.true
-
-pub detour-decide_none-after-requires : goal.detour-decide_none-after-requires
-detour-decide_none-after-requires t c = let start = c in ((omega (arith, start.decreases)), (start.requires.1, start.requires.4, start.requires.5))
-
-pub detour-returns-then-after-ge-ENDED : goal.detour-returns-then-after-ge-ENDED
-detour-returns-then-after-ge-ENDED t c =
-    let start = c in
-    let if2-left = c.if-edges-a-ne-LINE.false in
-    detour_first (grid_in start.args.kind.now) _ start.requires.5 start.args.a start.args.b start.args.c start.requires.0 c.if-count-ge-ENDED.false (if2-left) _ (c.decide_none-after.ensures.acts (start.requires.3 (slot_is_on (grid_in start.args.kind.now) _ start.requires.5 start.args.a start.requires.0 (omega (arith, if2-left)))).0) c.if-after-ge-ENDED.true
+pub detour-returns-then-board-a-ne-LINE : goal.detour-returns-then-board-a-ne-LINE
+detour-returns-then-board-a-ne-LINE t c = let start = c in detour_off (grid_in start.args.kind.now) _ start.requires.5 start.args.a start.args.b start.args.c start.requires.0 c.if-board-ge-ENDED.false c.if-board-a-ne-LINE.true
 
 pub detour-decide_none-requires : goal.detour-decide_none-requires
-detour-decide_none-requires t c = let start = c in let d = (c.decide_none-after.ensures.acts (start.requires.3 (slot_is_on (grid_in start.args.kind.now) _ start.requires.5 start.args.a start.requires.0 (omega (arith, c.if-edges-a-ne-LINE.false)))).0) in ((omega (arith, start.decreases, d.fewer)), (start.requires.2, start.requires.4, d.ready))
+detour-decide_none-requires t c = let start = c in ((omega (arith, start.decreases)), (start.requires.1, start.requires.4, start.requires.5))
+
+pub detour-returns-then-board-ge-ENDED-2 : goal.detour-returns-then-board-ge-ENDED-2
+detour-returns-then-board-ge-ENDED-2 t c =
+    let start = c in
+    let if2-left = c.if-board-a-ne-LINE.false in
+    detour_first (grid_in start.args.kind.now) _ start.requires.5 start.args.a start.args.b start.args.c start.requires.0 c.if-board-ge-ENDED.false (if2-left) _ (c.decide_none.ensures.acts (start.requires.3 (slot_is_on (grid_in start.args.kind.now) _ start.requires.5 start.args.a start.requires.0 (omega (arith, if2-left)))).0) c.if-board-ge-ENDED-2.true
+
+pub detour-decide_none-requires-2 : goal.detour-decide_none-requires-2
+detour-decide_none-requires-2 t c = let start = c in let d = (c.decide_none.ensures.acts (start.requires.3 (slot_is_on (grid_in start.args.kind.now) _ start.requires.5 start.args.a start.requires.0 (omega (arith, c.if-board-a-ne-LINE.false)))).0) in ((omega (arith, start.decreases, d.fewer)), (start.requires.2, start.requires.4, d.ready))
 
 pub detour-returns : goal.detour-returns
 detour-returns t c =
     let start = c in
-    let if2-left = c.if-edges-a-ne-LINE.false in
-    detour_both (grid_in start.args.kind.now) _ start.requires.5 start.args.a start.args.b start.args.c start.requires.0 c.if-count-ge-ENDED.false (if2-left) _ _ (c.decide_none-after.ensures.acts (start.requires.3 (slot_is_on (grid_in start.args.kind.now) _ start.requires.5 start.args.a start.requires.0 (omega (arith, if2-left)))).0) c.if-after-ge-ENDED.false (c.decide_none.ensures.acts (start.requires.3 (slot_is_on (grid_in start.args.kind.now) _ start.requires.5 start.args.a start.requires.0 (omega (arith, if2-left)))).1)
+    let if2-left = c.if-board-a-ne-LINE.false in
+    detour_both (grid_in start.args.kind.now) _ start.requires.5 start.args.a start.args.b start.args.c start.requires.0 c.if-board-ge-ENDED.false (if2-left) _ _ (c.decide_none.ensures.acts (start.requires.3 (slot_is_on (grid_in start.args.kind.now) _ start.requires.5 start.args.a start.requires.0 (omega (arith, if2-left)))).0) c.if-board-ge-ENDED-2.false (c.decide_none-2.ensures.acts (start.requires.3 (slot_is_on (grid_in start.args.kind.now) _ start.requires.5 start.args.a start.requires.0 (omega (arith, if2-left)))).1)

@@ -6,7 +6,7 @@ use borrow.Author.Tests.{not-true, not-false}
 use Rattle.boardview.specs.View.{grid_in}
 use Rattle.boardview.specs.Unwind.{since_then}
 use Rattle.searchview.specs.Searched.{arrays, reached}
-use Rattle.searchview.specs.SearchLaws.{ready_edges, since_restored, ready_restored, not_tried, flagged, next_entered, went_on, spent, last_row_reached, begun, loop_over, stops_at, next_one, row_small, row_few, row_below, pad_small, right_on_board, down_on_board, next_in_row, taken_back, log_longer}
+use Rattle.searchview.specs.SearchLaws.{ready_edges, since_restored, ready_restored, not_tried, flagged, next_entered, went_on, spent, last_row_reached, begun, loop_over, stops_at, next_one, row_small, row_few, row_below, pad_small, right_on_board, down_on_board, next_in_row, gone_back}
 use mathlib.Core.Path.{ap}
 use mathlib.Core.Bool.{not}
 use Rattle.solver.proofs.+attempt_backtrack.Goals as goal
@@ -15,66 +15,72 @@ pub attempt-tried-requires : goal.attempt-tried-requires
 attempt-tried-requires t c = (pad_small _ _ c.requires.0.ready c.requires.0.kinds.least_height _ c.requires.1, c.requires.0.kinds, ready_edges _ _ c.requires.0.ready)
 
 pub attempt-returns-then-not-tried : goal.attempt-returns-then-not-tried
-attempt-returns-then-not-tried t c = not_tried _ _ _ _ _ _ _ c.requires.0.inside (sym c.tried.ensures ∙ not-true _ (ap not c.if-not-tried.true))
+attempt-returns-then-not-tried t c = (not_tried _ _ _ _ _ _ _ c.requires.0.inside (sym c.tried.ensures ∙ not-true _ (ap not c.if-not-tried.true)), refl)
 
-pub attempt-decide_right-first-requires : goal.attempt-decide_right-first-requires
-attempt-decide_right-first-requires t c =
+pub attempt-decide_right-requires : goal.attempt-decide_right-requires
+attempt-decide_right-requires t c =
     let start = c in
     (pad_small _ _ start.requires.0.ready start.requires.0.kinds.least_height _ start.requires.1, start.requires.0.kinds, start.requires.0.ready, right_on_board _ _ start.requires.0.ready start.requires.0.kinds.least_height _ start.requires.1)
 
-pub attempt-decide_down-second-requires : goal.attempt-decide_down-second-requires
-attempt-decide_down-second-requires t c =
+pub attempt-decide_down-requires : goal.attempt-decide_down-requires
+attempt-decide_down-requires t c =
     let start = c in
-    (pad_small _ _ start.requires.0.ready start.requires.0.kinds.least_height _ start.requires.1, start.requires.0.kinds, c.decide_right-first.ensures.ready, down_on_board _ _ start.requires.0.ready start.requires.0.kinds.least_height _ start.requires.1)
+    (pad_small _ _ start.requires.0.ready start.requires.0.kinds.least_height _ start.requires.1, start.requires.0.kinds, c.decide_right.ensures.ready, down_on_board _ _ start.requires.0.ready start.requires.0.kinds.least_height _ start.requires.1)
 
-pub attempt-first_of_last_row-requires : goal.attempt-first_of_last_row-requires
-attempt-first_of_last_row-requires t c = c.requires.0.kinds
+pub attempt-first_of_last_row-last-requires : goal.attempt-first_of_last_row-last-requires
+attempt-first_of_last_row-last-requires t c = c.requires.0.kinds
 
 pub attempt-overflow_add-v : goal.attempt-overflow_add-v
 attempt-overflow_add-v t c = let k = pad_small _ _ c.requires.0.ready c.requires.0.kinds.least_height _ c.requires.1 in omega arith
 
 pub attempt-next_pad-next-requires : goal.attempt-next_pad-next-requires
-attempt-next_pad-next-requires t c = let below = row_below _ _ c.requires.0.ready c.requires.0.kinds.least_height in (omega (arith, c.first_of_last_row.ensures, c.requires.1.low), omega (arith, c.first_of_last_row.ensures), c.decide_down-second.ensures.ready.edges_long)
+attempt-next_pad-next-requires t c = let below = row_below _ _ c.requires.0.ready c.requires.0.kinds.least_height in (omega (arith, c.first_of_last_row-last.ensures, c.requires.1.low), omega (arith, c.first_of_last_row-last.ensures), c.decide_down.ensures.ready.edges_long)
 
 pub attempt-backtrack-outcome-requires : goal.attempt-backtrack-outcome-requires
 attempt-backtrack-outcome-requires t c =
     let start = c in
     let next-pad-says = c.next_pad-next.ensures in
-    let decide-down-says = c.decide_down-second.ensures in
-    let if2-taken = c.if-second-lt-FLAGGED.true in
-    (omega (arith, start.decreases, next-pad-says.later, row_small _ _ start.requires.0.ready start.requires.0.kinds.least_height, start.requires.1.low), (record { kinds = start.requires.0.kinds; ready = decide-down-says.ready; clear = if2-taken; inside = start.requires.0.inside }, next_entered _ _ _ _ _ (sym c.tried.ensures ∙ not-false _ (ap not c.if-not-tried.false)) start.requires.0.ready _ _ c.decide_right-first.ensures (decide-down-says) start.requires.0.kinds.least_width start.requires.0.kinds.least_height (row_few _ _ start.requires.0.ready start.requires.0.kinds.least_height) (if2-taken) start.requires.1.low _ (next_in_row _ _ _ _ _ c.first_of_last_row.ensures (next-pad-says))))
+    let decide-down-says = c.decide_down.ensures in
+    let if2-taken = c.if-board-lt-FLAGGED.true in
+    (omega (arith, start.decreases, next-pad-says.later, row_small _ _ start.requires.0.ready start.requires.0.kinds.least_height, start.requires.1.low), (record { kinds = start.requires.0.kinds; ready = decide-down-says.ready; clear = if2-taken; inside = start.requires.0.inside }, next_entered _ _ _ _ _ (sym c.tried.ensures ∙ not-false _ (ap not c.if-not-tried.false)) start.requires.0.ready _ _ c.decide_right.ensures (decide-down-says) start.requires.0.kinds.least_width start.requires.0.kinds.least_height (row_few _ _ start.requires.0.ready start.requires.0.kinds.least_height) (if2-taken) start.requires.1.low _ (next_in_row _ _ _ _ _ c.first_of_last_row-last.ensures (next-pad-says))))
 
-pub attempt-take_back-requires : goal.attempt-take_back-requires
-attempt-take_back-requires t c =
+pub attempt-undo-requires : goal.attempt-undo-requires
+attempt-undo-requires t c =
     let start = c in
-    let decide-down-says = c.decide_down-second.ensures in
-    (start.requires.0.kinds, ready_restored _ _ _ refl c.backtrack-outcome.ensures.restored decide-down-says.ready, log_longer _ _ _ (since_then _ _ _ _ c.decide_right-first.ensures.since decide-down-says.since) start.requires.0.clear)
+    let ready = ready_restored _ _ _ c.backtrack-outcome.ensures.1 c.backtrack-outcome.ensures.0.restored c.decide_down.ensures.ready in
+    let since = since_restored _ _ _ _ c.backtrack-outcome.ensures.1 (since_then _ _ _ _ c.decide_right.ensures.since c.decide_down.ensures.since) c.backtrack-outcome.ensures.0.restored in
+    (omega (arith, since.longer), omega (arith, ready.room), ready.ends_long, start.requires.0.kinds, ready.few_pads, ready.entries)
 
-pub attempt-shape_of-buffer-then-second-lt-FLAGGED : goal.attempt-shape_of-buffer-then-second-lt-FLAGGED
-attempt-shape_of-buffer-then-second-lt-FLAGGED t c = c.backtrack-outcome.ensures.same_length
+pub attempt-shape_of-buffer-then-board-lt-FLAGGED : goal.attempt-shape_of-buffer-then-board-lt-FLAGGED
+attempt-shape_of-buffer-then-board-lt-FLAGGED t c = c.backtrack-outcome.ensures.0.same_length
 
-pub attempt-returns-then-second-lt-FLAGGED : goal.attempt-returns-then-second-lt-FLAGGED
-attempt-returns-then-second-lt-FLAGGED t c =
+pub attempt-returns-then-board-lt-FLAGGED : goal.attempt-returns-then-board-lt-FLAGGED
+attempt-returns-then-board-lt-FLAGGED t c =
     let start = c in
-    let decide-right-says = c.decide_right-first.ensures in
-    let decide-down-says = c.decide_down-second.ensures in
+    let decide-right-says = c.decide_right.ensures in
+    let decide-down-says = c.decide_down.ensures in
     let backtrack-says = c.backtrack-outcome.ensures in
-    went_on _ _ _ _ _ (sym c.tried.ensures ∙ not-false _ (ap not c.if-not-tried.false)) start.requires.0.ready _ _ (decide-right-says) (decide-down-says) start.requires.0.kinds.least_width start.requires.0.kinds.least_height (row_few _ _ start.requires.0.ready start.requires.0.kinds.least_height) c.if-second-lt-FLAGGED.true start.requires.1.low _ (next_in_row _ _ _ _ _ c.first_of_last_row.ensures c.next_pad-next.ensures) _ _ _ _ _ (backtrack-says) (taken_back _ _ _ _ _ _ (since_restored _ _ _ _ refl (since_then _ _ _ _ decide-right-says.since decide-down-says.since) backtrack-says.restored) (backtrack-says.restored.log_long ∙ decide-down-says.ready.log_long ∙ sym start.requires.0.ready.log_long) start.requires.0.clear c.take_back.ensures)
+    let back = gone_back _ _ _ _ (since_restored _ _ _ _ backtrack-says.1 (since_then _ _ _ _ decide-right-says.since decide-down-says.since) backtrack-says.0.restored) (backtrack-says.0.restored.log_long ∙ decide-down-says.ready.log_long ∙ sym start.requires.0.ready.log_long) c.undo.ensures in
+    (went_on _ _ _ _ _ (sym c.tried.ensures ∙ not-false _ (ap not c.if-not-tried.false)) start.requires.0.ready _ _ (decide-right-says) (decide-down-says) start.requires.0.kinds.least_width start.requires.0.kinds.least_height (row_few _ _ start.requires.0.ready start.requires.0.kinds.least_height) c.if-board-lt-FLAGGED.true start.requires.1.low _ (next_in_row _ _ _ _ _ c.first_of_last_row-last.ensures c.next_pad-next.ensures) _ _ _ _ _ backtrack-says.0 back.0, back.1)
 
-pub attempt-take_back-requires-2 : goal.attempt-take_back-requires-2
-attempt-take_back-requires-2 t c = (c.requires.0.kinds, c.decide_down-second.ensures.ready, log_longer _ _ _ (since_then _ _ _ _ c.decide_right-first.ensures.since c.decide_down-second.ensures.since) c.requires.0.clear)
+pub attempt-undo-requires-2 : goal.attempt-undo-requires-2
+attempt-undo-requires-2 t c =
+    let ready = c.decide_down.ensures.ready in
+    let since = since_then _ _ _ _ c.decide_right.ensures.since c.decide_down.ensures.since in
+    (omega (arith, since.longer), omega (arith, ready.room), ready.ends_long, c.requires.0.kinds, ready.few_pads, ready.entries)
 
 pub attempt-returns : goal.attempt-returns
 attempt-returns t c =
     let start = c in
-    let decide-right-says = c.decide_right-first.ensures in
-    let decide-down-says = c.decide_down-second.ensures in
-    flagged _ _ _ _ _ (sym c.tried.ensures ∙ not-false _ (ap not c.if-not-tried.false)) start.requires.0.ready _ _ (decide-right-says) (decide-down-says) _ _ start.requires.0.inside c.if-second-lt-FLAGGED.false _ (taken_back _ _ _ _ _ _ (since_then _ _ _ _ decide-right-says.since decide-down-says.since) (decide-down-says.ready.log_long ∙ sym start.requires.0.ready.log_long) start.requires.0.clear c.take_back-2.ensures)
+    let decide-right-says = c.decide_right.ensures in
+    let decide-down-says = c.decide_down.ensures in
+    let back = gone_back _ _ _ _ (since_then _ _ _ _ decide-right-says.since decide-down-says.since) (decide-down-says.ready.log_long ∙ sym start.requires.0.ready.log_long) c.undo-2.ensures in
+    (flagged _ _ _ _ _ (sym c.tried.ensures ∙ not-false _ (ap not c.if-not-tried.false)) start.requires.0.ready _ _ (decide-right-says) (decide-down-says) _ _ start.requires.0.inside c.if-board-lt-FLAGGED.false _ back.0, back.1)
 
 pub backtrack-returns-then-visited-limit : goal.backtrack-returns-then-visited-limit
 backtrack-returns-then-visited-limit t c =
     let start = c in
-    spent (grid_in start.args.kind.now) start.args.limit start.args.v (arrays start.args.edges.now start.args.ends.now start.args.log.now start.args.count) (reached start.args.kind.now 0 start.args.visited.now start.args.layouts.now start.args.fewest.now start.args.buffer.now) start.requires.0.inside refl start.requires.0.kinds.least_height start.requires.0.kinds.least_width start.requires.1 c.if-visited-limit.true
+    (spent (grid_in start.args.kind.now) start.args.limit start.args.v start.args.board.now (reached start.args.kind.now 0 start.args.visited.now start.args.layouts.now start.args.fewest.now start.args.buffer.now) start.requires.0.inside refl start.requires.0.kinds.least_height start.requires.0.kinds.least_width start.requires.1 c.if-visited-limit.true, refl)
 
 pub backtrack-overflow_add-visited : goal.backtrack-overflow_add-visited
 backtrack-overflow_add-visited t c = omega (arith, c.if-visited-limit.false)
@@ -92,12 +98,12 @@ pub backtrack-returns-then-v-first_of_last_row : goal.backtrack-returns-then-v-f
 backtrack-returns-then-v-first_of_last_row t c =
     let start = c in
     let add-layout-says = c.add_layout.ensures in
-    last_row_reached (grid_in start.args.kind.now) start.args.limit start.args.v (arrays start.args.edges.now start.args.ends.now start.args.log.now start.args.count) (reached start.args.kind.now 0 start.args.visited.now start.args.layouts.now start.args.fewest.now start.args.buffer.now) start.requires.0.inside refl start.requires.0.kinds.least_height start.requires.0.kinds.least_width start.requires.1 c.if-visited-limit.false (omega (arith, c.first_of_last_row.ensures, c.if-v-first_of_last_row.true)) _ (add-layout-says.advanced _ _) add-layout-says.inside add-layout-says.same_length
+    (last_row_reached (grid_in start.args.kind.now) start.args.limit start.args.v start.args.board.now (reached start.args.kind.now 0 start.args.visited.now start.args.layouts.now start.args.fewest.now start.args.buffer.now) start.requires.0.inside refl start.requires.0.kinds.least_height start.requires.0.kinds.least_width start.requires.1 c.if-visited-limit.false (omega (arith, c.first_of_last_row.ensures, c.if-v-first_of_last_row.true)) _ (add-layout-says.advanced _ _) add-layout-says.inside add-layout-says.same_length, refl)
 
 pub backtrack-loop-m-init : goal.backtrack-loop-m-init
 backtrack-loop-m-init t c =
     let start = c in
-    (omega arith, begun (grid_in start.args.kind.now) start.args.limit start.args.v (arrays start.args.edges.now start.args.ends.now start.args.log.now start.args.count) (reached start.args.kind.now 0 start.args.visited.now start.args.layouts.now start.args.fewest.now start.args.buffer.now) start.requires.0.inside refl start.requires.0.kinds.least_height start.requires.0.kinds.least_width start.requires.1 c.if-visited-limit.false (omega (arith, c.first_of_last_row.ensures, c.if-v-first_of_last_row.false)))
+    (begun (grid_in start.args.kind.now) start.args.limit start.args.v start.args.board.now (reached start.args.kind.now 0 start.args.visited.now start.args.layouts.now start.args.fewest.now start.args.buffer.now) start.requires.0.inside refl start.requires.0.kinds.least_height start.requires.0.kinds.least_width start.requires.1 c.if-visited-limit.false (omega (arith, c.first_of_last_row.ensures, c.if-v-first_of_last_row.false)), refl)
 
 pub backtrack-attempt-outcome-requires : goal.backtrack-attempt-outcome-requires
 backtrack-attempt-outcome-requires t c =
@@ -105,32 +111,26 @@ backtrack-attempt-outcome-requires t c =
     let loop-inv = c.loop-m.invariant in
     let first-of-last-row-says = c.first_of_last_row.ensures in
     let if2-left = c.if-v-first_of_last_row.false in
-    (omega (arith, start.decreases), (record { kinds = start.requires.0.kinds; ready = ready_restored _ _ _ refl loop-inv.1.restored start.requires.0.ready; clear = start.requires.0.clear; inside = loop-inv.1.inside }, (record { low = (omega (arith, first-of-last-row-says, if2-left)); has_next = start.requires.1.has_next (omega (arith, first-of-last-row-says, if2-left)) })))
+    (omega (arith, start.decreases), (record { kinds = start.requires.0.kinds; ready = ready_restored _ _ _ loop-inv.1 loop-inv.0.restored start.requires.0.ready; clear = omega (arith, start.requires.0.clear, loop-inv.1); inside = loop-inv.0.inside }, (record { low = (omega (arith, first-of-last-row-says, if2-left)); has_next = start.requires.1.has_next (omega (arith, first-of-last-row-says, if2-left)) })))
 
 pub backtrack-shape_of-buffer-then-outcome-ne0 : goal.backtrack-shape_of-buffer-then-outcome-ne0
-backtrack-shape_of-buffer-then-outcome-ne0 t c = c.attempt-outcome.ensures.same_length ∙ c.loop-m.invariant.1.same_length
+backtrack-shape_of-buffer-then-outcome-ne0 t c = c.attempt-outcome.ensures.0.same_length ∙ c.loop-m.invariant.0.same_length
 
 pub backtrack-returns-then-outcome-ne0 : goal.backtrack-returns-then-outcome-ne0
 backtrack-returns-then-outcome-ne0 t c =
     let start = c in
-    stops_at (grid_in start.args.kind.now) start.args.limit start.args.v (arrays start.args.edges.now start.args.ends.now start.args.log.now start.args.count) (reached start.args.kind.now 0 start.args.visited.now start.args.layouts.now start.args.fewest.now start.args.buffer.now) start.requires.0.inside refl start.requires.0.kinds.least_height start.requires.0.kinds.least_width start.requires.1 c.if-visited-limit.false (omega (arith, c.first_of_last_row.ensures, c.if-v-first_of_last_row.false)) c.loop-m.m c.loop-m-test.true _ _ _ _ _ _ _ _ refl c.attempt-outcome.ensures c.loop-m.invariant.1 c.if-outcome-ne0.true
-
-pub backtrack-overflow_add-m : goal.backtrack-overflow_add-m
-backtrack-overflow_add-m t c = omega (arith, c.loop-m-test.true)
-
-pub backtrack-loop-m-smaller : goal.backtrack-loop-m-smaller
-backtrack-loop-m-smaller t c = omega (arith, c.loop-m-test.true)
+    (stops_at (grid_in start.args.kind.now) start.args.limit start.args.v start.args.board.now (reached start.args.kind.now 0 start.args.visited.now start.args.layouts.now start.args.fewest.now start.args.buffer.now) start.requires.0.inside refl start.requires.0.kinds.least_height start.requires.0.kinds.least_width start.requires.1 c.if-visited-limit.false (omega (arith, c.first_of_last_row.ensures, c.if-v-first_of_last_row.false)) c.loop-m.m c.loop-m-test.true _ _ _ _ _ _ _ _ c.loop-m.invariant.1 c.attempt-outcome.ensures.0 c.loop-m.invariant.0 c.if-outcome-ne0.true, c.attempt-outcome.ensures.1 ∙ c.loop-m.invariant.1)
 
 pub backtrack-loop-m-preserved : goal.backtrack-loop-m-preserved
 backtrack-loop-m-preserved t c =
     let start = c in
     let loop-test-taken = c.loop-m-test.true in
-    (omega (arith, loop-test-taken), next_one (grid_in start.args.kind.now) start.args.limit start.args.v (arrays start.args.edges.now start.args.ends.now start.args.log.now start.args.count) (reached start.args.kind.now 0 start.args.visited.now start.args.layouts.now start.args.fewest.now start.args.buffer.now) start.requires.0.inside refl start.requires.0.kinds.least_height start.requires.0.kinds.least_width start.requires.1 c.if-visited-limit.false (omega (arith, c.first_of_last_row.ensures, c.if-v-first_of_last_row.false)) c.loop-m.m (loop-test-taken) _ _ _ _ _ _ _ _ refl c.attempt-outcome.ensures c.loop-m.invariant.1 c.if-outcome-ne0.false)
+    (next_one (grid_in start.args.kind.now) start.args.limit start.args.v start.args.board.now (reached start.args.kind.now 0 start.args.visited.now start.args.layouts.now start.args.fewest.now start.args.buffer.now) start.requires.0.inside refl start.requires.0.kinds.least_height start.requires.0.kinds.least_width start.requires.1 c.if-visited-limit.false (omega (arith, c.first_of_last_row.ensures, c.if-v-first_of_last_row.false)) c.loop-m.m (loop-test-taken) _ _ _ _ _ _ _ _ c.loop-m.invariant.1 c.attempt-outcome.ensures.0 c.loop-m.invariant.0 c.if-outcome-ne0.false, c.attempt-outcome.ensures.1 ∙ c.loop-m.invariant.1)
 
 pub backtrack-shape_of-buffer : goal.backtrack-shape_of-buffer
-backtrack-shape_of-buffer t c = c.loop-m.invariant.1.same_length
+backtrack-shape_of-buffer t c = c.loop-m.invariant.0.same_length
 
 pub backtrack-returns : goal.backtrack-returns
 backtrack-returns t c =
     let start = c in
-    loop_over (grid_in start.args.kind.now) start.args.limit start.args.v (arrays start.args.edges.now start.args.ends.now start.args.log.now start.args.count) (reached start.args.kind.now 0 start.args.visited.now start.args.layouts.now start.args.fewest.now start.args.buffer.now) start.requires.0.inside refl start.requires.0.kinds.least_height start.requires.0.kinds.least_width start.requires.1 c.if-visited-limit.false (omega (arith, c.first_of_last_row.ensures, c.if-v-first_of_last_row.false)) c.loop-m.m c.loop-m.invariant.0 c.loop-m-test.false _ _ c.loop-m.invariant.1
+    (loop_over (grid_in start.args.kind.now) start.args.limit start.args.v start.args.board.now (reached start.args.kind.now 0 start.args.visited.now start.args.layouts.now start.args.fewest.now start.args.buffer.now) start.requires.0.inside refl start.requires.0.kinds.least_height start.requires.0.kinds.least_width start.requires.1 c.if-visited-limit.false (omega (arith, c.first_of_last_row.ensures, c.if-v-first_of_last_row.false)) c.loop-m.m (omega arith) c.loop-m-test.false _ _ c.loop-m.invariant.0, c.loop-m.invariant.1)

@@ -1,7 +1,5 @@
 -- The search over the fresh arrays, from the first pad with its right edge undecided, is the search of the grid; where the flag is set there
 -- is nothing to search. Assumes nothing.
-use lib.ListN.{replicate, length-replicate}
-use lib.IntN.{pos}
 use native.Mathlib.Omega.{arith}
 use Rattle.solver.specs.SolveLaws.{counted_none, scan_fits, begins_there, counted_all}
 use Rattle.solver.proofs.search_from.Goals as goal
@@ -9,24 +7,24 @@ use Rattle.solver.proofs.search_from.Goals as goal
 pub fresh_board-fresh-requires : goal.fresh_board-fresh-requires
 fresh_board-fresh-requires c = c.requires.accepted
 
-pub returns-then-count-ge-FLAGGED : goal.returns-then-count-ge-FLAGGED
-returns-then-count-ge-FLAGGED c = counted_none _ _ _ _ _ c.requires _ _ _ _ c.fresh_board-fresh.ensures (replicate 1440 (pos 0)) (length-replicate 1440 (pos 0)) (omega (arith, c.if-count-ge-FLAGGED.true)) _
+pub returns-then-board-ge-FLAGGED : goal.returns-then-board-ge-FLAGGED
+returns-then-board-ge-FLAGGED c = counted_none _ _ _ _ _ c.requires _ _ _ _ c.fresh_board-fresh.ensures.0 _ c.fresh_board-fresh.ensures.1 (omega (arith, c.if-board-ge-FLAGGED.true)) _
 
 pub first_of_last_row-requires : goal.first_of_last_row-requires
-first_of_last_row-requires c = c.fresh_board-fresh.ensures.kinds
+first_of_last_row-requires c = c.fresh_board-fresh.ensures.0.kinds
 
 pub next_pad-first-requires : goal.next_pad-first-requires
 next_pad-first-requires c = let fresh = c in
-    scan_fits _ _ _ _ _ fresh.requires _ _ _ _ fresh.fresh_board-fresh.ensures (replicate 1440 (pos 0)) (length-replicate 1440 (pos 0)) _ c.first_of_last_row.ensures
+    scan_fits _ _ _ _ _ fresh.requires _ _ _ _ fresh.fresh_board-fresh.ensures.0 _ c.fresh_board-fresh.ensures.1 _ c.first_of_last_row.ensures
 
 pub backtrack-outcome-requires : goal.backtrack-outcome-requires
 backtrack-outcome-requires c = let found = c in
     let fresh = found in
-    begins_there _ _ _ _ _ fresh.requires _ _ _ _ fresh.fresh_board-fresh.ensures _ (length-replicate 1440 (pos 0))
-    found.if-count-ge-FLAGGED.false _ found.first_of_last_row.ensures _ found.next_pad-first.ensures
+    begins_there _ _ _ _ _ fresh.requires _ _ _ _ fresh.fresh_board-fresh.ensures.0 _ c.fresh_board-fresh.ensures.1
+    found.if-board-ge-FLAGGED.false _ found.first_of_last_row.ensures _ found.next_pad-first.ensures
 
 pub returns : goal.returns
 returns c = let found = c in
     let fresh = found in
-    counted_all _ _ _ _ _ fresh.requires _ _ _ _ fresh.fresh_board-fresh.ensures _ (length-replicate 1440 (pos 0))
-    found.if-count-ge-FLAGGED.false _ found.first_of_last_row.ensures _ found.next_pad-first.ensures _ _ _ _ _ _ _ c.backtrack-outcome.ensures
+    counted_all _ _ _ _ _ fresh.requires _ _ _ _ fresh.fresh_board-fresh.ensures.0 _ c.fresh_board-fresh.ensures.1
+    found.if-board-ge-FLAGGED.false _ found.first_of_last_row.ensures _ found.next_pad-first.ensures _ _ _ _ _ _ _ c.backtrack-outcome.ensures.0
