@@ -5,9 +5,12 @@ use Rattle.rules.specs.Grid.{CellInRange, blank_cell, cell_of, Grid, grid_of}
 use Rattle.rules.specs.Drawing.{num, on_left, on_right}
 use Rattle.model.specs.PadTests.{is_blank, is_clue, has_down}
 use Rattle.model.specs.Board.{has_side, barred}
+use Rattle.boardbare.specs.declared.Facts.{Facts}
+use Rattle.boardbare.specs.declared.Side.{Side}
+use Rattle.boardbare.specs.declared.Side.TheVariants.{Left, Right}
 use Rattle.boardview.specs.View.{pick, has_bit, taken_bit, action_entry}
 
--- FILLED: a list of this length, which from `start` up to `size` holds what f says. The loops fill from the last index down to 0.
+-- FILLED: a list of this length, which from `start` up to `size` holds what f says. The kinds are filled from the last index down to 0.
 pub record Filled {A : Type 0} (f : ℕ → A) (rest : A) (long size start : ℕ) (l : List A) : Type 0 where
   pub as_long : length l ≡ long
   pub holds : (i : ℕ) → start ≤ i → i < size → get_or l i rest ≡ f i
@@ -45,6 +48,15 @@ unfoldable pub kind_byte : Bool → Bool → Bool → Bool → Bool → Bool →
 kind_byte clue bar_right bar_left corner_right corner_left taken =
     num clue + 2 * num bar_right + 4 * num bar_left + 8 * num corner_right + 16 * num corner_left + 32 * num taken
 
+-- the same, of the facts that the code has
+unfoldable pub byte_of_facts : Facts → ℕ
+byte_of_facts f = kind_byte f.clue f.bar_right f.bar_left f.corner_right f.corner_left f.taken
+
+-- whether a side is the right one
+abbrev pub is_right : Side → Bool
+is_right Left = false
+is_right Right = true
+
 unfoldable pub is_clue_at : List ℤ → ℕ → Bool
 is_clue_at cells v = is_clue (cell_of (get_or cells v blank_cell))
 
@@ -79,7 +91,11 @@ kind_of g v = kind_byte (is_clue (g.cell v))
 abbrev pub KindsFrom : ℕ → ℕ → List ℤ → ℕ → List ℕ → Type 0
 KindsFrom height width cells start kind = Filled (kind_of (grid_of height width cells)) 0 1024 256 start kind
 
--- the pad check's table, filled from an entry on, behind kinds that are not told yet
+-- a byte of the kinds before any is told, with the pad check's table behind them
+unfoldable pub table_byte : ℕ → ℕ
+table_byte i = pick (ltb i 512) 0 (action_entry (i - 512))
+
+-- the pad check's table from an entry on, behind kinds that are not told yet
 pub record TableFrom (start : ℕ) (kind : List ℕ) : Type 0 where
   pub as_long : length kind ≡ 1024
   pub untold : (v : ℕ) → v < 512 → get_or kind v 0 ≡ 0

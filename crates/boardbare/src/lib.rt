@@ -5,11 +5,12 @@
 ghost use Rattle.std.specs.Prelude.{◌≡◌, true, false, ◌+◌, ◌*◌, ◌≤◌, ◌<◌, length, set};
 ghost use Rattle.rules.specs.Grid.{Size, Accepted, grid_of};
 ghost use Rattle.boardview.specs.View.{bytes_equal, undecided_side, action_code, action_entry};
-ghost use Rattle.boardbare.specs.BareArrays.{right_byte, down_byte, edge_byte, EdgesFrom, end_number_at, EndsFrom, CellsInRange, kind_byte, is_clue_at, is_taken, corner_test, barred_in, barred_below, bar_test, kind_from, TableFrom, AllKinds};
+ghost use Rattle.boardbare.specs.BareArrays.{right_byte, down_byte, edge_byte, EdgesFrom, end_number_at, EndsFrom, CellsInRange, is_right, byte_of_facts, is_clue_at, is_taken, corner_test, barred_in, barred_below, bar_test, kind_from, table_byte, TableFrom, AllKinds};
 ghost use Rattle.boardbare.specs.BareView.{BareBoard};
 
 use boardparts::{BAR_LEFT, BAR_RIGHT, CORNER_LEFT, CORNER_RIGHT, TAKEN};
 use grid::{BLANK, Edge};
+use std::array;
 
 // The bytes of an edge's states, as the edge type names them.
 const UNDECIDED: u8 = Edge::UNDECIDED.0;
@@ -61,31 +62,19 @@ fn bare_edges(height: usize, width: usize) -> [u8; 1024]
     requires { Size height × Size width }
     ensures { EdgesFrom width (height * width) 0 result }
 {
-    let mut edges = [NONE; 1024];
     let pads = height * width;
-    let mut slot = 32 + 2 * pads;
-    while 0 < slot {
-        slot -= 1;
-        edges[slot] = edge_byte(width, pads, slot);
-    }
-    edges
+    array::from_fn(|slot| edge_byte(width, pads, slot))
 }
 
-// The end number of one pad is stored: -v - 2 for a clue of value v, its own index for a blank pad and for a hole.
-fn put_bare_end(ends: &mut [i64; 512], cells: &[i64], v: usize)
+// The end number of a pad: -v - 2 for a clue of value v, its own index for a blank pad and for a hole.
+fn bare_end(cells: &[i64], v: usize) -> i64
     requires { (v < 512) × CellsInRange cells.now }
-    ensures { ends.new ≡ set ends.old v (end_number_at cells.now v) }
+    ensures { result ≡ end_number_at cells.now v }
 {
-    if v >= cells.len() {
-        ends[v] = v as i64;
-        return;
+    match cells.get(v) {
+        Some(&code) if 0 <= code => -code - 2,
+        _ => v as i64,
     }
-    let code = cells[v];
-    if code < 0 {
-        ends[v] = v as i64;
-        return;
-    }
-    ends[v] = -code - 2;
 }
 
 // The ends of all pads.
@@ -93,13 +82,7 @@ pub fn bare_ends(cells: &[i64]) -> [i64; 512]
     requires { CellsInRange cells.now }
     ensures { EndsFrom cells.now 0 result }
 {
-    let mut ends = [0i64; 512];
-    let mut v = 512;
-    while 0 < v {
-        v -= 1;
-        put_bare_end(&mut ends, cells, v);
-    }
-    ends
+    array::from_fn(|v| bare_end(cells, v))
 }
 
 // Whether a pad is a clue: a blank pad and a hole are below 0.
@@ -107,11 +90,7 @@ fn clue_at(cells: &[i64], v: usize) -> bool
     requires { v < length cells.now }
     ensures { result ≡ is_clue_at cells.now v }
 {
-    let code = cells[v];
-    if code < 0 {
-        return false;
-    }
-    true
+    0 <= cells[v]
 }
 
 // Whether a pad is taken: a clue or a hole.
@@ -119,25 +98,26 @@ fn taken_at(cells: &[i64], v: usize) -> bool
     requires { v < length cells.now }
     ensures { result ≡ is_taken cells.now v }
 {
-    let cell = cells[v];
-    if cell == BLANK {
-        return false;
-    }
-    true
+    cells[v] != BLANK
+}
+
+// A side of a pad: that of the edge which makes a corner with the edge downward.
+#[derive(Clone, Copy)]
+pub enum Side {
+    Left,
+    Right,
 }
 
 // Whether a pad has an edge downward and one to that side.
-fn has_corner(width: usize, pads: usize, right: bool, v: usize) -> bool
+fn has_corner(width: usize, pads: usize, side: Side, v: usize) -> bool
     requires { (0 < width) × (width ≤ 16) × (v < 256) }
-    ensures { result ≡ corner_test width pads right v }
+    ensures { result ≡ corner_test width pads (is_right side) v }
 {
-    if v + width >= pads {
-        return false;
-    }
-    if right {
-        return v % width + 1 < width;
-    }
-    0 < v % width
+    let beside = match side {
+        Side::Left => 0 < v % width,
+        Side::Right => v % width + 1 < width,
+    };
+    v + width < pads && beside
 }
 
 // Whether a pad is barred, by its byte.
@@ -146,53 +126,53 @@ fn is_barred(kind: &[u8; 1024], v: usize, corner: u8, bar: u8) -> bool
     ensures { result ≡ barred_in kind.now v corner bar }
 {
     if boardparts::has(kind, v, corner) {
-        return boardparts::has(kind, v, bar);
+        boardparts::has(kind, v, bar)
+    } else {
+        !boardparts::has(kind, v, TAKEN)
     }
-    !boardparts::has(kind, v, TAKEN)
 }
 
 // Whether the pad diagonally below on that side is barred.
-fn is_barred_below(kind: &[u8; 1024], width: usize, right: bool, v: usize) -> bool
+fn is_barred_below(kind: &[u8; 1024], width: usize, side: Side, v: usize) -> bool
     requires { (0 < width) × (width ≤ 16) × (v < 256) }
-    ensures { result ≡ barred_below kind.now width right v }
+    ensures { result ≡ barred_below kind.now width (is_right side) v }
 {
-    if right {
-        return is_barred(kind, v + width + 1, CORNER_RIGHT, BAR_RIGHT);
+    match side {
+        Side::Left => is_barred(kind, v + width - 1, CORNER_LEFT, BAR_LEFT),
+        Side::Right => is_barred(kind, v + width + 1, CORNER_RIGHT, BAR_RIGHT),
     }
-    is_barred(kind, v + width - 1, CORNER_LEFT, BAR_LEFT)
 }
 
 // Whether a pad with a corner on that side is barred there.
-fn has_bar(kind: &[u8; 1024], width: usize, pads: usize, taken: bool, right: bool, v: usize) -> bool
+fn has_bar(kind: &[u8; 1024], width: usize, pads: usize, taken: bool, side: Side, v: usize) -> bool
     requires { (0 < width) × (width ≤ 16) × (v < 256) }
-    ensures { result ≡ bar_test kind.now width pads taken right v }
+    ensures { result ≡ bar_test kind.now width pads taken (is_right side) v }
 {
-    if !has_corner(width, pads, right, v) {
-        return false;
-    }
-    if taken {
-        return false;
-    }
-    is_barred_below(kind, width, right, v)
+    has_corner(width, pads, side, v) && !taken && is_barred_below(kind, width, side, v)
 }
 
-// The byte of six facts.
-fn kind_byte(
+// What the byte of a pad tells.
+#[derive(Clone, Copy)]
+struct Facts {
     clue: bool,
     bar_right: bool,
     bar_left: bool,
     corner_right: bool,
     corner_left: bool,
     taken: bool,
-) -> u8
-    ensures { result ≡ kind_byte clue bar_right bar_left corner_right corner_left taken }
-{
-    boardparts::one_if(clue)
-        + BAR_RIGHT * boardparts::one_if(bar_right)
-        + BAR_LEFT * boardparts::one_if(bar_left)
-        + CORNER_RIGHT * boardparts::one_if(corner_right)
-        + CORNER_LEFT * boardparts::one_if(corner_left)
-        + TAKEN * boardparts::one_if(taken)
+}
+
+impl From<Facts> for u8 {
+    ghost from_gives = { λ facts byte. byte ≡ byte_of_facts facts };
+
+    fn from(facts: Facts) -> u8 {
+        u8::from(facts.clue)
+            + BAR_RIGHT * u8::from(facts.bar_right)
+            + BAR_LEFT * u8::from(facts.bar_left)
+            + CORNER_RIGHT * u8::from(facts.corner_right)
+            + CORNER_LEFT * u8::from(facts.corner_left)
+            + TAKEN * u8::from(facts.taken)
+    }
 }
 
 // The byte of a pad, from the bytes of the pads below it.
@@ -200,24 +180,22 @@ fn pad_kind(kind: &[u8; 1024], width: usize, pads: usize, cells: &[i64], v: usiz
     requires { (0 < width) × (width ≤ 16) × (v < 256) × (v < length cells.now) }
     ensures { result ≡ kind_from kind.now width pads cells.now v }
 {
-    let clue = clue_at(cells, v);
     let taken = taken_at(cells, v);
-    let bar_right = has_bar(kind, width, pads, taken, true, v);
-    let bar_left = has_bar(kind, width, pads, taken, false, v);
-    let corner_right = has_corner(width, pads, true, v);
-    let corner_left = has_corner(width, pads, false, v);
-    kind_byte(clue, bar_right, bar_left, corner_right, corner_left, taken)
+    u8::from(Facts {
+        clue: clue_at(cells, v),
+        bar_right: has_bar(kind, width, pads, taken, Side::Right, v),
+        bar_left: has_bar(kind, width, pads, taken, Side::Left, v),
+        corner_right: has_corner(width, pads, Side::Right, v),
+        corner_left: has_corner(width, pads, Side::Left, v),
+        taken,
+    })
 }
 
 // How many of four bytes are this one.
 fn bytes_equal(left: u8, right: u8, up: u8, down: u8, byte: u8) -> u8
     ensures { (result ≡ bytes_equal left right up down byte) × (result ≤ 4) }
 {
-    let first = boardparts::one_if(left == byte);
-    let second = boardparts::one_if(right == byte);
-    let third = boardparts::one_if(up == byte);
-    let fourth = boardparts::one_if(down == byte);
-    first + second + third + fourth
+    u8::from(left == byte) + u8::from(right == byte) + u8::from(up == byte) + u8::from(down == byte)
 }
 
 // The side of a pad's first undecided edge: 0 left, 1 right, 2 up, 3 down.
@@ -280,17 +258,19 @@ fn action_entry(i: usize) -> u8
     )
 }
 
+// A byte of the kinds before any is told: the pad check's table stands behind them.
+fn table_byte(i: usize) -> u8
+    requires { i < 1024 }
+    ensures { result ≡ table_byte i }
+{
+    if i < 512 { 0 } else { action_entry(i - 512) }
+}
+
 // The pad check's table behind the kinds, which are not told yet.
 fn action_table() -> [u8; 1024]
     ensures { TableFrom 0 result }
 {
-    let mut kind = [0u8; 1024];
-    let mut i = 512;
-    while 0 < i {
-        i -= 1;
-        kind[512 + i] = action_entry(i);
-    }
-    kind
+    array::from_fn(|i| table_byte(i))
 }
 
 // The kinds of all pads, from the last one up, the sizes, and the pad check's table.
@@ -300,9 +280,7 @@ fn all_kinds(height: usize, width: usize, cells: &[i64]) -> [u8; 1024]
 {
     let mut kind = action_table();
     let pads = height * width;
-    let mut v = pads;
-    while 0 < v {
-        v -= 1;
+    for v in (0..pads).rev() {
         kind[v] = pad_kind(&kind, width, pads, cells, v);
     }
     kind[510] = height as u8;

@@ -55,12 +55,10 @@ fn put_row(edges: &[u8; 1024], width: usize, row: usize, buffer: &mut [u8], at: 
 {
     let side = 2 * width - 1;
     let mut lines: usize = 0;
-    let mut column = 0;
-    while column < side {
+    for column in 0..side {
         let byte = byte_at(edges, width, row, column);
         buffer[at + column] = byte;
-        lines += boardparts::wide(boardparts::one_if(byte == LINE));
-        column += 1;
+        lines += usize::from(byte == LINE);
     }
     lines
 }
@@ -76,10 +74,8 @@ pub fn put_record(edges: &[u8; 1024], kind: &[u8; 1024], buffer: &mut [u8], at: 
     let rows = 2 * boardparts::height(kind) - 1;
     let side = 2 * width - 1;
     let mut lines: usize = 0;
-    let mut row = 0;
-    while row < rows {
+    for row in 0..rows {
         lines += put_row(edges, width, row, buffer, at + row * side);
-        row += 1;
     }
     lines
 }

@@ -4,26 +4,18 @@ use Prim.Native.Nat.{ℕ, ◌+◌, ◌*◌, ◌%◌, ◌≤◌, ◌<◌}
 use mathlib.Core.Path.{◌≡◌, refl, sym, ap, ◌∙◌}
 use mathlib.Core.Bool.{Bool, true, false, ◌&&◌, ◌||◌, not}
 use mathlib.Core.List.{List}
-use native.Mathlib.Numerals.{add-one}
 use native.Mathlib.Omega.{arith}
 use lib.Dec.{ltb}
 use lib.ListN.{length}
 use borrow.Author.Tests.{le-leb, lt-leb, eq-eqb, ne_eqb}
 use Rattle.rules.specs.Grid.{right, down, Place}
 use Rattle.rules.specs.Record.{byte_of, byte_at_place}
-use Rattle.rules.specs.Tests.{all_below, all_below_at, both_on, not_so, conflict}
+use mathlib.Core.Logic.{◌⊎◌, inl, inr}
+use Rattle.rules.specs.Tests.{all_below}
 use Rattle.grid.specs.PadsAt.{pads_of, edge_beside, edge_above, edge_nowhere, told_place}
 use Rattle.grid.specs.declared.Pads.{Pads}
 use Rattle.grid.specs.declared.Pads.TheVariants.{Beside, Above, NoEdge}
 use Rattle.model.specs.JudgeText.{digit_at, coded, digit_fits, codes_fit, coded_bytes}
-
--- ## A line, if the code has it
-
-pub with_line : (line inside : Bool) {answer : Bool} → answer ≡ line → answer ≡ true → inside ≡ not line || inside
-with_line line inside same so = rw (sym same ∙ so) refl
-
-pub without_line : (line inside : Bool) {answer : Bool} → answer ≡ line → answer ≡ false → true ≡ not line || inside
-without_line line inside same so = rw (sym same ∙ so) refl
 
 -- ## A digit
 
@@ -34,21 +26,18 @@ module _ (height width v : ℕ) (digits : List ℕ) {digit : ℕ} (same : digit 
   abbrev down_fits : Bool
   down_fits = not (coded digits (down v)) || ltb (v + width) (height * width)
 
-  pub too_low : digit < 48 → false ≡ digit_fits height width digits v
+  pub out_of_range : (digit < 48) ⊎ (51 < digit) → false ≡ digit_fits height width digits v
   unfolding digit_fits
-  too_low low = rw (lt-leb 48 (digit_at digits v) (omega arith)) refl
-
-  pub too_high : 48 ≤ digit → 51 < digit → false ≡ digit_fits height width digits v
-  unfolding digit_fits
-  too_high low high = rw (le-leb 48 (digit_at digits v) (omega arith), lt-leb (digit_at digits v) 51 (omega arith)) refl
+  out_of_range (inl low) = rw (lt-leb 48 (digit_at digits v) (omega arith)) refl
+  out_of_range (inr high) = rw (le-leb 48 (digit_at digits v) (omega arith), lt-leb (digit_at digits v) 51 (omega arith)) refl
 
   module _ (low : 48 ≤ digit) (high : digit ≤ 51) where
     in_range : right_fits && down_fits ≡ digit_fits height width digits v
     unfolding digit_fits
     in_range = rw (le-leb 48 (digit_at digits v) (omega arith), le-leb (digit_at digits v) 51 (omega arith)) refl
 
-    pub off_to_the_right : {answer : Bool} → answer ≡ right_fits → answer ≡ false → false ≡ digit_fits height width digits v
-    off_to_the_right says off = ap (λ (t : Bool). t && down_fits) (sym off ∙ says) ∙ in_range
+    pub off_to_the_right : {answer : Bool} → answer ≡ right_fits → answer ≡ false → answer ≡ digit_fits height width digits v
+    off_to_the_right says off = off ∙ ap (λ (t : Bool). t && down_fits) (sym off ∙ says) ∙ in_range
 
     pub by_downward : {answer last : Bool} → answer ≡ right_fits → answer ≡ true → last ≡ down_fits → last ≡ digit_fits height width digits v
     by_downward says on then = then ∙ ap (λ (t : Bool). t && down_fits) (sym on ∙ says) ∙ in_range
@@ -56,27 +45,13 @@ module _ (height width v : ℕ) (digits : List ℕ) {digit : ℕ} (same : digit 
 -- ## All digits
 
 module _ (height width : ℕ) (digits : List ℕ) where
-  abbrev fit : ℕ → Bool
-  fit = digit_fits height width digits
-
   pub other_length : (length digits ≡ height * width → ⊥) → false ≡ codes_fit height width digits
   unfolding codes_fit
   other_length other = rw (ne_eqb (length digits) (height * width) other) refl
 
-  module _ (long : length digits ≡ height * width) where
-    by_all : all_below fit (height * width) ≡ codes_fit height width digits
-    unfolding codes_fit
-    by_all = rw (eq-eqb (length digits) (height * width) long) refl
-
-    pub one_off : (v : ℕ) → v < length digits → {answer : Bool} → answer ≡ fit v → answer ≡ false → false ≡ codes_fit height width digits
-    one_off v below says off = sym (not_so (all_below fit (height * width)) (λ all. conflict (all_below_at fit (height * width) all v (omega arith)) (sym says ∙ off))) ∙ by_all
-
-    pub one_more : (v : ℕ) → all_below fit v ≡ true → {answer : Bool} → answer ≡ fit v → answer ≡ true → all_below fit (v + 1) ≡ true
-    unfolding all_below
-    one_more v so_far says on = ap (all_below fit) (add-one v) ∙ both_on so_far (sym says ∙ on)
-
-    pub all_fit : (v : ℕ) → v ≡ length digits → all_below fit v ≡ true → true ≡ codes_fit height width digits
-    all_fit v end all = sym all ∙ ap (all_below fit) (end ∙ long) ∙ by_all
+  pub by_all : {answer : Bool} → length digits ≡ height * width → answer ≡ all_below (digit_fits height width digits) (length digits) → answer ≡ codes_fit height width digits
+  unfolding codes_fit
+  by_all long says = says ∙ rw (long, eq-eqb (height * width) (height * width) refl) refl
 
 -- ## The byte at a place
 

@@ -1,12 +1,13 @@
 -- Laws of laying out the record: a row byte by byte, the field row by row, and what stands in the array of the record in the end. They rest
 -- on the rules' RecordLaws.antt.
 use Prim.Native.Nat.{ℕ, suc, ◌+◌, ◌*◌, ◌≤◌, ◌<◌}
-use mathlib.Core.Path.{◌≡◌, refl, sym, ap, ◌∙◌}
+use mathlib.Core.Path.{◌≡◌, refl, sym, ap, subst, ◌∙◌}
 use mathlib.Core.Bool.{Bool, true, false}
-use mathlib.Core.List.{List}
+use mathlib.Core.List.{List, []}
 use native.Mathlib.Nat.{add_assoc, zero-add, suc-mul, mul-le-mul_right}
 use native.Mathlib.Omega.{arith}
-use lib.ListN.{set}
+use lib.ListN.{set, length, take}
+use Rattle.std.proofs.Common.{take_at}
 use Rattle.rules.specs.Grid.{place_at, field_side, places}
 use Rattle.rules.specs.Record.{byte_at_place, tabulate, field}
 use Rattle.rules.specs.RecordLaws.{tabulate_parts, field_row, field_rows, length_rows, next_rows, all_rows, length_field}
@@ -15,9 +16,7 @@ use Rattle.model.specs.Bounds.{is_size}
 use Rattle.model.specs.RefusalLaws.{size_of_test}
 use Rattle.model.specs.JudgeText.{record_of_codes, codes_fit, coded_bytes}
 use Rattle.text.specs.Put.{Put}
-use Rattle.text.specs.PutLaws.{put_both, put_one, put_none, put_same, put_next}
-use Rattle.printed.specs.Written.{zeros, Written}
-use Rattle.printed.specs.Filled.{put_written}
+use Rattle.text.specs.PutLaws.{put_both, put_one, put_same, put_next, put_front}
 
 -- ## A row, byte by byte
 
@@ -30,13 +29,11 @@ module _ (width : ℕ) (digits : List ℕ) (row : ℕ) where
   abbrev byte_in_row : ℕ → ℕ
   byte_in_row column = byte_at_place (coded_bytes digits) (place_at width row column)
 
-  pub row_put : {first out : List ℕ} {at column : ℕ} → column ≤ field_side width → field_side width ≤ column → Put first out at (tabulate byte_in_row 0 column) (at + column)
-      → Put first out at (field_row width (coded_bytes digits) row) (at + column)
+  -- a row's bytes are as many as its side is long
+  pub row_put : {first out : List ℕ} {at : ℕ} (column : ℕ) → column ≡ field_side width → Put first out at (tabulate byte_in_row 0 column) (at + column)
+      → Put first out at (field_row width (coded_bytes digits) row) (at + field_side width)
   unfolding field_row
-  row_put {column = column} low high p = put_same (ap (tabulate byte_in_row 0) there) p
-    where
-      there : column ≡ field_side width
-      there = omega arith
+  row_put {first = first} {out = out} {at = at} column there p = subst (λ (n : ℕ). Put first out at (tabulate byte_in_row 0 n) (at + n)) there p
 
 -- ## The field, row by row
 
@@ -64,13 +61,14 @@ module _ (width : ℕ) (digits : List ℕ) where
 -- ## The record of codes
 
 module _ (height width : ℕ) (digits : List ℕ) where
-  pub no_record : {answer : Bool} → answer ≡ codes_fit height width digits → answer ≡ false → Written 961 (record_of_codes height width digits) (zeros 961) 0
+  pub no_record : {answer : Bool} → answer ≡ codes_fit height width digits → answer ≡ false → [] ≡ record_of_codes height width digits
   unfolding record_of_codes codes_fit
-  no_record says off = rw (sym says ∙ off) (put_written 961 (put_none (zeros 961) 0 0 refl) (omega arith))
+  no_record says off = rw (sym says ∙ off) refl
 
-  pub the_record : {answer : Bool} → answer ≡ codes_fit height width digits → answer ≡ true → is_size height ≡ true → is_size width ≡ true → {bytes : List ℕ} {long : ℕ}
-      → Put (zeros 961) bytes 0 (field height width (coded_bytes digits)) long → Written 961 (record_of_codes height width digits) bytes long
-  unfolding record_of_codes codes_fit
-  the_record says on tall wide p =
-      rw (sym says ∙ on)
-      (put_written 961 p (rw (length_field height width (coded_bytes digits)) (few_places height width (size_of_test height tall).1 (size_of_test width wide).1)))
+  module _ (tall : is_size height ≡ true) (wide : is_size width ≡ true) {room out : List ℕ} {long : ℕ} (p : Put room out 0 (field height width (coded_bytes digits)) long) where
+    pub record_fits : long ≤ 961
+    record_fits = rw (put_next p, length_field height width (coded_bytes digits)) (few_places height width (size_of_test height tall).1 (size_of_test width wide).1)
+
+    pub the_record : {answer : Bool} → answer ≡ codes_fit height width digits → answer ≡ true → length room ≡ 961 → take long out ≡ record_of_codes height width digits
+    unfolding record_of_codes codes_fit
+    the_record says on enough = rw (sym says ∙ on) (ap (take long) (put_front p (omega (arith, record_fits, put_next p))) ∙ take_at _ _ long (sym (put_next p)))

@@ -14,7 +14,7 @@ use Rattle.model.specs.GridFile.{Reading, read}
 use Rattle.model.specs.Printed.{refusal_line, reading_text}
 use Rattle.model.specs.Judge.{Judged, judge}
 use Rattle.model.specs.JudgeText.{record_of_codes, judged_line, judged_text}
-use Rattle.printed.specs.Written.{Written, text_of_bytes}
+use Rattle.printed.specs.Written.{Written}
 use Rattle.reading.specs.ReadingLaws.{read_sound}
 
 -- ## The line of a verdict
@@ -46,8 +46,8 @@ module _ (file : List ℕ) (reading : Reading) (same : reading ≡ read file) wh
     wide = test_of_size _ grid.width_in_range
 
     -- the record that is judged is that of the codes
-    pub accepted_text : (digits : List ℕ) {laid : List ℕ} {size : ℕ} → Written 961 (record_of_codes reading.height reading.width digits) laid size
-        → {said : Judged} → said ≡ judge reading.height reading.width (take (reading.height * reading.width) reading.cells) (take size laid)
+    pub accepted_text : (digits : List ℕ) {laid : List ℕ} → laid ≡ record_of_codes reading.height reading.width digits
+        → {said : Judged} → said ≡ judge reading.height reading.width (take (reading.height * reading.width) reading.cells) laid
         → {bytes : List ℕ} {long : ℕ} → Written 67 (judged_line said) bytes long → Written 67 (judged_text digits (read file)) bytes long
     unfolding judged_text reading_text
-    accepted_text digits coded says written = rw (← same, accepts) (rw (says, text_of_bytes coded) at written)
+    accepted_text digits coded says written = rw (← same, accepts) (rw (says, coded) at written)

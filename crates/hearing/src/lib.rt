@@ -30,21 +30,17 @@ const LINE_END: u8 = 10;
 fn digit_at(digits: &[u8], v: usize) -> u8
     ensures { result ≡ digit_at digits.now v }
 {
-    if v < digits.len() {
-        return digits[v];
+    match digits.get(v) {
+        Some(digit) => *digit,
+        None => ZERO,
     }
-    ZERO
 }
 
 // The code of a pad, right + 2 * down.
 fn code_at(digits: &[u8], v: usize) -> u8
     ensures { result ≡ code_at digits.now v }
 {
-    let digit = digit_at(digits, v);
-    if digit < ZERO {
-        return 0;
-    }
-    digit - ZERO
+    digit_at(digits, v).saturating_sub(ZERO)
 }
 
 // Whether the code of a pad has the line to the right.
@@ -61,26 +57,11 @@ fn leads_down(digits: &[u8], v: usize) -> bool
     2 <= code_at(digits, v)
 }
 
-// Whether the line to the right, if the code has it, is not off the board.
-fn right_fits(width: usize, digits: &[u8], v: usize) -> bool
-    requires { (is_size width ≡ true) × (v < 256) }
-    ensures { result ≡ (not (coded digits.now (right v)) || ltb (v % width + 1) width) }
+// A line may be coded only where there is an edge.
+fn fits(line: bool, there: bool) -> bool
+    ensures { result ≡ (not line || there) }
 {
-    if leads_right(digits, v) {
-        return v % width + 1 < width;
-    }
-    true
-}
-
-// The same of the line downward.
-fn down_fits(height: usize, width: usize, digits: &[u8], v: usize) -> bool
-    requires { (is_size height ≡ true) × (is_size width ≡ true) × (v < 256) }
-    ensures { result ≡ (not (coded digits.now (down v)) || ltb (v + width) (height * width)) }
-{
-    if leads_down(digits, v) {
-        return v + width < height * width;
-    }
-    true
+    !line || there
 }
 
 // Whether the digit of a pad fits: 0 to 3, with no line off the board.
@@ -89,16 +70,11 @@ fn digit_fits(height: usize, width: usize, digits: &[u8], v: usize) -> bool
     ensures { result ≡ digit_fits height width digits.now v }
 {
     let digit = digit_at(digits, v);
-    if digit < ZERO {
+    if digit < ZERO || THREE < digit {
         return false;
     }
-    if THREE < digit {
-        return false;
-    }
-    if !right_fits(width, digits, v) {
-        return false;
-    }
-    down_fits(height, width, digits, v)
+    fits(leads_right(digits, v), v % width + 1 < width)
+        && fits(leads_down(digits, v), v + width < height * width)
 }
 
 // Whether there is one digit for each pad, and each fits.
@@ -106,27 +82,15 @@ fn codes_fit(height: usize, width: usize, digits: &[u8]) -> bool
     requires { (is_size height ≡ true) × (is_size width ≡ true) }
     ensures { result ≡ codes_fit height width digits.now }
 {
-    if digits.len() != height * width {
-        return false;
-    }
-    let mut v = 0;
-    while v < digits.len() {
-        if !digit_fits(height, width, digits, v) {
-            return false;
-        }
-        v += 1;
-    }
-    true
+    digits.len() == height * width
+        && (0..digits.len()).all(|v| digit_fits(height, width, digits, v))
 }
 
 // The byte of an edge that is a line, or none.
 fn byte_of(line: bool) -> u8
     ensures { result ≡ byte_of line }
 {
-    if line {
-        return Edge::LINE.0;
-    }
-    Edge::NONE.0
+    if line { Edge::LINE.0 } else { Edge::NONE.0 }
 }
 
 // The byte at a place of the record; a place that is no edge holds undecided.
@@ -147,12 +111,10 @@ fn put_row(out: &mut [u8], at: usize, digits: &[u8], width: usize, row: usize) -
     ensures { Put out.old out.new at (field_row width (coded_bytes digits.now) row) result }
 {
     let side = 2 * width - 1;
-    let mut column = 0;
-    while column < side {
+    for column in 0..side {
         out[at + column] = byte_at(digits, width, row, column);
-        column += 1;
     }
-    at + column
+    at + side
 }
 
 // Puts the record, row by row; its length.
@@ -162,32 +124,28 @@ fn put_record(out: &mut [u8], digits: &[u8], height: usize, width: usize) -> usi
 {
     let rows = 2 * height - 1;
     let mut at = 0;
-    let mut row = 0;
-    while row < rows {
+    for row in 0..rows {
         at = put_row(out, at, digits, width, row);
-        row += 1;
     }
     at
 }
 
-// A record of edge bytes, as long as the field of the largest grid has places; its length is 0 where the codes do not fit.
-#[derive(Drop)]
-struct CodedRecord {
-    bytes: [u8; 961],
-    length: usize,
-}
-
-// The record of codes.
-fn record_of_codes(height: usize, width: usize, digits: &[u8]) -> CodedRecord
+// The record of codes, laid out in the lent bytes, which are as many as the field of the largest grid has places; it is empty where the codes
+// do not fit.
+fn record_of_codes<'a>(
+    out: &'a mut [u8; 961],
+    height: usize,
+    width: usize,
+    digits: &[u8],
+) -> &'a [u8]
     requires { (is_size height ≡ true) × (is_size width ≡ true) }
-    ensures { Written 961 (record_of_codes height width digits.now) result.bytes result.length }
+    ensures { result.now ≡ record_of_codes height width digits.now }
 {
-    let mut bytes = [0; 961];
     if !codes_fit(height, width, digits) {
-        return CodedRecord { bytes, length: 0 };
+        return &out[..0];
     }
-    let length = put_record(&mut bytes, digits, height, width);
-    CodedRecord { bytes, length }
+    let length = put_record(out, digits, height, width);
+    &out[..length]
 }
 
 // The verdict and the lines.
@@ -214,10 +172,9 @@ pub fn judged(file: &[u8], digits: &[u8]) -> HeadLine
     let height = reading.height;
     let width = reading.width;
     let pads = height * width;
-    let laid = record_of_codes(height, width, digits);
-    let bytes = laid.bytes;
-    let length = laid.length;
-    judged_line(judging::judge(height, width, &cells[..pads], &bytes[..length]))
+    let mut room = [0; 961];
+    let record = record_of_codes(&mut room, height, width, digits);
+    judged_line(judging::judge(height, width, &cells[..pads], record))
 }
 
 // The line that says how the program is called.

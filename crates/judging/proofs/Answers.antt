@@ -15,12 +15,6 @@ use Rattle.judging.specs.Judging.{answer}
 
 -- A VERDICT WITH THE LINES
 module _ (said lines : ℕ) where
-  pub no_lines : said ≡ 0 → record { number = 0; index = 0; verdict = 0; lines = 0 } ≡ answer said lines
-  no_lines h = rw h refl
-
-  pub with_lines : (said ≡ 0 → ⊥) → record { number = 0; index = 0; verdict = said; lines = lines } ≡ answer said lines
-  with_lines h = rw (ne_eqb said 0 h) refl
-
   pub no_layout : {r : model.Judged} → r ≡ answer 0 0 → 0 ≡ said → r ≡ answer said lines
   no_layout is h = is ∙ ap (λ n. answer n lines) h
 

@@ -13,12 +13,15 @@ use lib.ListN.{get_or}
 use lib.IntN.{ℤ}
 use borrow.Author.Tests.{lt-ltb, le-ltb, ltb-true, le-leb, not-true, not-false}
 use Rattle.rules.specs.Grid.{pad_index, blank, Grid}
-use Rattle.rules.specs.Drawing.{Drawing, num, Side, on_left, on_right}
+use Rattle.rules.specs.Drawing.{Drawing, Side, on_left, on_right}
 use Rattle.rules.specs.Record.{undecided_byte, line_byte, drawing_of}
 use Rattle.rules.specs.Tests.{both, both_off, conflict}
 use Rattle.rules.proofs.Places.{row_of_pad, column_of_pad}
 use Rattle.rules.specs.CheckedListed.{has_corner, diagonal}
-use Rattle.judging.specs.Shape.{InColumn, taken_at, lines_around, square_keeps, corner_keeps}
+use Rattle.boardbare.specs.declared.Side.{Side as CodeSide}
+use Rattle.boardbare.specs.declared.Side.TheVariants.{Left, Right}
+use mathlib.Core.Logic.{◌⊎◌, inl, inr}
+use Rattle.judging.specs.Shape.{InColumn, side_of, taken_at, line_beside, lines_around, square_keeps, corner_keeps}
 
 module _ (width y x : ℕ) (here : InColumn width y x) where
   -- a grid of this width
@@ -38,28 +41,8 @@ module _ (width y x : ℕ) (here : InColumn width y x) where
   pub few_before_down : (2 * y + 1) * (2 * width - 1) ≤ 33 * 31
   few_before_down = mul-le-mul {n₂ = 33} {m₂ = 31} (omega (arith, here.low)) (omega (arith, here.narrow))
 
-  pub few_below : (y + 1) * width ≤ 17 * 16
-  few_below = mul-le-mul {n₂ = 17} {m₂ = 16} (omega (arith, here.low)) here.narrow
-
   next_row : (y + 1) * width ≡ y * width + width
   next_row = ap (λ (n : ℕ). n * width) (add-one y) ∙ suc-mul y width
-
-  -- THE PADS DIAGONALLY BELOW, as indexes and as pads
-  pub right_diagonal : (y + 1) * width + x + 1 ≡ diagonal on_right width (pad_index width y x)
-  unfolding diagonal
-  right_diagonal = omega (arith, next_row)
-
-  pub right_diagonal_pad : pad_index width (y + 1) (x + 1) ≡ diagonal on_right width (pad_index width y x)
-  unfolding diagonal
-  right_diagonal_pad = omega (arith, next_row)
-
-  pub left_diagonal : 0 < x → (y + 1) * width + x - 1 ≡ diagonal on_left width (pad_index width y x)
-  unfolding diagonal
-  left_diagonal some = omega (arith, next_row)
-
-  pub left_diagonal_pad : 0 < x → pad_index width (y + 1) (x - 1) ≡ diagonal on_left width (pad_index width y x)
-  unfolding diagonal
-  left_diagonal_pad some = omega (arith, next_row)
 
   -- THE TWO EDGES of the pad
   module _ (bytes : List ℕ) where
@@ -90,20 +73,22 @@ module _ (width y x : ℕ) (here : InColumn width y x) (bytes : List ℕ) where
   abbrev pad : ℕ
   pad = pad_index width y x
 
-  -- to the right
-  module _ {beside : Bool} (is : beside ≡ drawing.right pad) where
-    pub right_corner_if : {below : Bool} → below ≡ drawing.down pad → beside ≡ true → below ≡ has_corner on_right drawing pad
-    unfolding has_corner
-    right_corner_if down h = rw (← is, h) down
+  -- the corner is the line beside and the one downward
+  corner_parts : (side : Side) → has_corner side drawing pad ≡ line_beside side drawing pad && drawing.down pad
+  unfolding has_corner line_beside
+  corner_parts on_left = refl
+  corner_parts on_right = refl
 
-    pub no_right_corner : beside ≡ false → beside ≡ has_corner on_right drawing pad
-    unfolding has_corner
-    no_right_corner h = rw (← is, h) refl
+  module _ (side : Side) {beside : Bool} (is : beside ≡ line_beside side drawing pad) where
+    pub corner_if : {below : Bool} → below ≡ drawing.down pad → beside ≡ true → below ≡ has_corner side drawing pad
+    corner_if down h = down ∙ rw (corner_parts side, ← is, h) refl
 
-  -- a pad with the corner is not the last of its row
-  pub right_corner_inside : {r : Bool} → r ≡ has_corner on_right drawing pad → not r ≡ false → x + 1 < width
-  unfolding has_corner
-  right_corner_inside {r} is h = right_inside width y x here bytes (both (drawing.right pad) (drawing.down pad) (sym is ∙ not-false r h)).0
+    pub no_corner : beside ≡ false → beside ≡ has_corner side drawing pad
+    no_corner h = h ∙ rw (corner_parts side, ← is, h) refl
+
+  pub beside_on_right : {beside : Bool} → beside ≡ drawing.right pad → beside ≡ line_beside on_right drawing pad
+  unfolding line_beside
+  beside_on_right is = is
 
   -- to the left: the pad before a row's first one is the last of its row, and has no edge to the right
   no_left_edge : x ≡ 0 → (leb 1 pad && drawing.right (pad - 1)) ≡ false
@@ -116,28 +101,45 @@ module _ (width y x : ℕ) (here : InColumn width y x) (bytes : List ℕ) where
           let before : pad - 1 ≡ pad_index width row (width - 1) = rw (e, first) (omega (arith, suc-mul row width, here.wide)) in
           rw before (both_off (leb 1 pad) (drawing.right (pad_index width row (width - 1))) (right_off width row (width - 1) last bytes (omega (arith, here.wide))))
 
-  pub no_left_corner_first : x ≡ 0 → false ≡ has_corner on_left drawing pad
-  unfolding has_corner
-  no_left_corner_first first = rw (no_left_edge first) refl
+  pub none_on_left : x ≡ 0 → false ≡ line_beside on_left drawing pad
+  unfolding line_beside
+  none_on_left first = sym (no_left_edge first)
 
-  -- a pad with the corner is not the first of its row
-  pub left_corner_inside : {r : Bool} → r ≡ has_corner on_left drawing pad → not r ≡ false → 0 < x
-  left_corner_inside {r} is h = elim (ℕ_discrete x 0) [
-    | yes first ↦ conflict (sym is ∙ not-false r h) (sym (no_left_corner_first first))
-    | no other ↦ omega arith
-  ]
+  pub beside_on_left : 0 < x → {beside : Bool} → beside ≡ drawing.right (pad_index width y (x - 1)) → beside ≡ line_beside on_left drawing pad
+  unfolding line_beside
+  beside_on_left some is = let before : pad - 1 ≡ pad_index width y (x - 1) = omega arith in rw (le-leb 1 pad (omega arith), before) is
 
-  module _ (some : x ≡ 0 → ⊥) {beside : Bool} (is : beside ≡ drawing.right (pad_index width y (x - 1))) where
-    left_edge : (leb 1 pad && drawing.right (pad - 1)) ≡ beside
-    left_edge = let before : pad - 1 ≡ pad_index width y (x - 1) = omega arith in rw (le-leb 1 pad (omega arith), before) (sym is)
-
-    pub left_corner_if : {below : Bool} → below ≡ drawing.down pad → beside ≡ true → below ≡ has_corner on_left drawing pad
+  -- A PAD WITH THE CORNER has one diagonally below, in the row below: it is not the last of its row, nor the first
+  module _ {r : Bool} where
+    pub column_on_right : r ≡ has_corner on_right drawing pad → not r ≡ false → x + 1 < width
     unfolding has_corner
-    left_corner_if down h = rw (left_edge, h) down
+    column_on_right is h = right_inside width y x here bytes (both (drawing.right pad) (drawing.down pad) (sym is ∙ not-false r h)).0
 
-    pub no_left_corner : beside ≡ false → beside ≡ has_corner on_left drawing pad
+    pub column_on_left : r ≡ has_corner on_left drawing pad → not r ≡ false → 0 < x
     unfolding has_corner
-    no_left_corner h = rw (left_edge, h) refl
+    column_on_left is h = elim (ℕ_discrete x 0) [
+      | yes first ↦ conflict (sym is ∙ not-false r h) (rw (no_left_edge first) refl)
+      | no other ↦ omega arith
+    ]
+
+  -- that pad, by its column
+  pub record Below (side : Side) (column : ℕ) : Type 0 where
+    pub inside : column < width
+    pub is_diagonal : pad_index width (y + 1) column ≡ diagonal side width pad
+
+  pub below_on_right : {column : ℕ} → x + 1 < width → column ≡ x + 1 → Below on_right column
+  unfolding diagonal
+  below_on_right last e = record { inside = omega arith; is_diagonal = omega (arith, next_row width y x here) }
+
+  pub below_on_left : {column : ℕ} → 0 < x → column ≡ x - 1 → Below on_left column
+  unfolding diagonal
+  below_on_left some e = record { inside = omega (arith, here.inside); is_diagonal = omega (arith, next_row width y x here) }
+
+  -- by the side and the column that the code takes
+  pub below_there : (side : CodeSide) {column : ℕ} {r : Bool} → r ≡ has_corner (side_of side) drawing pad → not r ≡ false → ((side ≡ Left) × (column ≡ x - 1)) ⊎ ((side ≡ Right) × (column ≡ x + 1))
+      → Below (side_of side) column
+  below_there side is h (inl (e, at)) = rw e (below_on_left (column_on_left (rw e at is) h) at)
+  below_there side is h (inr (e, at)) = rw e (below_on_right (column_on_right (rw e at is) h) at)
 
 -- THE CORNER RULE, on either side
 module _ (side : Side) (width : ℕ) (cells : List ℤ) (D : Drawing) (v : ℕ) {corner : Bool} (is : corner ≡ has_corner side D v) where
@@ -156,20 +158,6 @@ module _ (side : Side) (width : ℕ) (cells : List ℤ) (D : Drawing) (v : ℕ) 
 
 -- UNIT SQUARES
 module _ (width y x : ℕ) (here : InColumn width y x) where
-  pub next_pad : pad_index width y (x + 1) ≡ pad_index width y x + 1
-  next_pad = omega arith
-
-  pub pad_below : pad_index width (y + 1) x ≡ pad_index width y x + width
-  pad_below = omega (arith, next_row width y x here)
-
-  -- the four lines are counted one by one
-  pub lines_counted : (D : Drawing) {a b c d : Bool} → a ≡ D.right (pad_index width y x) → b ≡ D.down (pad_index width y x) → c ≡ D.down (pad_index width y (x + 1)) → d ≡ D.right (pad_index width (y + 1) x)
-      → {k l m n total : ℕ} → k ≡ num a → l ≡ num b → m ≡ num c → n ≡ num d → total ≡ k + l + m + n → total ≡ lines_around width D (pad_index width y x)
-  lines_counted D above left right under ka lb mc nd sum =
-      let right' = right ∙ ap D.down next_pad in
-      let under' = under ∙ ap D.right pad_below in
-      sum ∙ ((λ i. ka i + lb i + mc i + nd i) ∙ (λ i. num (above i) + num (left i) + num (right' i) + num (under' i)))
-
   module _ (height : ℕ) (D : Drawing) where
     pub last_column_keeps : width ≤ x + 1 → true ≡ square_keeps height width D (pad_index width y x)
     unfolding square_keeps

@@ -1,41 +1,20 @@
--- Laws of a test of every number below a bound: the loop that stops where it fails, three tests in one, the pads row by row; and that the
--- shape of a listed drawing is such a test. They rest on the rules' Tests.antt and CheckedListed.antt.
-use Prim.Native.Nat.{ℕ, suc, ◌+◌, ◌*◌, ◌/◌, ◌%◌, ◌≤◌, ◌<◌}
+-- Laws of a test of every number below a bound: three tests in one, the pads row by row; and that the shape of a listed drawing is such a
+-- test. They rest on Every.antt and on the rules' Tests.antt and CheckedListed.antt.
+use Prim.Native.Nat.{ℕ, suc, ◌*◌, ◌/◌, ◌%◌, ◌≤◌, ◌<◌}
 use mathlib.Core.Path.{◌≡◌, refl, sym, ap, ◌∙◌}
-use mathlib.Core.Bool.{Bool, true, false, not, ◌&&◌}
+use mathlib.Core.Bool.{Bool, true, false, ◌&&◌}
 use mathlib.Core.List.{List}
 use native.Mathlib.Omega.{arith}
-use native.Mathlib.Numerals.{add-one}
 use native.Mathlib.Nat.{mod-lt, div-add-mod', div-lt_iff_lt-mul, mul-le-mul_right, suc-mul}
 use lib.IntN.{ℤ}
-use borrow.Author.Tests.{not-true, not-false}
 use Rattle.rules.specs.Grid.{pad_index, grid_of}
 use Rattle.rules.specs.Drawing.{Drawing, on_left, on_right}
 use Rattle.rules.specs.Record.{drawing_of}
-use Rattle.rules.specs.Tests.{both, both_on, conflict, not_so, all_below, all_below_at, all_below_so}
+use Rattle.rules.specs.Tests.{both, both_on, all_below, all_below_at, all_below_so}
 use Rattle.rules.specs.CheckedListed.{squares_checked, corners_checked}
 use Rattle.model.specs.Judge.{has_listed_shape}
+use Rattle.judging.specs.Every.{same_truth}
 use Rattle.judging.specs.Shape.{taken_at, square_keeps, corner_keeps, pad_keeps}
-
--- THE LOOP
-module _ (test : ℕ → Bool) where
-  pub none_tested : all_below test 0 ≡ true
-  unfolding all_below
-  none_tested = refl
-
-  module _ (i : ℕ) {r : Bool} (is : r ≡ test i) where
-    pub fails : (n : ℕ) → i < n → not r ≡ true → false ≡ all_below test n
-    fails n inside h = sym (not_so (all_below test n) (λ all. conflict (all_below_at test n all i inside) (sym is ∙ not-true r h)))
-
-    pub passes : all_below test i ≡ true → not r ≡ false → all_below test (i + 1) ≡ true
-    unfolding all_below
-    passes all h = rw (add-one i) (both_on all (sym is ∙ not-false r h))
-
--- two tests that follow from each other are one
-same_truth : (a b : Bool) → (a ≡ true → b ≡ true) → (b ≡ true → a ≡ true) → a ≡ b
-same_truth true b to from = sym (to refl)
-same_truth false true to from = from refl
-same_truth false false to from = refl
 
 -- three tests in one
 three_tests : (f g k : ℕ → Bool) (n : ℕ) → all_below f n && (all_below g n && all_below k n) ≡ all_below (λ v. f v && (g v && k v)) n
@@ -72,17 +51,25 @@ pub shape_by_rows : (height width : ℕ) (cells : List ℤ) (bytes : List ℕ) �
 unfolding has_listed_shape squares_checked corners_checked grid_of pad_keeps square_keeps corner_keeps taken_at
 shape_by_rows height width cells bytes some = by_rows (pad_keeps height width cells (drawing_of width bytes)) height width some ∙ sym (three_tests _ _ _ (height * width))
 
+-- two tests, one after the other
+pub both_decide : (s t : Bool) {first two : Bool} → first ≡ s → first ≡ true → two ≡ t → two ≡ s && t
+both_decide s t is h e = e ∙ rw (sym is ∙ h) refl
+
+pub first_fails : (s t : Bool) {first two : Bool} → first ≡ s → first ≡ false → two ≡ first → two ≡ s && t
+first_fails s t is h e = e ∙ h ∙ rw (sym is ∙ h) refl
+
 -- the three tests of a pad, one after the other
-module _ (height width : ℕ) (cells : List ℤ) (D : Drawing) (v : ℕ) {square : Bool} (s : square ≡ square_keeps height width D v) where
-  pub square_fails : not square ≡ true → false ≡ pad_keeps height width cells D v
+module _ (height width : ℕ) (cells : List ℤ) (D : Drawing) (v : ℕ) {two : Bool} (is : two ≡ square_keeps height width D v && corner_keeps on_left width cells D v) where
+  pub one_fails : two ≡ false → two ≡ pad_keeps height width cells D v
   unfolding pad_keeps
-  square_fails h = rw (← s, not-true square h) refl
+  one_fails h = h ∙ go (square_keeps height width D v) (sym is ∙ h)
+    where
+      go : (s : Bool) → s && corner_keeps on_left width cells D v ≡ false → false ≡ s && (corner_keeps on_left width cells D v && corner_keeps on_right width cells D v)
+      go true h = rw h refl
+      go false h = refl
 
-  module _ (ok : not square ≡ false) {left : Bool} (l : left ≡ corner_keeps on_left width cells D v) where
-    pub left_fails : left ≡ false → left ≡ pad_keeps height width cells D v
-    unfolding pad_keeps
-    left_fails h = rw (← s, not-false square ok, ← l, h) refl
-
-    pub right_decides : left ≡ true → {right : Bool} → right ≡ corner_keeps on_right width cells D v → right ≡ pad_keeps height width cells D v
-    unfolding pad_keeps
-    right_decides h r = rw (← s, not-false square ok, ← l, h) r
+  pub third_decides : two ≡ true → {right : Bool} → right ≡ corner_keeps on_right width cells D v → right ≡ pad_keeps height width cells D v
+  unfolding pad_keeps
+  third_decides h r =
+      let (s, l) = both (square_keeps height width D v) _ (sym is ∙ h) in
+      r ∙ rw (s, l) refl

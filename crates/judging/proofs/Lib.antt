@@ -4,6 +4,5 @@ mod Stretches
 mod Cells
 mod Drawn
 mod EveryPad
-mod Marks
 mod Ordinary
 mod Answers

@@ -9,7 +9,7 @@ use lib.ListN.{get_or, length}
 use lib.Seq.{take_all}
 use lib.IntN.{ℤ}
 use borrow.Author.Tests.{eq-eqb, ne_eqb}
-use Rattle.rules.specs.Grid.{Cell, blank, clue, hole, pad_index, places, cell_of, blank_cell, Grid, grid_of, Accepted}
+use Rattle.rules.specs.Grid.{Cell, blank, clue, hole, places, cell_of, blank_cell, Grid, grid_of, Accepted}
 use Rattle.rules.specs.Record.{record_lines}
 use Rattle.rules.specs.Places.{few_places, zero≢one}
 use Rattle.rules.specs.Tests.{all_below}
@@ -19,11 +19,10 @@ use Rattle.boardview.specs.View.{end_at}
 use Rattle.boardbare.specs.BareArrays.{EndsFrom}
 use Rattle.boardbare.specs.EdgeBytes.{few_pads}
 use Rattle.boardbare.proofs.BareView.{bare_end_at}
-use Rattle.judging.specs.declared.Followed.{Followed}
-use Rattle.judging.specs.declared.Followed.TheVariants.{Wrong, Lines}
+use Rattle.std.specs.Prelude.{Option, IfSome, is_some}
+use Rattle.std.proofs.Common.{Some, None}
 use Rattle.judging.specs.Judging.{mark}
-use Rattle.judging.specs.Following.{told, InUse, is_right, Tells, FollowedOn, finished_at}
-use Rattle.judging.proofs.EveryPad.{pad_inside}
+use Rattle.judging.specs.Following.{told, InUse, lines_in, FollowedOn, finished_at}
 
 module _ (height width : ℕ) (cells : List ℤ) (ok : Accepted height width cells) where
   abbrev the_grid : Grid
@@ -34,9 +33,6 @@ module _ (height width : ℕ) (cells : List ℤ) (ok : Accepted height width cel
 
   pub few_cells : length cells ≤ 256
   few_cells = rw ok.one_cell_a_pad (few_pads height width ok.height_in_range ok.width_in_range)
-
-  pub pad_in_cells : (y x : ℕ) → y < height → x < width → pad_index width y x < length cells
-  pad_in_cells y x low inside = rw ok.one_cell_a_pad (pad_inside height width y x low inside)
 
   -- THE BARE ENDS
   module _ (bare : List ℤ) (filled : EndsFrom cells 0 bare) where
@@ -56,22 +52,22 @@ module _ (height width : ℕ) (cells : List ℤ) (ok : Accepted height width cel
     begun bytes = λ i. so_far (λ v. sym (shown v) i)
 
     -- THE RECORD, followed to its end
-    module _ (bytes : List ℕ) (long : length bytes ≡ (2 * height - 1) * (2 * width - 1)) {r : Followed} {ends : List ℤ} (so : FollowedOn width bytes 0 (places height width) bare r ends) where
-      at_the_end : followed the_grid bytes (places height width) ≡ told (is_right r) ends
+    module _ (bytes : List ℕ) (long : length bytes ≡ (2 * height - 1) * (2 * width - 1)) {r : Option ℕ} {ends : List ℤ} (so : FollowedOn width bytes 0 (places height width) bare r ends) where
+      at_the_end : followed the_grid bytes (places height width) ≡ told (is_some r) ends
       unfolding grid_of
       at_the_end = so.says the_grid refl (begun bytes)
 
-      pub not_followed : r ≡ Wrong → 0 ≡ verdict the_grid bytes
+      pub not_followed : r ≡ None → 0 ≡ verdict the_grid bytes
       unfolding verdict is_ordinary_record grid_of
       not_followed h = rw (eq-eqb (length bytes) (places height width) long, at_the_end, h) refl
 
-      module _ {lines : ℕ} (right : r ≡ Lines lines) where
+      module _ {lines : ℕ} (right : r ≡ Some lines) where
         pub by_the_pads : mark (all_below (finished_at cells ends) (height * width)) (has_listed_shape the_grid bytes) ≡ verdict the_grid bytes
         unfolding verdict is_ordinary_record grid_of finished_at
         by_the_pads = rw (eq-eqb (length bytes) (places height width) long, at_the_end, right) refl
 
         pub all_lines : lines ≡ record_lines bytes
-        all_lines = subst (Tells bytes (places height width)) right so.tells ∙ ap record_lines (take_all (places height width) bytes (omega (arith, long)))
+        all_lines = subst (λ (o : Option ℕ). IfSome o (λ n. n ≡ lines_in bytes (places height width))) right so.tells ∙ ap record_lines (take_all (places height width) bytes (omega (arith, long)))
 
   -- a record of another length
   pub wrong_length : (bytes : List ℕ) → (length bytes ≡ (2 * height - 1) * (2 * width - 1) → ⊥) → 0 ≡ verdict the_grid bytes

@@ -21,8 +21,8 @@ use Rattle.rules.specs.RecordLaws.{row_of_number, column_of_number}
 use Rattle.model.specs.JoinedEnds.{End}
 use Rattle.model.specs.Judge.{wrong, so_far, after_place, followed}
 use Rattle.boardview.specs.View.{end_at}
-use Rattle.judging.specs.declared.Followed.{Followed}
-use Rattle.judging.specs.declared.Followed.TheVariants.{Wrong, Lines}
+use Rattle.std.specs.Prelude.{Option}
+use Rattle.std.proofs.Common.{Some, None}
 use Rattle.judging.specs.Following.{told, InUse, Stepped, lines_in, FollowedOn}
 
 -- one place more
@@ -76,14 +76,14 @@ few_lines bytes n h counted = let all : lines_in bytes n ≤ length (take n byte
 module _ (width : ℕ) (bytes : List ℕ) where
   -- no place of a row, and no row of the field
   pub no_place : (row : ℕ) {lines : ℕ} {ends : List ℤ} → InUse ends → lines ≡ lines_in bytes (row * field_side width)
-      → FollowedOn width bytes (row * field_side width) (row * field_side width + 0) ends (Lines lines) ends
+      → FollowedOn width bytes (row * field_side width) (row * field_side width + 0) ends (Some lines) ends
   no_place row good counted = record {
     says = λ g w h. ap (followed g bytes) (add-zero (row * field_side width)) ∙ h;
     in_use = good;
     tells = counted ∙ ap (lines_in bytes) (sym (add-zero (row * field_side width)));
   }
 
-  pub no_row : {ends : List ℤ} → InUse ends → FollowedOn width bytes 0 (0 * field_side width) ends (Lines 0) ends
+  pub no_row : {ends : List ℤ} → InUse ends → FollowedOn width bytes 0 (0 * field_side width) ends (Some 0) ends
   unfolding record_lines
   no_row good = record {
     says = λ g w h. ap (followed g bytes) (zero-mul (field_side width)) ∙ h;
@@ -93,12 +93,12 @@ module _ (width : ℕ) (bytes : List ℕ) where
 
   -- a place, and with it the row: it is wrong, or there is one place more
   module _ {from lines : ℕ} {before mid after : List ℤ} {r : Bool} (row column : ℕ) (inside : column < field_side width)
-      (so : FollowedOn width bytes from (row * field_side width + column) before (Lines lines) mid)
+      (so : FollowedOn width bytes from (row * field_side width + column) before (Some lines) mid)
       (stepped : Stepped (after_place width (place_at width row column) (get_or bytes (row * field_side width + column) undecided_byte)) mid r after) where
     place_says : (g : Grid) → g.width ≡ width → followed g bytes from ≡ told true before → followed g bytes (suc (row * field_side width + column)) ≡ told r after
     place_says g w h = subst (NextPlace g bytes row column) w (next_place g bytes row column) inside (λ v. end_at mid v) (so.says g w h) ∙ sym stepped.says
 
-    pub place_wrong : not r ≡ true → FollowedOn width bytes from (row * field_side width + field_side width) before Wrong after
+    pub place_wrong : not r ≡ true → FollowedOn width bytes from (row * field_side width + field_side width) before None after
     place_wrong h = record {
       says = λ g w k. still_wrong g bytes _ (row * field_side width + field_side width) (omega arith) (place_says g w k ∙ ap (λ b. told b after) (not-true r h));
       in_use = stepped.in_use;
@@ -107,7 +107,7 @@ module _ (width : ℕ) (bytes : List ℕ) where
 
     pub place_right : not r ≡ false → row * field_side width + field_side width ≤ length bytes → {found : ℕ}
         → found ≡ lines + num (eqb (get_or bytes (row * field_side width + column) undecided_byte) line_byte)
-        → FollowedOn width bytes from (row * field_side width + (column + 1)) before (Lines found) after
+        → FollowedOn width bytes from (row * field_side width + (column + 1)) before (Some found) after
     place_right h fits counted =
         let next : suc (row * field_side width + column) ≡ row * field_side width + (column + 1) = omega arith in
         record {
@@ -118,24 +118,24 @@ module _ (width : ℕ) (bytes : List ℕ) where
         }
 
   -- a row, and with it the field
-  module _ {from lines : ℕ} {before mid after : List ℤ} {r : Followed} (row rows : ℕ) (inside : row < rows)
-      (so : FollowedOn width bytes from (row * field_side width) before (Lines lines) mid)
+  module _ {from lines : ℕ} {before mid after : List ℤ} {r : Option ℕ} (row rows : ℕ) (inside : row < rows)
+      (so : FollowedOn width bytes from (row * field_side width) before (Some lines) mid)
       (next : FollowedOn width bytes (row * field_side width) (row * field_side width + field_side width) mid r after) where
     row_followed : FollowedOn width bytes from (row * field_side width + field_side width) before r after
     row_followed = record { says = λ g w h. next.says g w (so.says g w h); in_use = next.in_use; tells = next.tells }
 
-    pub row_wrong : r ≡ Wrong → FollowedOn width bytes from (rows * field_side width) before Wrong after
+    pub row_wrong : r ≡ None → FollowedOn width bytes from (rows * field_side width) before None after
     row_wrong h =
-        let whole : FollowedOn width bytes from (row * field_side width + field_side width) before Wrong after = rw h at row_followed in
+        let whole : FollowedOn width bytes from (row * field_side width + field_side width) before None after = rw h at row_followed in
         record {
           says = λ g w k. still_wrong g bytes _ (rows * field_side width) (row_fits width row rows inside) (whole.says g w k);
           in_use = next.in_use;
           tells = tt;
         }
 
-    pub row_right : {found : ℕ} → r ≡ Lines found → FollowedOn width bytes from ((row + 1) * field_side width) before (Lines found) after
+    pub row_right : {found : ℕ} → r ≡ Some found → FollowedOn width bytes from ((row + 1) * field_side width) before (Some found) after
     row_right {found} h =
-        let whole : FollowedOn width bytes from (row * field_side width + field_side width) before (Lines found) after = rw h at row_followed in
+        let whole : FollowedOn width bytes from (row * field_side width + field_side width) before (Some found) after = rw h at row_followed in
         let one_on : row * field_side width + field_side width ≡ (row + 1) * field_side width =
         sym (suc-mul row (field_side width)) ∙ ap (λ (n : ℕ). n * field_side width) (sym (add-one row)) in
         record {

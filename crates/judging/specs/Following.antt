@@ -1,15 +1,13 @@
 -- What the functions that follow a record promise of the array of the ends: what it shows after a line, an edge, a place and a stretch of the
 -- record, and that every pad which an end names has its number in the array; and of the lines that they count on the way. It rests on the
 -- model's Judge.antt and on boardview's View.antt. Nothing is proved in this file.
-use Rattle.std.specs.Prelude.{ℕ, ◌<◌, ◌≡◌, Bool, true, false, List, get_or, length, take, ℤ}
+use Rattle.std.specs.Prelude.{ℕ, ◌<◌, ◌≡◌, Bool, true, false, List, get_or, length, take, ℤ, Option, IfSome, is_some}
 use Rattle.rules.specs.Grid.{cell_of, blank_cell, Grid}
 use Rattle.rules.specs.Record.{record_lines}
 use Rattle.model.specs.JoinedEnds.{End, at_pad}
 use Rattle.model.specs.Judge as model
 use Rattle.model.specs.Judge.{wrong, so_far, followed, finished}
 use Rattle.boardview.specs.View.{end_at}
-use Rattle.judging.specs.declared.Followed.{Followed}
-use Rattle.judging.specs.declared.Followed.TheVariants.{Wrong, Lines}
 
 -- WHAT A FUNCTION TELLS: true and the ends, or false where a byte or a line was wrong
 abbrev pub told : Bool → List ℤ → model.Followed
@@ -30,22 +28,12 @@ pub record Stepped (step : (ℕ → End) → model.Followed) (before : List ℤ)
 abbrev pub lines_in : List ℕ → ℕ → ℕ
 lines_in bytes n = record_lines (take n bytes)
 
--- whether nothing was found wrong
-abbrev pub is_right : Followed → Bool
-is_right Wrong = false
-is_right (Lines lines) = true
-
--- what was found, if nothing is wrong, is the lines of the first n bytes
-abbrev pub Tells : List ℕ → ℕ → Followed → Type 0
-Tells bytes n Wrong = Unit {0}
-Tells bytes n (Lines lines) = lines ≡ lines_in bytes n
-
 -- A STRETCH OF A RECORD was followed, from place number `from` up to `upto`, whatever the cells of the grid are, and its lines were counted
--- with those before it
-pub record FollowedOn (width : ℕ) (bytes : List ℕ) (from upto : ℕ) (before : List ℤ) (r : Followed) (after : List ℤ) : Type 0 where
-  pub says : (g : Grid) → g.width ≡ width → followed g bytes from ≡ told true before → followed g bytes upto ≡ told (is_right r) after
+-- with those before it; none where a byte or a line was wrong
+pub record FollowedOn (width : ℕ) (bytes : List ℕ) (from upto : ℕ) (before : List ℤ) (r : Option ℕ) (after : List ℤ) : Type 0 where
+  pub says : (g : Grid) → g.width ≡ width → followed g bytes from ≡ told true before → followed g bytes upto ≡ told (is_some r) after
   pub in_use : InUse after
-  pub tells : Tells bytes upto r
+  pub tells : IfSome r (λ lines. lines ≡ lines_in bytes upto)
 
 -- whether a pad is finished, by the list of cells and the array of ends
 unfoldable pub finished_at : List ℤ → List ℤ → ℕ → Bool

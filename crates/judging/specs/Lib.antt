@@ -2,3 +2,4 @@
 pub mod Judging
 pub mod Following
 pub mod Shape
+pub mod Every

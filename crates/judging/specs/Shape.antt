@@ -1,8 +1,10 @@
 -- What is asked of a listed drawing at one pad, by the sizes and the list of cells: the test of its unit square, and the corner rule on both
 -- sides. They are the bodies of the checks in the rules' CheckedListed.antt. Nothing is proved in this file.
-use Rattle.std.specs.Prelude.{ℕ, ◌+◌, ◌*◌, ◌%◌, ◌≤◌, ◌<◌, Bool, ◌&&◌, ◌||◌, not, List, leb, ltb, get_or, ℤ}
+use Rattle.std.specs.Prelude.{ℕ, ◌+◌, ◌*◌, ◌-◌, ◌%◌, ◌≤◌, ◌<◌, Bool, ◌&&◌, ◌||◌, not, List, leb, ltb, get_or, ℤ}
 use Rattle.rules.specs.Grid.{cell_of, blank_cell}
 use Rattle.rules.specs.Drawing.{Drawing, num, Side, on_left, on_right}
+use Rattle.boardbare.specs.declared.Side.{Side as CodeSide}
+use Rattle.boardbare.specs.declared.Side.TheVariants.{Left, Right}
 use Rattle.rules.specs.CheckedListed.{has_corner, diagonal, not_blank}
 
 -- A COLUMN of a grid, in a row of it or in the one below its last
@@ -11,6 +13,16 @@ pub record InColumn (width y x : ℕ) : Type 0 where
   pub narrow : width ≤ 16
   pub low : y ≤ 16
   pub inside : x < width
+
+-- a side of the code, as the rules have it
+abbrev pub side_of : CodeSide → Side
+side_of Left = on_left
+side_of Right = on_right
+
+-- the line beside a pad, on one side
+unfoldable pub line_beside : Side → Drawing → ℕ → Bool
+line_beside on_left D v = leb 1 v && D.right (v - 1)
+line_beside on_right D v = D.right v
 
 -- whether a pad is a clue or a hole; past the list it is blank
 unfoldable pub taken_at : List ℤ → ℕ → Bool

@@ -1,20 +1,20 @@
 // The judge of a drawing: whether a record of edge bytes is that of an ordinary or of a listed drawing of a grid, with its lines. What it
 // answers is the definition of the same name in the crate `model`, specs/Judge.antt there; the crate `ruletest` proves that it says what the
 // rules say. The ends of the pads are joined line by line, by the functions that step c of a decision calls. The places are gone through
-// once, and then the pads once.
+// once, and then the pads: whether each is finished, and whether each keeps the rules of a listed drawing.
 #![tactic(auto)]
 
 ghost use Rattle.std.specs.Prelude.{◌≡◌, ◌+◌, ◌*◌, ◌≤◌, ◌<◌, eqb, length, get_or};
 ghost use Rattle.rules.specs.Grid.{pad_index, place_at, field_side, places, grid_of, Accepted};
-ghost use Rattle.rules.specs.Drawing.{on_left, on_right};
 ghost use Rattle.rules.specs.Record.{line_byte, undecided_byte, drawing_of, record_lines};
 ghost use Rattle.rules.specs.Tests.{all_below};
 ghost use Rattle.rules.specs.CheckedListed.{has_corner};
 ghost use Rattle.model.specs.Judge as model;
-ghost use Rattle.judging.specs.Judging.{judged_says, mark, answer};
+ghost use Rattle.judging.specs.Judging.{judged_says, verdict_number, mark, answer};
 ghost use Rattle.judging.specs.Following.{InUse, Stepped, lines_in, FollowedOn, finished_at};
-ghost use Rattle.judging.specs.Shape.{InColumn, taken_at, lines_around, square_keeps, corner_keeps, pad_keeps};
+ghost use Rattle.judging.specs.Shape.{InColumn, side_of, line_beside, taken_at, lines_around, square_keeps, corner_keeps, pad_keeps};
 
+use boardbare::Side;
 use grid::{BLANK, Edge, HOLE, Pads};
 
 // The bytes of an edge's states, as the edge type names them.
@@ -34,11 +34,25 @@ pub struct Judged {
     pub lines: usize,
 }
 
-// What following a record has found: a byte or a line that is wrong, or so many lines.
-#[derive(Drop)]
-enum Followed {
-    Wrong,
-    Lines(usize),
+// What the pads say of a drawing: it is no layout, an ordinary one, or a listed one.
+#[derive(Clone, Copy, PartialEq, Eq)]
+enum Verdict {
+    NoLayout,
+    Ordinary,
+    Listed,
+}
+
+impl Verdict {
+    // The number by which it is told.
+    fn number(self) -> u8
+        ensures { result ≡ verdict_number self }
+    {
+        match self {
+            Verdict::NoLayout => 0,
+            Verdict::Ordinary => 1,
+            Verdict::Listed => 2,
+        }
+    }
 }
 
 // Joins the ends of the two pads of a line, if the line can be.
@@ -76,53 +90,42 @@ fn follow_place(ends: &mut [i64; 512], width: usize, row: usize, column: usize, 
     }
 }
 
-// Follows a row of the field, and counts its lines with those before it.
+// Follows a row of the field, and counts its lines with those before it; none where a byte or a line is wrong.
 fn follow_row(
     ends: &mut [i64; 512],
     width: usize,
     row: usize,
     bytes: &[u8],
     lines: usize,
-) -> Followed
+) -> Option<usize>
     requires { (2 ≤ width) × (width ≤ 16) × (row < 31) × (row * field_side width + field_side width ≤ length bytes.now) × InUse ends.old × (lines ≡ lines_in bytes.now (row * field_side width)) }
     ensures { FollowedOn width bytes.now (row * field_side width) (row * field_side width + field_side width) ends.old result ends.new }
 {
     let side = 2 * width - 1;
     let mut found = lines;
-    let mut column = 0;
-    while column < side {
+    for column in 0..side {
         let held = bytes[row * side + column];
         if !follow_place(ends, width, row, column, held) {
-            return Followed::Wrong;
+            return None;
         }
         if held == LINE {
             found += 1;
         }
-        column += 1;
     }
-    Followed::Lines(found)
+    Some(found)
 }
 
 // Follows the whole field, row by row.
-fn follow_record(ends: &mut [i64; 512], height: usize, width: usize, bytes: &[u8]) -> Followed
+fn follow_record(ends: &mut [i64; 512], height: usize, width: usize, bytes: &[u8]) -> Option<usize>
     requires { (2 ≤ height) × (height ≤ 16) × (2 ≤ width) × (width ≤ 16) × (length bytes.now ≡ places height width) × InUse ends.old }
     ensures { FollowedOn width bytes.now 0 (places height width) ends.old result ends.new }
 {
     let rows = 2 * height - 1;
     let mut lines: usize = 0;
-    let mut row = 0;
-    while row < rows {
-        match follow_row(ends, width, row, bytes, lines) {
-            Followed::Wrong => {
-                return Followed::Wrong;
-            }
-            Followed::Lines(found) => {
-                lines = found;
-            }
-        }
-        row += 1;
+    for row in 0..rows {
+        lines = follow_row(ends, width, row, bytes, lines)?;
     }
-    Followed::Lines(lines)
+    Some(lines)
 }
 
 // Whether a pad is finished: a clue has its line, a blank pad two or none, a hole none.
@@ -145,10 +148,7 @@ fn is_finished(cells: &[i64], ends: &[i64; 512], v: usize) -> bool
 fn line_at(bytes: &[u8], place: usize) -> bool
     ensures { result ≡ eqb (get_or bytes.now place undecided_byte) line_byte }
 {
-    if place < bytes.len() {
-        return bytes[place] == LINE;
-    }
-    false
+    place < bytes.len() && bytes[place] == LINE
 }
 
 // Whether pad (y, x) has a line to the right, at place (2y, 2x+1).
@@ -171,51 +171,41 @@ fn down_at(bytes: &[u8], width: usize, y: usize, x: usize) -> bool
 fn is_taken(cells: &[i64], v: usize) -> bool
     ensures { result ≡ taken_at cells.now v }
 {
-    if v < cells.len() {
-        return cells[v] != BLANK;
-    }
-    false
+    v < cells.len() && cells[v] != BLANK
 }
 
-// Whether pad (y, x) has the lines right and down.
-fn right_corner(bytes: &[u8], width: usize, y: usize, x: usize) -> bool
+// Whether pad (y, x) has a line to that side; to the left of the first column there is none.
+fn line_beside(side: Side, bytes: &[u8], width: usize, y: usize, x: usize) -> bool
     requires { InColumn width y x }
-    ensures { result ≡ has_corner on_right (drawing_of width bytes.now) (pad_index width y x) }
+    ensures { result ≡ line_beside (side_of side) (drawing_of width bytes.now) (pad_index width y x) }
 {
-    right_at(bytes, width, y, x) && down_at(bytes, width, y, x)
-}
-
-// Whether it has the lines left and down.
-fn left_corner(bytes: &[u8], width: usize, y: usize, x: usize) -> bool
-    requires { InColumn width y x }
-    ensures { result ≡ has_corner on_left (drawing_of width bytes.now) (pad_index width y x) }
-{
-    if x == 0 {
-        return false;
+    match side {
+        Side::Left => 0 < x && right_at(bytes, width, y, x - 1),
+        Side::Right => right_at(bytes, width, y, x),
     }
-    right_at(bytes, width, y, x - 1) && down_at(bytes, width, y, x)
 }
 
-// The corner rule at pad (y, x), to the right: diagonally below stands a clue or a hole, or the same corner.
-fn right_corner_keeps(bytes: &[u8], width: usize, cells: &[i64], y: usize, x: usize) -> bool
+// Whether it has the corner on that side: the line beside and the one downward.
+fn has_corner(side: Side, bytes: &[u8], width: usize, y: usize, x: usize) -> bool
+    requires { InColumn width y x }
+    ensures { result ≡ has_corner (side_of side) (drawing_of width bytes.now) (pad_index width y x) }
+{
+    line_beside(side, bytes, width, y, x) && down_at(bytes, width, y, x)
+}
+
+// The corner rule at pad (y, x), on that side: diagonally below stands a clue or a hole, or the same corner.
+fn corner_keeps(side: Side, bytes: &[u8], width: usize, cells: &[i64], y: usize, x: usize) -> bool
     requires { InColumn width y x × (y < 16) }
-    ensures { result ≡ corner_keeps on_right width cells.now (drawing_of width bytes.now) (pad_index width y x) }
+    ensures { result ≡ corner_keeps (side_of side) width cells.now (drawing_of width bytes.now) (pad_index width y x) }
 {
-    if !right_corner(bytes, width, y, x) {
+    if !has_corner(side, bytes, width, y, x) {
         return true;
     }
-    is_taken(cells, (y + 1) * width + x + 1) || right_corner(bytes, width, y + 1, x + 1)
-}
-
-// The same to the left.
-fn left_corner_keeps(bytes: &[u8], width: usize, cells: &[i64], y: usize, x: usize) -> bool
-    requires { InColumn width y x × (y < 16) }
-    ensures { result ≡ corner_keeps on_left width cells.now (drawing_of width bytes.now) (pad_index width y x) }
-{
-    if !left_corner(bytes, width, y, x) {
-        return true;
-    }
-    is_taken(cells, (y + 1) * width + x - 1) || left_corner(bytes, width, y + 1, x - 1)
+    let below = match side {
+        Side::Left => x - 1,
+        Side::Right => x + 1,
+    };
+    is_taken(cells, (y + 1) * width + below) || has_corner(side, bytes, width, y + 1, below)
 }
 
 // The number of lines in the unit square of pad (y, x): above, on the left, on the right, below.
@@ -223,11 +213,11 @@ fn square_lines(bytes: &[u8], width: usize, y: usize, x: usize) -> usize
     requires { InColumn width y x × (y < 16) × (x + 1 < width) }
     ensures { result ≡ lines_around width (drawing_of width bytes.now) (pad_index width y x) }
 {
-    let above = boardparts::one_if(right_at(bytes, width, y, x));
-    let left = boardparts::one_if(down_at(bytes, width, y, x));
-    let right = boardparts::one_if(down_at(bytes, width, y, x + 1));
-    let below = boardparts::one_if(right_at(bytes, width, y + 1, x));
-    boardparts::wide(above + left + right + below)
+    let above = usize::from(right_at(bytes, width, y, x));
+    let left = usize::from(down_at(bytes, width, y, x));
+    let right = usize::from(down_at(bytes, width, y, x + 1));
+    let below = usize::from(right_at(bytes, width, y + 1, x));
+    above + left + right + below
 }
 
 // At most two lines in the unit square of pad (y, x), if it has one.
@@ -248,75 +238,69 @@ fn pad_keeps(height: usize, width: usize, cells: &[i64], bytes: &[u8], y: usize,
     requires { InColumn width y x × (height ≤ 16) × (y < height) }
     ensures { result ≡ pad_keeps height width cells.now (drawing_of width bytes.now) (pad_index width y x) }
 {
-    if !square_keeps(bytes, height, width, y, x) {
-        return false;
-    }
-    left_corner_keeps(bytes, width, cells, y, x) && right_corner_keeps(bytes, width, cells, y, x)
+    square_keeps(bytes, height, width, y, x)
+        && corner_keeps(Side::Left, bytes, width, cells, y, x)
+        && corner_keeps(Side::Right, bytes, width, cells, y, x)
 }
 
-// The verdict by the pads of a row: 0 where one is not finished, 1 where one breaks a rule of a listed drawing, else 2.
-fn row_verdict(
+// Whether every pad is finished.
+fn all_finished(height: usize, width: usize, cells: &[i64], ends: &[i64; 512]) -> bool
+    requires { Accepted height width cells.now × (length ends.now ≡ 512) }
+    ensures { result ≡ all_below (finished_at cells.now ends.now) (height * width) }
+{
+    (0..height * width).all(|v| is_finished(cells, ends, v))
+}
+
+// Whether every pad of a row keeps the rules of a listed drawing.
+fn row_keeps(height: usize, width: usize, cells: &[i64], bytes: &[u8], y: usize) -> bool
+    requires { Accepted height width cells.now × (y < height) }
+    ensures { result ≡ all_below (λ x. pad_keeps height width cells.now (drawing_of width bytes.now) (pad_index width y x)) width }
+{
+    (0..width).all(|x| pad_keeps(height, width, cells, bytes, y, x))
+}
+
+// Whether every pad does.
+fn all_keep(height: usize, width: usize, cells: &[i64], bytes: &[u8]) -> bool
+    requires { Accepted height width cells.now }
+    ensures { result ≡ model.has_listed_shape (grid_of height width cells.now) bytes.now }
+{
+    (0..height).all(|y| row_keeps(height, width, cells, bytes, y))
+}
+
+// The verdict by all pads.
+fn pads_verdict(
     height: usize,
     width: usize,
     cells: &[i64],
     bytes: &[u8],
     ends: &[i64; 512],
-    y: usize,
-) -> u8
-    requires { Accepted height width cells.now × (length ends.now ≡ 512) × (y < height) }
-    ensures { result ≡ mark (all_below (λ x. finished_at cells.now ends.now (pad_index width y x)) width) (all_below (λ x. pad_keeps height width cells.now (drawing_of width bytes.now) (pad_index width y x)) width) }
-{
-    let mut least = 2;
-    let mut x = 0;
-    while x < width {
-        if !is_finished(cells, ends, y * width + x) {
-            return 0;
-        }
-        if !pad_keeps(height, width, cells, bytes, y, x) {
-            least = 1;
-        }
-        x += 1;
-    }
-    least
-}
-
-// The verdict by all pads, the least of the rows.
-fn pads_verdict(height: usize, width: usize, cells: &[i64], bytes: &[u8], ends: &[i64; 512]) -> u8
+) -> Verdict
     requires { Accepted height width cells.now × (length ends.now ≡ 512) }
-    ensures { result ≡ mark (all_below (finished_at cells.now ends.now) (height * width)) (model.has_listed_shape (grid_of height width cells.now) bytes.now) }
+    ensures { verdict_number result ≡ mark (all_below (finished_at cells.now ends.now) (height * width)) (model.has_listed_shape (grid_of height width cells.now) bytes.now) }
 {
-    let mut least = 2;
-    let mut y = 0;
-    while y < height {
-        let row = row_verdict(height, width, cells, bytes, ends, y);
-        if row == 0 {
-            return 0;
-        }
-        if row < least {
-            least = row;
-        }
-        y += 1;
+    if !all_finished(height, width, cells, ends) {
+        return Verdict::NoLayout;
     }
-    least
+    if all_keep(height, width, cells, bytes) {
+        Verdict::Listed
+    } else {
+        Verdict::Ordinary
+    }
 }
 
-// The answer for an accepted grid: a verdict with the lines, 0 beside 0.
-fn answered(verdict: u8, lines: usize) -> Judged
-    ensures { judged_says result ≡ answer verdict lines }
+// The answer for an accepted grid: a verdict with the lines, 0 beside no layout.
+fn answered(verdict: Verdict, lines: usize) -> Judged
+    ensures { judged_says result ≡ answer (verdict_number verdict) lines }
 {
-    if verdict == 0 {
-        return Judged {
-            number: 0,
-            index: 0,
-            verdict: 0,
-            lines: 0,
-        };
-    }
     Judged {
         number: 0,
         index: 0,
-        verdict,
-        lines,
+        verdict: verdict.number(),
+        lines: if verdict == Verdict::NoLayout {
+            0
+        } else {
+            lines
+        },
     }
 }
 
@@ -326,12 +310,12 @@ pub fn judge_record(height: usize, width: usize, cells: &[i64], bytes: &[u8]) ->
     ensures { judged_says result ≡ answer (model.verdict (grid_of height width cells.now) bytes.now) (record_lines bytes.now) }
 {
     if bytes.len() != (2 * height - 1) * (2 * width - 1) {
-        return answered(0, 0);
+        return answered(Verdict::NoLayout, 0);
     }
     let mut ends = boardbare::bare_ends(cells);
     match follow_record(&mut ends, height, width, bytes) {
-        Followed::Wrong => answered(0, 0),
-        Followed::Lines(lines) => answered(pads_verdict(height, width, cells, bytes, &ends), lines),
+        None => answered(Verdict::NoLayout, 0),
+        Some(lines) => answered(pads_verdict(height, width, cells, bytes, &ends), lines),
     }
 }
 

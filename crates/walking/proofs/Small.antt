@@ -39,9 +39,9 @@ module _ (height width v : ℕ) (pad : PadOf height width v) where
 
 -- THE TESTS OF A CODE
 module _ (height width v : ℕ) (r d : Bool) (t : Bool) (tested : t ≡ not r || ltb (v % width + 1) width) where
-  pub no_edge_right : t ≡ false → (cells : List ℤ) → false ≡ may_give (grid_of height width cells) v r d
+  pub no_edge_right : t ≡ false → (cells : List ℤ) → t ≡ may_give (grid_of height width cells) v r d
   unfolding grid_of may_give
-  no_edge_right off cells = rw (sym tested ∙ off) refl
+  no_edge_right off cells = off ∙ rw (sym tested ∙ off) refl
 
   pub by_down : t ≡ true → (u : Bool) → u ≡ not d || ltb (v + width) (height * width) → (cells : List ℤ) → u ≡ may_give (grid_of height width cells) v r d
   unfolding grid_of may_give

@@ -35,7 +35,7 @@ fn edge_byte(line: bool) -> u8
 fn fits(line: bool, there: bool) -> bool
     ensures { result ≡ not line || there }
 {
-    if line { there } else { true }
+    !line || there
 }
 
 // Whether a pad may be given a code: one with a line off the board is not tried.
@@ -43,10 +43,7 @@ fn may_be_given(height: usize, width: usize, v: usize, right: bool, down: bool) 
     requires { PadOf height width v }
     ensures { (cells : List ℤ) → result ≡ may_give (grid_of height width cells) v right down }
 {
-    if !fits(right, v % width + 1 < width) {
-        return false;
-    }
-    fits(down, v + width < height * width)
+    fits(right, v % width + 1 < width) && fits(down, v + width < height * width)
 }
 
 // Puts the edge to the right of a pad into the record, where it is on the board.
@@ -181,8 +178,7 @@ fn walk_on(
     if v >= height * width {
         return test_drawing(height, width, cells, bytes, buffer, layouts, fewest);
     }
-    let mut m: usize = 0;
-    while m < 4 {
+    for m in 0..4u8 {
         let outcome = give(
             height,
             width,
@@ -200,7 +196,6 @@ fn walk_on(
         if outcome != 0 {
             return outcome;
         }
-        m += 1;
     }
     0
 }

@@ -1,28 +1,17 @@
--- `boardbare::action_table` meets its contract: the loop has filled the table from the entry on.
-use native.Mathlib.Omega.{arith}
-use Rattle.boardbare.specs.Filling.{zero_left, table_begun, table_more}
+-- `boardbare::action_table` meets its contract: each byte is what the closure gave at its index.
+use Rattle.std.proofs.Common.{rules, arith, ◌+◌, ◌<◌, ◌≡◌, ◌∙◌, ℕ, get_or, refl, ap}
+use borrow.Author.Tests.{lt-ltb, le-ltb}
+use Rattle.boardview.specs.View.{action_entry}
+use Rattle.boardbare.specs.BareArrays.{table_byte}
 use Rattle.boardbare.proofs.action_table.Goals as goal
 
-pub loop-i-init : goal.loop-i-init
-loop-i-init c = (omega arith, table_begun)
-
-pub overflow_sub-i : goal.overflow_sub-i
-overflow_sub-i c = omega arith
-
-pub action_entry-requires : goal.action_entry-requires
-action_entry-requires c = omega arith
-
-pub overflow_add-kind : goal.overflow_add-kind
-overflow_add-kind c = omega arith
-
-pub bounds-kind-i : goal.bounds-kind-i
-bounds-kind-i c = omega arith
-
-pub loop-i-smaller : goal.loop-i-smaller
-loop-i-smaller c = omega arith
-
-pub loop-i-preserved : goal.loop-i-preserved
-loop-i-preserved c = (omega arith, table_more _ _ (omega arith) (omega arith) c.action_entry.ensures c.loop-i.invariant.1)
-
 pub returns : goal.returns
-returns c = rw (zero_left _ c.loop-i-test.false) at c.loop-i.invariant.1
+unfolding table_byte
+returns c =
+    let made = c.from_fn.ensures.items in
+    let byte : (k : ℕ) → k < 1024 → get_or c.from_fn.result k 0 ≡ table_byte k = λ k high. (let call = (made.at k 0 high).2 in search rules) in
+    record {
+      as_long = made.long;
+      untold = λ v low. byte v (omega arith) ∙ rw (lt-ltb v 512 low) refl;
+      entries = λ i low high. byte (512 + i) (omega arith) ∙ rw (le-ltb (512 + i) 512 (omega arith)) (ap action_entry (omega arith));
+    }

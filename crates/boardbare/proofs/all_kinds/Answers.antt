@@ -6,9 +6,6 @@ use Rattle.boardbare.specs.Bars.{next_kind, past_the_pads}
 use Rattle.boardbare.specs.EdgeBytes.{few_pads}
 use Rattle.boardbare.proofs.all_kinds.Goals as goal
 
-pub action_table-kind-requires : goal.action_table-kind-requires
-action_table-kind-requires c = tt
-
 pub overflow_mul-pads : goal.overflow_mul-pads
 overflow_mul-pads c = omega (arith, few_pads _ _ c.requires.height_in_range c.requires.width_in_range)
 
@@ -17,35 +14,17 @@ loop-v-init c =
     let few = few_pads _ _ c.requires.height_in_range c.requires.width_in_range in
     (omega arith, filled_untold _ _ c.action_table-kind.ensures (λ i low high. past_the_pads _ _ c.args.cells.now (omega arith) few _ (one_more _ (omega arith)) c.requires.one_cell_a_pad i low), record { holds = λ i h. c.action_table-kind.ensures.entries i (omega arith) h })
 
-pub overflow_sub-v : goal.overflow_sub-v
-overflow_sub-v c = omega arith
-
 pub pad_kind-requires : goal.pad_kind-requires
 pad_kind-requires c = omega (arith, few_pads _ _ c.requires.height_in_range c.requires.width_in_range)
 
 pub bounds-kind-v : goal.bounds-kind-v
 bounds-kind-v c = omega (arith, few_pads _ _ c.requires.height_in_range c.requires.width_in_range)
 
-pub loop-v-smaller : goal.loop-v-smaller
-loop-v-smaller c = omega arith
-
 pub loop-v-preserved : goal.loop-v-preserved
 loop-v-preserved c =
     let few = few_pads _ _ c.requires.height_in_range c.requires.width_in_range in
     let filled = c.loop-v.invariant.1 in
     (omega arith, filled_more _ _ (omega arith) (omega arith) (c.pad_kind.ensures ∙ next_kind _ _ c.args.cells.now (omega arith) few _ (one_more _ (omega arith)) c.loop-v.kind _ (rw (one_back c.loop-v.v (omega arith)) filled)) filled, table_kept _ _ c.loop-v.kind (omega arith) c.loop-v.invariant.2)
-
-pub overflow_cast-kind : goal.overflow_cast-kind
-overflow_cast-kind c = omega arith
-
-pub bounds-kind-510 : goal.bounds-kind-510
-bounds-kind-510 c = omega arith
-
-pub overflow_cast-kind-2 : goal.overflow_cast-kind-2
-overflow_cast-kind-2 c = omega arith
-
-pub bounds-kind-511 : goal.bounds-kind-511
-bounds-kind-511 c = omega arith
 
 pub returns : goal.returns
 returns c = record {

@@ -5,6 +5,3 @@ use Rattle.boardbare.proofs.all_kinds.Given as goal
 
 abbrev pub invariant-loop-v : goal.invariant-loop-v
 invariant-loop-v l = (l.v ≤ l.height * l.width) × KindsFrom l.height l.width l.cells l.v l.kind × Table l.kind
-
-abbrev pub decreases-loop-v : goal.decreases-loop-v
-decreases-loop-v l = l.v

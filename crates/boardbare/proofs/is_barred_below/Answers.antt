@@ -1,11 +1,11 @@
--- `boardbare::is_barred_below` meets its contract.
+-- `boardbare::is_barred_below` meets its contract, on each side.
 use Rattle.boardbare.specs.BareArrays.{barred_below}
 use Rattle.boardbare.proofs.is_barred_below.Goals as goal
 
-pub returns-then-right : goal.returns-then-right
+pub returns-in-Left : goal.returns-in-Left
 unfolding barred_below
-returns-then-right c = rw c.if-right.true c.is_barred.ensures
+returns-in-Left c = rw c.in-Left.is c.is_barred.ensures
 
-pub returns : goal.returns
+pub returns-in-Right : goal.returns-in-Right
 unfolding barred_below
-returns c = rw c.if-right.false c.is_barred-2.ensures
+returns-in-Right c = rw c.in-Right.is c.is_barred-in-Right.ensures

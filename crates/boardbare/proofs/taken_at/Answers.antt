@@ -1,10 +1,9 @@
 -- `boardbare::taken_at` meets its contract.
-use Rattle.boardbare.proofs.Codes.{not_taken, some_taken}
-use mathlib.Core.Path.{sym}
+use lib.IntN.{pos}
+use native.Mathlib.Omega.{arith}
+use Rattle.model.specs.Lists.{default_free}
+use Rattle.boardbare.proofs.Codes.{taken_is}
 use Rattle.boardbare.proofs.taken_at.Goals as goal
 
-pub returns-then-cell : goal.returns-then-cell
-returns-then-cell c = sym (not_taken _ _ c.requires (record { sfits = c.cell-1.given }) c.if-cell.true)
-
 pub returns : goal.returns
-returns c = sym (some_taken _ _ c.requires c.if-cell.false)
+returns c = taken_is c.args.cells.now _ _ (default_free c.args.cells.now _ (pos 0) _ c.requires) (record { sfits = omega arith })

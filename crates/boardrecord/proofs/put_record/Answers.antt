@@ -1,29 +1,10 @@
--- `boardrecord::put_record` meets its contract. The loop has put the first rows of the record, and counted their lines; the rows that are
--- left fall. Assumes nothing.
+-- `boardrecord::put_record` meets its contract. The loop has put the first rows of the record, and counted their lines. Assumes nothing.
 use mathlib.Core.Path.{refl}
 use native.Mathlib.Omega.{arith}
 use Rattle.rules.specs.Places.{few_places}
 use Rattle.boardview.specs.View.{grid_in}
 use Rattle.boardview.specs.ShownRecordLaws.{no_row_written, few_lines, few_in_row, row_put, all_rows, row_fits}
 use Rattle.boardrecord.proofs.put_record.Goals as goal
-
-pub width-width-requires : goal.width-width-requires
-width-width-requires c = tt
-
-pub height-requires : goal.height-requires
-height-requires c = tt
-
-pub overflow_mul-rows : goal.overflow_mul-rows
-overflow_mul-rows c = omega arith
-
-pub overflow_sub-rows : goal.overflow_sub-rows
-overflow_sub-rows c = omega arith
-
-pub overflow_mul-side : goal.overflow_mul-side
-overflow_mul-side c = omega arith
-
-pub overflow_sub-side : goal.overflow_sub-side
-overflow_sub-side c = omega arith
 
 pub loop-row-init : goal.loop-row-init
 loop-row-init c = (omega arith, no_row_written _ _ _ _)
@@ -58,12 +39,6 @@ overflow_add-lines c =
       start.requires.0.largest_width,
       few_places _ _ start.requires.0.largest_height start.requires.0.largest_width,
     )
-
-pub overflow_add-row : goal.overflow_add-row
-overflow_add-row c = omega (arith, c.loop-row-test.true, c.height.ensures, c.requires.0.largest_height)
-
-pub loop-row-smaller : goal.loop-row-smaller
-loop-row-smaller c = omega arith
 
 pub loop-row-preserved : goal.loop-row-preserved
 loop-row-preserved c =

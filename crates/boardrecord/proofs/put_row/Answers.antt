@@ -1,8 +1,10 @@
--- `boardrecord::put_row` meets its contract. The loop has put the row's first bytes, and counted their lines; what is left of the row
--- falls. Assumes nothing.
+-- `boardrecord::put_row` meets its contract. The loop has put the row's first bytes, and counted their lines. Assumes nothing.
 use mathlib.Core.Path.{◌∙◌}
 use native.Mathlib.Omega.{arith}
+use lib.Dec.{eqb}
 use Rattle.boardview.specs.ShownRecordLaws.{none_written, one_written, row_written}
+use Rattle.boardrecord.proofs.SlotLaws.{test_number}
+use Rattle.rules.specs.Tests.{num_small}
 use Rattle.boardrecord.proofs.put_row.Goals as goal
 
 pub overflow_mul-side : goal.overflow_mul-side
@@ -24,19 +26,13 @@ pub bounds-buffer-at : goal.bounds-buffer-at
 bounds-buffer-at c = omega (arith, c.loop-column.invariant.1.same_length, c.loop-column-test.true, c.requires.5)
 
 pub overflow_add-lines : goal.overflow_add-lines
-overflow_add-lines c = omega (arith, c.loop-column.invariant.1.few, c.loop-column.invariant.0, c.wide-lines.ensures, c.one_if.ensures.1, c.requires.1)
-
-pub overflow_add-column : goal.overflow_add-column
-overflow_add-column c = omega (arith, c.loop-column-test.true, c.requires.1)
-
-pub loop-column-smaller : goal.loop-column-smaller
-loop-column-smaller c = omega arith
+overflow_add-lines c = omega (arith, c.loop-column.invariant.1.few, c.loop-column.invariant.0, test_number (eqb c.byte_at-byte.result 1), num_small (eqb c.byte_at-byte.result 1), c.requires.1)
 
 pub loop-column-preserved : goal.loop-column-preserved
 loop-column-preserved c = (
   omega arith,
   one_written _ _ _ _ _ _ c.loop-column.invariant.1 (omega (arith, c.loop-column-test.true, c.requires.5)) _ _ c.byte_at-byte.ensures
-      (c.wide-lines.ensures ∙ c.one_if.ensures.0) (omega (arith, c.wide-lines.ensures, c.one_if.ensures.1)),
+      (c.from-lines.ensures ∙ test_number (eqb c.byte_at-byte.result 1)) (omega (arith, c.from-lines.ensures, test_number (eqb c.byte_at-byte.result 1), num_small (eqb c.byte_at-byte.result 1))),
 )
 
 pub shape_of-buffer : goal.shape_of-buffer

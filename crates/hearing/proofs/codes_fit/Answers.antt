@@ -1,50 +1,29 @@
--- `hearing::codes_fit` meets its contract. The loop's invariant: the digits that were passed fit. Assumes nothing.
-use mathlib.Core.Path.{refl}
-use mathlib.Core.Bool.{true}
+-- `hearing::codes_fit` meets its contract: one digit for each pad, and the chain over them. Assumes nothing.
+use Rattle.std.proofs.Common.{rules, tests, arith, refl, ◌∙◌, ◌*◌, ◌≤◌}
 use native.Mathlib.Nat.{mul-le-mul}
-use native.Mathlib.Omega.{arith}
-use borrow.Author.Tests.{not-true, not-false}
-use Rattle.rules.specs.Tests.{all_below}
+use Rattle.std.proofs.lemmas.Iterator.{YieldsList-from_range, serves_from_Range}
+use Rattle.std.proofs.lemmas.Iterator.Search.{all_from_yields_List}
 use Rattle.model.specs.RefusalLaws.{size_of_test}
 use Rattle.model.specs.JudgeText.{digit_fits}
-use Rattle.hearing.proofs.DigitLaws.{other_length, one_off, one_more, all_fit}
-use mathlib.Core.Path.{ap}
-use mathlib.Core.Bool.{not}
+use lib.ListN.{length}
+use borrow.Author.Tests.{ne_eqb}
+use Rattle.judging.specs.Every.{every_number}
+use Rattle.hearing.proofs.DigitLaws.{other_length, by_all}
 use Rattle.hearing.proofs.codes_fit.Goals as goal
 
 pub overflow_mul-height : goal.overflow_mul-height
 overflow_mul-height c = record { fits = omega (arith, mul-le-mul (size_of_test _ c.requires.0).1 (size_of_test _ c.requires.1).1) }
 
+pub all-requires-clause-callable : goal.all-requires-clause-callable
+all-requires-clause-callable c =
+    let few : c.args.height * c.args.width ≤ 16 * 16 = mul-le-mul (size_of_test _ c.requires.0).1 (size_of_test _ c.requires.1).1 in
+    serves_from_Range (λ x q k. search rules) (λ x low high. search rules)
+
 pub returns-then-digits-height : goal.returns-then-digits-height
-returns-then-digits-height c = other_length _ _ _ (λ same. omega (arith, c.if-digits-height.true))
+returns-then-digits-height c =
+    by_all _ _ c.args.digits.now c.if-digits-height.true
+    (all_from_yields_List (digit_fits c.args.height c.args.width c.args.digits.now) _ _ _ c.all.ensures.ran (YieldsList-from_range 0 _ (length c.args.digits.now) refl (omega arith)) (λ x b q k. search (rules, tests))
+    ∙ every_number (digit_fits c.args.height c.args.width c.args.digits.now) (length c.args.digits.now))
 
-pub loop-v-init : goal.loop-v-init
-unfolding all_below
-loop-v-init c = (omega arith, omega (arith, c.if-digits-height.false), refl)
-
-pub digit_fits-requires : goal.digit_fits-requires
-digit_fits-requires c =
-    let start = c in (
-      start.requires.0,
-      start.requires.1,
-      omega (arith, c.loop-v-test.true, c.loop-v.invariant.1, mul-le-mul (size_of_test _ start.requires.0).1 (size_of_test _ start.requires.1).1),
-    )
-
-pub returns-then-not-digit_fits : goal.returns-then-not-digit_fits
-returns-then-not-digit_fits c = one_off _ _ _ c.loop-v.invariant.1 _ c.loop-v-test.true c.digit_fits.ensures (not-true _ (ap not c.if-not-digit_fits.true))
-
-pub overflow_add-v : goal.overflow_add-v
-overflow_add-v c = omega arith
-
-pub loop-v-smaller : goal.loop-v-smaller
-loop-v-smaller c = omega arith
-
-pub loop-v-preserved : goal.loop-v-preserved
-loop-v-preserved c = (
-  omega (arith, c.loop-v-test.true),
-  c.loop-v.invariant.1,
-  one_more _ _ _ c.loop-v.invariant.1 _ c.loop-v.invariant.2 c.digit_fits.ensures (not-false _ (ap not c.if-not-digit_fits.false)),
-)
-
-pub returns : goal.returns
-returns c = all_fit _ _ _ c.loop-v.invariant.1 _ (omega (arith, c.loop-v.invariant.0, c.loop-v-test.false)) c.loop-v.invariant.2
+pub returns-else-digits-height : goal.returns-else-digits-height
+returns-else-digits-height c = ne_eqb _ _ c.if-digits-height.false ∙ other_length _ _ _ c.if-digits-height.false

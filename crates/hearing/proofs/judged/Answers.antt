@@ -13,8 +13,8 @@ returns-then-reading-ne0 c = refused_text _ _ c.read-reading.ensures _ (λ none.
 pub overflow_mul-pads : goal.overflow_mul-pads
 overflow_mul-pads c = record { fits = omega (arith, pads_fit _ _ c.read-reading.ensures) }
 
-pub record_of_codes-laid-requires : goal.record_of_codes-laid-requires
-record_of_codes-laid-requires c =
+pub record_of_codes-record-requires : goal.record_of_codes-record-requires
+record_of_codes-record-requires c =
     let same = c.read-reading.ensures in
     let accepts : c.read-reading.result.number ≡ 0 = omega (arith, c.if-reading-ne0.false) in
     (tall _ _ same accepts, wide _ _ same accepts)
@@ -27,10 +27,7 @@ slice_bounds-judge-end c =
     let same = c.read-reading.ensures in
     sym (length-take-le _ _ (omega (arith, pads_fit _ _ same, cells_fit _ _ same)))
 
-pub slice_bounds-judge-end-2 : goal.slice_bounds-judge-end-2
-slice_bounds-judge-end-2 c = sym (length-take-le _ _ c.record_of_codes-laid.ensures.fits)
-
 pub returns : goal.returns
 returns c =
     let same = c.read-reading.ensures in
-    accepted_text _ _ same (omega (arith, c.if-reading-ne0.false)) _ c.record_of_codes-laid.ensures c.judge.ensures c.judged_line.ensures
+    accepted_text _ _ same (omega (arith, c.if-reading-ne0.false)) _ c.record_of_codes-record.ensures c.judge.ensures c.judged_line.ensures

@@ -27,12 +27,6 @@ put_row-at-requires c =
       omega (arith, row_has_room _ _ _ c.loop-row.invariant.1 start.args.height c.loop-row-test.true, put_length c.loop-row.invariant.1, start.requires.2),
     )
 
-pub overflow_add-row : goal.overflow_add-row
-overflow_add-row c = omega (arith, c.loop-row-test.true, (size_of_test _ c.requires.0).1)
-
-pub loop-row-smaller : goal.loop-row-smaller
-loop-row-smaller c = omega arith
-
 pub loop-row-preserved : goal.loop-row-preserved
 loop-row-preserved c = (omega (arith, c.loop-row-test.true), one_row_put _ _ _ c.loop-row.invariant.1 c.put_row-at.ensures)
 

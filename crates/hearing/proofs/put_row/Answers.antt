@@ -24,12 +24,6 @@ overflow_add-out c = omega (arith, c.loop-column-test.true, c.requires.3)
 pub bounds-out-at : goal.bounds-out-at
 bounds-out-at c = omega (arith, put_length c.loop-column.invariant.1, c.loop-column-test.true, c.requires.3)
 
-pub overflow_add-column : goal.overflow_add-column
-overflow_add-column c = omega (arith, c.loop-column-test.true, c.requires.1)
-
-pub loop-column-smaller : goal.loop-column-smaller
-loop-column-smaller c = omega arith
-
 pub loop-column-preserved : goal.loop-column-preserved
 loop-column-preserved c = (omega (arith, c.loop-column-test.true), byte_put _ _ _ _ _ c.loop-column.invariant.1 c.byte_at.ensures)
 
@@ -40,4 +34,4 @@ pub shape_of-out : goal.shape_of-out
 shape_of-out c = put_length c.loop-column.invariant.1
 
 pub returns : goal.returns
-returns c = row_put _ _ _ c.loop-column.invariant.0 c.loop-column-test.false c.loop-column.invariant.1
+returns c = row_put _ _ _ _ (omega (arith, c.loop-column.invariant.0, c.loop-column-test.false)) c.loop-column.invariant.1

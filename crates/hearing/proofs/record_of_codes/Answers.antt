@@ -1,21 +1,20 @@
 -- `hearing::record_of_codes` meets its contract: nothing where the codes do not fit, else the field row by row. Assumes nothing.
-use borrow.Author.Tests.{not-true, not-false}
+use native.Mathlib.Omega.{arith}
 use Rattle.rules.specs.Places.{few_places}
 use Rattle.model.specs.RefusalLaws.{size_of_test}
-use Rattle.hearing.proofs.RowLaws.{no_record, the_record}
-use mathlib.Core.Path.{ap}
-use mathlib.Core.Bool.{not}
+use Rattle.hearing.proofs.RowLaws.{no_record, record_fits, the_record}
 use Rattle.hearing.proofs.record_of_codes.Goals as goal
 
 pub returns-then-not-codes_fit : goal.returns-then-not-codes_fit
-returns-then-not-codes_fit c = no_record _ _ _ c.codes_fit.ensures (not-true _ (ap not c.if-not-codes_fit.true))
+returns-then-not-codes_fit c = no_record _ _ _ c.codes_fit.ensures c.if-not-codes_fit.true
 
 pub put_record-length-requires : goal.put_record-length-requires
 put_record-length-requires c =
     let start = c in
-    (start.requires.0, start.requires.1, few_places _ _ (size_of_test _ start.requires.0).1 (size_of_test _ start.requires.1).1)
+    (start.requires.0, start.requires.1, omega (arith, few_places _ _ (size_of_test _ start.requires.0).1 (size_of_test _ start.requires.1).1))
+
+pub shared_ref_as_front-result-2 : goal.shared_ref_as_front-result-2
+shared_ref_as_front-result-2 c = record_fits _ _ _ c.requires.0 c.requires.1 c.put_record-length.ensures
 
 pub returns : goal.returns
-returns c =
-    let start = c in
-    the_record _ _ _ c.codes_fit.ensures (not-false _ (ap not c.if-not-codes_fit.false)) start.requires.0 start.requires.1 c.put_record-length.ensures
+returns c = the_record _ _ _ c.requires.0 c.requires.1 c.put_record-length.ensures c.codes_fit.ensures c.if-not-codes_fit.false c.told-out

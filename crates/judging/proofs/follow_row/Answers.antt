@@ -1,5 +1,4 @@
--- `judging::follow_row` meets its contract. The loop has followed the row's first places and counted their lines; what is left of the row
--- falls. Assumes nothing.
+-- `judging::follow_row` meets its contract. The loop has followed the row's first places and counted their lines. Assumes nothing.
 use Prim.Native.Nat.{◌+◌, ◌*◌}
 use mathlib.Core.Path.{◌≡◌}
 use native.Mathlib.Omega.{arith}
@@ -10,23 +9,8 @@ use mathlib.Core.Bool.{not}
 use Rattle.judging.proofs.follow_row.Goals as goal
 use Rattle.judging.proofs.follow_row.Goals.{then-held-eq-LINE, else-held-eq-LINE}
 
-pub overflow_mul-side : goal.overflow_mul-side
-overflow_mul-side c = omega arith
-
-pub overflow_sub-side : goal.overflow_sub-side
-overflow_sub-side c = omega arith
-
 pub loop-column-init : goal.loop-column-init
 loop-column-init c = (omega arith, no_place _ _ _ c.requires.4 c.requires.5)
-
-pub overflow_mul-held : goal.overflow_mul-held
-overflow_mul-held c = omega arith
-
-pub overflow_add-held : goal.overflow_add-held
-overflow_add-held c = omega arith
-
-pub bounds-bytes-row : goal.bounds-bytes-row
-bounds-bytes-row c = omega arith
 
 pub follow_place-requires : goal.follow_place-requires
 follow_place-requires c =
@@ -44,12 +28,6 @@ overflow_add-found c =
     let start = c in
     let few = few_lines start.args.bytes.now (start.args.row * field_side start.args.width + loop.column) (omega (arith, loop.invariant.0, start.requires.3)) loop.invariant.1.tells in
     omega arith
-
-pub overflow_add-column : goal.overflow_add-column
-overflow_add-column c = omega arith
-
-pub loop-column-smaller : goal.loop-column-smaller
-loop-column-smaller c = omega arith
 
 pub loop-column-preserved : goal.loop-column-preserved
 loop-column-preserved c =

@@ -21,16 +21,16 @@ follow_record-requires c =
     let ok = c.requires in
     (ok.height_in_range.0, ok.height_in_range.1, ok.width_in_range.0, ok.width_in_range.1, c.if-bytes-height.false, bare_in_use _ _ _ ok _ c.bare_ends-ends.ensures)
 
-pub returns-in-Wrong : goal.returns-in-Wrong
-returns-in-Wrong c =
-    no_layout _ _ c.answered-in-Wrong.ensures
-    (not_followed _ _ _ c.requires _ c.bare_ends-ends.ensures _ c.if-bytes-height.false c.follow_record.ensures c.in-Wrong.is)
+pub returns-in-None : goal.returns-in-None
+returns-in-None c =
+    no_layout _ _ c.answered-in-None.ensures
+    (not_followed _ _ _ c.requires _ c.bare_ends-ends.ensures _ c.if-bytes-height.false c.follow_record.ensures c.in-None.is)
 
-pub returns-in-Lines : goal.returns-in-Lines
-returns-in-Lines c =
+pub returns-in-Some : goal.returns-in-Some
+returns-in-Some c =
     let ok = c.requires in
     let bare = c.bare_ends-ends.ensures in
     let long = c.if-bytes-height.false in
     let followed = c.follow_record.ensures in
-    let right = c.in-Lines.is in
-    a_layout _ _ _ _ c.answered-in-Lines.ensures (c.pads_verdict.ensures ∙ by_the_pads _ _ _ ok _ bare _ long followed right) (all_lines _ _ _ ok _ bare _ long followed right)
+    let right = c.in-Some.is in
+    a_layout _ _ _ _ c.answered-in-Some.ensures (c.pads_verdict.ensures ∙ by_the_pads _ _ _ ok _ bare _ long followed right) (all_lines _ _ _ ok _ bare _ long followed right)

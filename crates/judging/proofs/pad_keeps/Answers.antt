@@ -1,14 +1,30 @@
 -- `judging::pad_keeps` meets its contract: the three tests, one after the other. Assumes nothing.
-use Rattle.judging.proofs.EveryPad.{square_fails, left_fails, right_decides}
-use mathlib.Core.Path.{ap}
-use mathlib.Core.Bool.{not}
+use mathlib.Core.Path.{◌≡◌, ◌∙◌}
+use mathlib.Core.Bool.{◌&&◌}
+use Rattle.rules.specs.Grid.{pad_index}
+use Rattle.rules.specs.Drawing.{on_left}
+use Rattle.rules.specs.Record.{drawing_of}
+use Rattle.judging.specs.Shape.{square_keeps, corner_keeps}
+use Rattle.judging.proofs.EveryPad.{both_decide, first_fails, one_fails, third_decides}
 use Rattle.judging.proofs.pad_keeps.Goals as goal
+use Rattle.judging.proofs.pad_keeps.Goals.{then-square_keeps, else-square_keeps}
 
-pub returns-then-not-square_keeps : goal.returns-then-not-square_keeps
-returns-then-not-square_keeps c = square_fails _ _ _ _ _ c.square_keeps.ensures (ap not c.if-not-square_keeps.true)
+pub returns-then-corner_keeps : goal.returns-then-corner_keeps
+returns-then-corner_keeps c =
+    let a = c.args in
+    let D = drawing_of a.width a.bytes.now in
+    let two = elim c.if-square_keeps.branch as (λ _. c.if-square_keeps.value ≡ square_keeps a.height a.width D (pad_index a.width a.y a.x) && corner_keeps on_left a.width a.cells.now D (pad_index a.width a.y a.x)) [
+      | then-square_keeps w ↦ both_decide _ _ c.square_keeps.ensures w.if-square_keeps.true (w.value-is ∙ w.corner_keeps.ensures)
+      | else-square_keeps w ↦ first_fails _ _ c.square_keeps.ensures w.if-square_keeps.false w.value-is
+    ] in
+    third_decides _ _ _ _ _ two c.if-corner_keeps.true c.corner_keeps-then-corner_keeps.ensures
 
-pub returns-then-left_corner_keeps : goal.returns-then-left_corner_keeps
-returns-then-left_corner_keeps c = right_decides _ _ _ _ _ c.square_keeps.ensures (ap not c.if-not-square_keeps.false) c.left_corner_keeps.ensures c.if-left_corner_keeps.true c.right_corner_keeps.ensures
-
-pub returns-else-left_corner_keeps : goal.returns-else-left_corner_keeps
-returns-else-left_corner_keeps c = left_fails _ _ _ _ _ c.square_keeps.ensures (ap not c.if-not-square_keeps.false) c.left_corner_keeps.ensures c.if-left_corner_keeps.false
+pub returns-else-corner_keeps : goal.returns-else-corner_keeps
+returns-else-corner_keeps c =
+    let a = c.args in
+    let D = drawing_of a.width a.bytes.now in
+    let two = elim c.if-square_keeps.branch as (λ _. c.if-square_keeps.value ≡ square_keeps a.height a.width D (pad_index a.width a.y a.x) && corner_keeps on_left a.width a.cells.now D (pad_index a.width a.y a.x)) [
+      | then-square_keeps w ↦ both_decide _ _ c.square_keeps.ensures w.if-square_keeps.true (w.value-is ∙ w.corner_keeps.ensures)
+      | else-square_keeps w ↦ first_fails _ _ c.square_keeps.ensures w.if-square_keeps.false w.value-is
+    ] in
+    one_fails _ _ _ _ _ two c.if-corner_keeps.false

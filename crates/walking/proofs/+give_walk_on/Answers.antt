@@ -72,12 +72,6 @@ walk_on-shape_of-buffer-then-outcome-ne0 t c = c.give-outcome.ensures.same_lengt
 pub walk_on-returns-then-outcome-ne0 : goal.walk_on-returns-then-outcome-ne0
 walk_on-returns-then-outcome-ne0 t c = stops_at _ _ _ _ _ _ c.requires.0 _ _ _ _ c.if-v-height.false c.loop-m.m c.loop-m-test.true _ _ _ _ _ _ _ _ c.give-outcome.ensures c.loop-m.invariant.1 c.if-outcome-ne0.true
 
-pub walk_on-overflow_add-m : goal.walk_on-overflow_add-m
-walk_on-overflow_add-m t c = omega (arith, c.loop-m-test.true)
-
-pub walk_on-loop-m-smaller : goal.walk_on-loop-m-smaller
-walk_on-loop-m-smaller t c = omega (arith, c.loop-m-test.true)
-
 pub walk_on-loop-m-preserved : goal.walk_on-loop-m-preserved
 walk_on-loop-m-preserved t c = (omega (arith, c.loop-m-test.true), next_one _ _ _ _ _ _ c.requires.0 _ _ _ _ c.if-v-height.false c.loop-m.m c.loop-m-test.true _ _ _ _ _ _ _ _ c.give-outcome.ensures c.loop-m.invariant.1 c.if-outcome-ne0.false)
 

@@ -15,6 +15,3 @@ decreases-walk_on l = 2 * (l.height * l.width - l.v) + 1
 abbrev pub invariant-walk_on-loop-m : goal.invariant-walk_on-loop-m
 invariant-walk_on-loop-m l =
     (l.m ≤ 4) × Going (grid_of l.height l.width l.cells) l.limit l.v (4 - l.m) l.m l.initial.bytes (progress (places l.height l.width) 0 l.initial.tried l.initial.layouts l.initial.fewest l.initial.buffer) l.bytes (progress (places l.height l.width) 0 l.tried l.layouts l.fewest l.buffer)
-
-abbrev pub decreases-walk_on-loop-m : goal.decreases-walk_on-loop-m
-decreases-walk_on-loop-m l = 4 - l.m

@@ -1,0 +1,17 @@
+-- `judging::all_keep` meets its contract: the chain over the rows. Assumes nothing.
+use Rattle.std.proofs.Common.{rules, tests, arith, refl, ◌∙◌, ℕ, Bool}
+use Rattle.std.proofs.lemmas.Iterator.{YieldsList-from_range}
+use Rattle.std.proofs.lemmas.Iterator.Search.{all_from_yields_List}
+use Rattle.rules.specs.Grid.{pad_index}
+use Rattle.rules.specs.Record.{drawing_of}
+use Rattle.rules.specs.Tests.{all_below}
+use Rattle.judging.specs.Every.{every_number}
+use Rattle.judging.specs.Shape.{pad_keeps}
+use Rattle.judging.proofs.EveryPad.{shape_by_rows}
+use Rattle.judging.proofs.all_keep.Goals as goal
+
+pub returns : goal.returns
+returns c =
+    let test : ℕ → Bool = λ y. all_below (λ x. pad_keeps c.args.height c.args.width c.args.cells.now (drawing_of c.args.width c.args.bytes.now) (pad_index c.args.width y x)) c.args.width in
+    all_from_yields_List test _ _ c.all.result c.all.ensures.ran (YieldsList-from_range 0 _ c.args.height refl (omega arith)) (λ x b q k. search (rules, tests))
+    ∙ every_number test c.args.height ∙ shape_by_rows c.args.height c.args.width c.args.cells.now c.args.bytes.now (omega (arith, c.requires.width_in_range.0))
