@@ -159,23 +159,17 @@ fn called(
     requires { IsBoard board }
     ensures { (B : model.Board) → Held board B → Says result (called (record { height = height; width = width; cells = cells.now }) B kind row column state) }
 {
-    if kind == 1 {
-        return board.decide_edge(row, column, edge_of(state));
-    }
-    if kind == 2 {
-        return board.get_edge(row, column);
-    }
-    if kind == 3 {
-        return board.add_checkpoint();
-    }
-    if kind == 4 {
-        return Answer {
+    match kind {
+        1 => board.decide_edge(row, column, edge_of(state)),
+        2 => board.get_edge(row, column),
+        3 => board.add_checkpoint(),
+        4 => Answer {
             number: 0,
             answer: 0,
             board: board.undo(),
-        };
+        },
+        _ => Board::new(height, width, cells),
     }
-    Board::new(height, width, cells)
 }
 
 // The numbers of a block of a board.
@@ -223,8 +217,7 @@ fn put_blocks(
     ensures { answer.new ≡ paste answer.old 0 (all_blocks (record { height = height; width = width; cells = cells.now }) calls.now) (length (all_blocks (record { height = height; width = width; cells = cells.now }) calls.now)) }
 {
     let mut board = fresh;
-    let mut i = 0;
-    while i < count {
+    for i in 0..count {
         let at = 4 * i;
         let made = called(
             board,
@@ -238,7 +231,6 @@ fn put_blocks(
         );
         put_block(answer, i * size, made);
         board = made.board;
-        i += 1;
     }
 }
 
