@@ -9,6 +9,7 @@ ghost use Rattle.board.specs.Held.{IsBoard};
 
 use board::{Answer, Board};
 use grid::Edge;
+use std::os::fd::AsRawFd;
 use stream::{byte_at, cells_at, later, number_at, replay_all, taken, taken_bytes, taken_ends};
 
 // No stream is longer.
@@ -95,7 +96,7 @@ fn room() -> [u8; 400000]
 fn main(rt: HostRuntime) {
     let mut buffer = room();
     // By the kit's io: std fills an array only by read_exact, which fails where the input ends before it.
-    let length = io::read_full(libc::STDIN_FILENO, &mut buffer);
+    let length = io::read_full(rt.stdin().as_raw_fd(), &mut buffer);
     let stream = &buffer[..length];
     replay_all(
         length,

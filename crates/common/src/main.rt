@@ -7,6 +7,8 @@
 ghost use Rattle.std.specs.Prelude.{◌≡◌, ◌≤◌, length};
 ghost use Rattle.model.specs.Routes.{routes_room};
 
+use std::os::fd::AsRawFd;
+
 // The line of row k. What cannot be written is passed over, here as below.
 fn print_row(rt: &impl Print, table: &[u8], width: usize, rows: usize, k: usize) {
     let text = tabling::row(table, width, rows, k);
@@ -33,7 +35,7 @@ fn print_table(rt: &impl Print, file: &[u8], buffer: &mut [u8], table: &mut [u8]
 fn main(rt: HostRuntime) {
     let mut input = io::buffer();
     // By the kit's io: std fills an array only by read_exact, which fails where the input ends before it.
-    let n = io::read_full(libc::STDIN_FILENO, &mut input);
+    let n = io::read_full(rt.stdin().as_raw_fd(), &mut input);
     let mut buffer = [0u8; 61504];
     let mut table = [0u8; 961];
     print_table(&rt, &input[..n], &mut buffer, &mut table);

@@ -5,6 +5,8 @@
 
 ghost use Rattle.std.specs.Prelude.{◌≤◌, length};
 
+use std::os::fd::AsRawFd;
+
 // The text for a file of at most 4,096 bytes, and codes. What cannot be written is passed over, here as below.
 fn print_judged(rt: &impl Print, file: &[u8], digits: &[u8])
     requires { (length file.now ≤ 4096) × (length digits.now ≤ 4096) }
@@ -14,12 +16,12 @@ fn print_judged(rt: &impl Print, file: &[u8], digits: &[u8])
 }
 
 // Reads standard input, and prints the text for it and the codes.
-fn judge_input(rt: &impl Print, digits: &[u8])
+fn judge_input(rt: &HostRuntime, digits: &[u8])
     requires { length digits.now ≤ 4096 }
 {
     let mut input = io::buffer();
     // By the kit's io: std fills an array only by read_exact, which fails where the input ends before it.
-    let n = io::read_full(libc::STDIN_FILENO, &mut input);
+    let n = io::read_full(rt.stdin().as_raw_fd(), &mut input);
     print_judged(rt, &input[..n], digits);
 }
 

@@ -6,6 +6,8 @@
 ghost use Rattle.std.specs.Prelude.{◌≡◌, ◌≤◌, length};
 ghost use Rattle.model.specs.Routes.{routes_limit, routes_room};
 
+use std::os::fd::AsRawFd;
+
 // The limit of visited boards.
 const LIMIT: u64 = 1000000;
 
@@ -20,7 +22,7 @@ fn print_list(rt: &impl Print, file: &[u8], limit: u64, buffer: &mut [u8])
 fn main(rt: HostRuntime) {
     let mut input = io::buffer();
     // By the kit's io: std fills an array only by read_exact, which fails where the input ends before it.
-    let n = io::read_full(libc::STDIN_FILENO, &mut input);
+    let n = io::read_full(rt.stdin().as_raw_fd(), &mut input);
     let mut buffer = [0u8; 61504];
     print_list(&rt, &input[..n], LIMIT, &mut buffer);
 }

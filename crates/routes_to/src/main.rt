@@ -8,6 +8,8 @@
 ghost use Rattle.std.specs.Prelude.{◌≡◌, ◌≤◌, length};
 ghost use Rattle.model.specs.RoutesTo.{routes_to_room};
 
+use std::os::fd::AsRawFd;
+
 // The whole text for a file of at most 4,096 bytes, with an answer buffer of 3,936,256 bytes lent: the head, then the lines.
 fn print_list(rt: &HostRuntime, file: &[u8], limit: u64, buffer: &mut [u8])
     requires { (length file.now ≤ 4096) × (length buffer.old ≡ routes_to_room) }
@@ -28,7 +30,7 @@ fn list_file(rt: &HostRuntime, file: &[u8], limit: u64)
 fn list_input(rt: &HostRuntime, limit: u64) {
     let mut input = io::buffer();
     // By the kit's io: std fills an array only by read_exact, which fails where the input ends before it.
-    let n = io::read_full(libc::STDIN_FILENO, &mut input);
+    let n = io::read_full(rt.stdin().as_raw_fd(), &mut input);
     list_file(rt, &input[..n], limit);
 }
 

@@ -3,6 +3,7 @@
 // only that this program is safe and ends.
 #![tactic(auto)]
 
+use std::os::fd::AsRawFd;
 use stream::{byte_at, cells_at, later, number_at, replay_all, taken_bytes};
 
 // No stream is longer.
@@ -80,7 +81,7 @@ fn runs_at(rt: &impl Print, stream: &[u8], place: usize, grid: u64) -> usize {
 fn main(rt: HostRuntime) {
     let mut buffer = io::large_buffer();
     // By the kit's io: std fills an array only by read_exact, which fails where the input ends before it.
-    let length = io::read_full(libc::STDIN_FILENO, &mut buffer);
+    let length = io::read_full(rt.stdin().as_raw_fd(), &mut buffer);
     let stream = &buffer[..length];
     replay_all(length, |place, grid| runs_at(&rt, stream, place, grid));
 }
