@@ -79,13 +79,13 @@ module _ (kind : List ℕ) (s : Arrays) (n : ℕ) (h : n < 1024) (k : Kinds kind
     pub none_second : (q w : ℕ) → w ≡ g.width → q ≡ second_pad w n → q < pads g
     none_second q w ew e = omega (arith, (rw ew at e) ∙ second_is, second_inside g s (edge_of n) y edge_there byte_there)
 
-    module _ (s₀ : Arrays) (is : s₀ ≡ stored s n 2) (r : ℕ) (er : r ≡ going s₀.count) where
+    module _ (s₀ : Arrays) (is : s₀ ≡ stored s n 2) (r : ℕ) (er : r ≡ going s.count) where
       abbrev after_store : Arrays
       after_store = with_count s₀ (r + 1)
 
       starts : none_arrays g s (edge_of n) y edge_there byte_there ≡ after_store
       starts = ap (λ (x : ℕ). record { edges = set s.edges x 2; ends = s.ends; log = log_stored s.log (logged s) x; count = going s.count + 1 }) at_slot
-          ∙ (λ i. with_count (sym is i) (sym (er ∙ ap (λ (x : Arrays). going x.count) is) i + 1))
+          ∙ (λ i. with_count (sym is i) (sym er i + 1))
 
       pub none_is_stored : Stored g s after_store
       none_is_stored = subst (λ (x : Arrays). Stored g s x) starts (none_stored g s (edge_of n) y edge_there byte_there)
@@ -509,6 +509,19 @@ module _ (kind : List ℕ) (s : Arrays) (k : Kinds kind) (y : Ready (grid_in kin
             let d = done_then gk (so_far.some low) (one_apart gk s₁ apart_ready code (slot_around w v side) (past_around w v side) (so_far.clue low) (side_small side) n en s₂ none_there r er) in
             let next : side + 1 ≡ suc side = omega arith in
             record { few = omega arith; clue = λ h. so_far.clue low; some = λ h. rw next d; all = λ h. all_told h (with_count s₂ r) d }
+
+        -- as the code does it: the edge becomes none, or there is nothing to do
+        module _ (n : ℕ) (en : n ≡ pick (ltb s₁.count 2048) (pick (keeps_apart s₁.edges s₁.ends code (slot_around w v side) (past_around w v side - 16)) (slot_around w v side) 0) 0) where
+          pub apart_takes : (n ≡ 0 → ⊥) → (s₂ : Arrays) → NoneAt gk s₁ n s₂ → Apart kind s v w code (side + 1) s₂
+          apart_takes some s₂ none_there = apart_more n en s₂ none_there s₂.count (rw (ne_eqb n 0 some) refl)
+
+          pub apart_skips : n ≡ 0 → Apart kind s v w code (side + 1) s₁
+          unfolding slot_on
+          apart_skips none = apart_more n en (with_count s₁ (ended s₁.count)) (rw none again) s₁.count (rw none refl)
+            where
+              again : NoneAt gk s₁ 0 (with_count s₁ (ended s₁.count))
+              again = let two = apart_ready.rim 0 (omega arith) refl in
+                  none_again kind s₁ 0 (omega arith) k apart_ready (λ z. omega (arith, two, z)) (λ o. omega (arith, two, o)) (ended s₁.count) refl
 
         -- an undecided edge on that side leads to a pad
         pub past_there : get_or s₁.edges (slot_around w v side) 0 ≡ 0 → 16 ≤ past_around w v side

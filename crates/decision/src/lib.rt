@@ -1,5 +1,5 @@
-// A decision and the pad check, which call each other over the board's arrays, which are lent: twice the undecided edges, plus one in the check,
-// falls. Each function equals the model's decision, check or item (boardview's Decided, Done and NoneAt), on flagged boards too, keeps what
+// A decision and the pad check, which call each other over the board's arrays, which are lent: three times the undecided edges, plus one
+// or two in the parts that come to a decision or to a check by themselves, falls. Each function equals the model's decision, check or item (boardview's Decided, Done and NoneAt), on flagged boards too, keeps what
 // is true of the arrays of every board, and logs what it stores, so that undoing the log's entries gives back the arrays.
 // The board's count is the log's length, plus 1024 if the flag is set, plus 2048 if it is set and the decision has ended; an ended decision goes
 // through every part unchanged.
@@ -25,14 +25,16 @@ const NONE: u8 = Edge::NONE.0;
 
 // Steps a, b and f: an edge is to have no line. At a slot off the board nothing changes.
 #[cycle(deciding)]
+#[inline]
 pub fn decide_none(board: &mut Arrays, kind: &[u8; 1024], slot: usize)
     requires { (slot < 1024) × Kinds kind.now × Ready (grid_in kind.now) board.old }
     ensures { NoneAt (grid_in kind.now) board.old slot board.new }
 {
     let state = board.edges[slot];
     if state == UNDECIDED {
+        let count = board.count;
         boardparts::store(board, slot, NONE);
-        board.count = boardparts::go_on(board.count) + 1;
+        board.count = boardparts::go_on(count) + 1;
         let v = boardparts::first_pad(slot);
         let q = boardparts::second_pad(slot, boardparts::width(kind));
         check(board, kind, v);
@@ -232,6 +234,7 @@ pub fn bar(board: &mut Arrays, kind: &[u8; 1024], v: usize, bit: u8, slot: usize
 
 // The pad check; a pad number of 512 stands for no pad.
 #[cycle(deciding)]
+#[inline]
 pub fn check(board: &mut Arrays, kind: &[u8; 1024], v: usize)
     requires { (v ≤ 512) × (v < 512 → v < pads (grid_in kind.now)) × Kinds kind.now × Ready (grid_in kind.now) board.old }
     ensures { Done (grid_in kind.now) 1 board.old (check_at v) board.new }
@@ -242,17 +245,26 @@ pub fn check(board: &mut Arrays, kind: &[u8; 1024], v: usize)
     if v == 512 {
         return;
     }
+    check_pad(board, kind, v);
+}
+
+// The pad check of a pad, where the decision goes on: its edges to pads whose ends are of another clue become none, and then the pad's own
+// edges may tell what the last of them is.
+#[cycle(deciding)]
+fn check_pad(board: &mut Arrays, kind: &[u8; 1024], v: usize)
+    requires { (v < pads (grid_in kind.now)) × (board.old.count < 2048) × Kinds kind.now × Ready (grid_in kind.now) board.old }
+    ensures { Done (grid_in kind.now) 1 board.old (check_at v) board.new }
+{
     let w = boardparts::width(kind);
     let code = boardparts::end_code(&board.ends, v);
-    let mut side = boardparts::first_side(board, w, v);
-    while side < 4 {
+    let first = boardparts::first_side(board, w, v);
+    for side in first..4 {
         let there = boardparts::slot_around(w, v, side);
         let past = boardparts::past_around(w, v, side);
         let slot = boardparts::slot_apart(board, code, there, past);
-        let before = board.count;
-        decide_none(board, kind, slot);
-        board.count = boardparts::count_after(slot, before, board.count);
-        side += 1;
+        if slot != 0 {
+            decide_none(board, kind, slot);
+        }
     }
     if ENDED <= board.count {
         return;

@@ -9,8 +9,9 @@ use Rattle.boardview.specs.Stores.{going_count}
 use Rattle.boardview.specs.Steps.{done_then, done_ended, slot_is_on, detour_off, detour_first, detour_both}
 use Rattle.boardview.specs.Items.{recount_decided, corner_off, corner_taken, corner_ends, corner_lines, bar_off, bar_none}
 use Rattle.boardview.specs.Check.{check_nothing, check_ends, check_settles}
-use Rattle.boardview.specs.Cycle.{same_on, none_room, none_high, none_first, none_second, none_is_stored, none_returns, none_raised, none_again, line_again, line_raised, line_room, line_first, line_second, line_is_stored, line_returns, line_end, right_up_left, right_up_right, right_up, right_left, right_right, right_below, right_corner, left_corner, right_bar_on, left_bar_on, right_done, down_left, down_left_below, down_if_left, down_right, down_right_below, down_if_right, down_far_left, down_far_right, picked_small, down_right_corner, down_left_corner, down_left_bar_on, down_right_bar_on, down_done, corner_exists, corner_down, corner_line_right, corner_line_left, corner_not_first, small_pad, past_left, past_up, settle_rests, leave_there, settle_leaves, draw_high, draw_right, draw_down, draw_small, settle_draws_right, settle_draws_down, line_stops, apart_begins, apart_ready, apart_fewer, apart_done, apart_more, past_there}
+use Rattle.boardview.specs.Cycle.{same_on, none_room, none_high, none_first, none_second, none_is_stored, none_returns, none_raised, none_again, line_again, line_raised, line_room, line_first, line_second, line_is_stored, line_returns, line_end, right_up_left, right_up_right, right_up, right_left, right_right, right_below, right_corner, left_corner, right_bar_on, left_bar_on, right_done, down_left, down_left_below, down_if_left, down_right, down_right_below, down_if_right, down_far_left, down_far_right, picked_small, down_right_corner, down_left_corner, down_left_bar_on, down_right_bar_on, down_done, corner_exists, corner_down, corner_line_right, corner_line_left, corner_not_first, small_pad, past_left, past_up, settle_rests, leave_there, settle_leaves, draw_high, draw_right, draw_down, draw_small, settle_draws_right, settle_draws_down, line_stops, apart_begins, apart_ready, apart_fewer, apart_done, apart_takes, apart_skips, past_there}
 use Prim.Native.Nat.{◌+◌, ◌*◌}
+use Rattle.decision.proofs.+deciding.Goals.{check_pad-then-slot-ne0, check_pad-else-slot-ne0}
 use Rattle.decision.proofs.+deciding.Goals as goal
 
 pub bar-returns-then-board-ge-ENDED : goal.bar-returns-then-board-ge-ENDED
@@ -38,144 +39,137 @@ check-returns-then-board-ge-ENDED t c = done_ended (grid_in c.args.kind.now) 1 _
 pub check-returns-then-v-eq512 : goal.check-returns-then-v-eq512
 check-returns-then-v-eq512 t c = check_nothing (grid_in c.args.kind.now) _ c.requires.3 _ c.if-v-eq512.true
 
-pub check-end_code-code-requires : goal.check-end_code-code-requires
-check-end_code-code-requires t c = let start = c in (omega (arith, small_pad start.args.kind.now _ start.requires.2 start.requires.3 start.args.v (start.requires.1 (omega (arith, start.requires.0, c.if-v-eq512.false)))), start.requires.3.ends_long)
-
-pub check-first_side-side-requires : goal.check-first_side-side-requires
-check-first_side-side-requires t c =
-    let start = c in
-    let if2-left = c.if-v-eq512.false in
-    let width-says = c.width-w.ensures in
-    (small_pad start.args.kind.now _ start.requires.2 start.requires.3 start.args.v (start.requires.1 (omega (arith, start.requires.0, if2-left))), (omega (arith, start.requires.2.least_width, width-says)), (omega (arith, start.requires.2.largest_width, width-says)), start.requires.3.ends_long, past_left start.args.kind.now _ start.requires.2 start.requires.3 start.args.v (start.requires.1 (omega (arith, start.requires.0, if2-left))), past_up start.args.kind.now _ start.requires.2 start.requires.3 start.args.v (start.requires.1 (omega (arith, start.requires.0, if2-left))) _ (width-says))
-
-pub check-loop-side-init : goal.check-loop-side-init
-check-loop-side-init t c = let start = c in apart_begins start.args.kind.now _ start.requires.2 start.requires.3 start.args.v (start.requires.1 (omega (arith, start.requires.0, c.if-v-eq512.false))) _ c.width-w.ensures _ c.end_code-code.ensures c.if-board-ge-ENDED.false _ c.first_side-side.ensures
-
-pub check-slot_around-there-requires : goal.check-slot_around-there-requires
-check-slot_around-there-requires t c = let start = c in (small_pad start.args.kind.now _ start.requires.2 start.requires.3 start.args.v (start.requires.1 (omega (arith, start.requires.0, c.if-v-eq512.false))), omega (arith, start.requires.2.largest_width, c.width-w.ensures))
-
-pub check-past_around-past-requires : goal.check-past_around-past-requires
-check-past_around-past-requires t c = let start = c in (small_pad start.args.kind.now _ start.requires.2 start.requires.3 start.args.v (start.requires.1 (omega (arith, start.requires.0, c.if-v-eq512.false))), omega (arith, start.requires.2.largest_width, c.width-w.ensures))
-
-pub check-slot_apart-slot-requires : goal.check-slot_apart-slot-requires
-check-slot_apart-slot-requires t c =
-    let start = c in
-    let slot-around-says = c.slot_around-there.ensures in
-    let if2-left = c.if-v-eq512.false in
-    let width-says = c.width-w.ensures in
-    let end-code-says = c.end_code-code.ensures in
-    let loop-inv = c.loop-side.invariant in
-    (slot-around-says.1, c.past_around-past.ensures.1, (λ z. rw c.past_around-past.ensures.0 (past_there start.args.kind.now _ start.requires.2 start.requires.3 start.args.v (start.requires.1 (omega (arith, start.requires.0, if2-left))) _ (width-says) _ (end-code-says) _ _ (loop-inv) c.loop-side-test.true (rw slot-around-says.0 at z))), (apart_ready start.args.kind.now _ start.requires.2 start.requires.3 start.args.v (start.requires.1 (omega (arith, start.requires.0, if2-left))) _ (width-says) _ (end-code-says) _ _ (loop-inv)).ends_long)
-
-pub check-decide_none-requires : goal.check-decide_none-requires
-check-decide_none-requires t c =
-    let start = c in
-    let if2-left = c.if-v-eq512.false in
-    let width-says = c.width-w.ensures in
-    let end-code-says = c.end_code-code.ensures in
-    let loop-inv = c.loop-side.invariant in
-    (omega (arith, start.decreases, apart_fewer start.args.kind.now _ start.requires.2 start.requires.3 start.args.v (start.requires.1 (omega (arith, start.requires.0, if2-left))) _ (width-says) _ (end-code-says) _ _ (loop-inv)), (c.slot_apart-slot.ensures.1, start.requires.2, apart_ready start.args.kind.now _ start.requires.2 start.requires.3 start.args.v (start.requires.1 (omega (arith, start.requires.0, if2-left))) _ (width-says) _ (end-code-says) _ _ (loop-inv)))
-
-pub check-overflow_add-side : goal.check-overflow_add-side
-check-overflow_add-side t c = omega (arith, c.loop-side-test.true)
-
-pub check-loop-side-smaller : goal.check-loop-side-smaller
-check-loop-side-smaller t c = omega (arith, c.loop-side-test.true)
-
-pub check-loop-side-preserved : goal.check-loop-side-preserved
-check-loop-side-preserved t c = let start = c in apart_more start.args.kind.now _ start.requires.2 start.requires.3 start.args.v (start.requires.1 (omega (arith, start.requires.0, c.if-v-eq512.false))) _ c.width-w.ensures _ c.end_code-code.ensures _ _ c.loop-side.invariant c.loop-side-test.true _ (rw (c.slot_around-there.ensures.0, c.past_around-past.ensures.0) at c.slot_apart-slot.ensures.0) _ c.decide_none.ensures _ c.count_after-board.ensures
-
-pub check-returns-then-board-ge-ENDED-2 : goal.check-returns-then-board-ge-ENDED-2
-check-returns-then-board-ge-ENDED-2 t c =
-    let start = c in
-    let if2-left = c.if-v-eq512.false in
-    check_ends (grid_in start.args.kind.now) _ _ start.args.v (omega (arith, small_pad start.args.kind.now _ start.requires.2 start.requires.3 start.args.v (start.requires.1 (omega (arith, start.requires.0, if2-left))))) c.if-board-ge-ENDED.false (apart_done start.args.kind.now _ start.requires.2 start.requires.3 start.args.v (start.requires.1 (omega (arith, start.requires.0, if2-left))) _ c.width-w.ensures _ c.end_code-code.ensures _ _ c.loop-side.invariant (λ low. absurd (omega (arith, c.loop-side-test.false)))) c.if-board-ge-ENDED-2.true
-
-pub check-action-action-requires : goal.check-action-action-requires
-check-action-action-requires t c =
-    let start = c in
-    let if2-left = c.if-v-eq512.false in
-    let width-says = c.width-w.ensures in
-    (small_pad start.args.kind.now _ start.requires.2 start.requires.3 start.args.v (start.requires.1 (omega (arith, start.requires.0, if2-left))), omega (arith, start.requires.2.largest_width, width-says), (apart_ready start.args.kind.now _ start.requires.2 start.requires.3 start.args.v (start.requires.1 (omega (arith, start.requires.0, if2-left))) _ (width-says) _ c.end_code-code.ensures _ _ c.loop-side.invariant).bytes, start.requires.2)
-
-pub check-rest-board-requires : goal.check-rest-board-requires
-check-rest-board-requires t c = c.if-action-lt2.true
-
-pub check-returns-then-action-lt2 : goal.check-returns-then-action-lt2
-check-returns-then-action-lt2 t c =
-    let start = c in
-    let if2-left = c.if-v-eq512.false in
-    let width-says = c.width-w.ensures in
-    let end-code-says = c.end_code-code.ensures in
-    let loop-inv = c.loop-side.invariant in
-    check_settles (grid_in start.args.kind.now) _ _ start.args.v (omega (arith, small_pad start.args.kind.now _ start.requires.2 start.requires.3 start.args.v (start.requires.1 (omega (arith, start.requires.0, if2-left))))) c.if-board-ge-ENDED.false (apart_done start.args.kind.now _ start.requires.2 start.requires.3 start.args.v (start.requires.1 (omega (arith, start.requires.0, if2-left))) _ (width-says) _ (end-code-says) _ _ (loop-inv) (λ low. absurd (omega (arith, c.loop-side-test.false)))) c.if-board-ge-ENDED-2.false _ (settle_rests start.args.kind.now _ start.requires.2 (apart_ready start.args.kind.now _ start.requires.2 start.requires.3 start.args.v (start.requires.1 (omega (arith, start.requires.0, if2-left))) _ (width-says) _ (end-code-says) _ _ (loop-inv)) start.args.v (start.requires.1 (omega (arith, start.requires.0, if2-left))) _ (width-says) _ c.action-action.ensures.0 c.if-action-lt2.true _ c.rest-board.ensures)
-
-pub check-decide_none-requires-then-action-ge-NONE_THERE : goal.check-decide_none-requires-then-action-ge-NONE_THERE
-check-decide_none-requires-then-action-ge-NONE_THERE t c =
-    let start = c in
-    let if2-left = c.if-v-eq512.false in
-    let width-says = c.width-w.ensures in
-    let end-code-says = c.end_code-code.ensures in
-    let loop-inv = c.loop-side.invariant in
-    ((omega (arith, start.decreases, apart_fewer start.args.kind.now _ start.requires.2 start.requires.3 start.args.v (start.requires.1 (omega (arith, start.requires.0, if2-left))) _ (width-says) _ (end-code-says) _ _ (loop-inv))), (leave_there start.args.kind.now _ start.requires.2 (apart_ready start.args.kind.now _ start.requires.2 start.requires.3 start.args.v (start.requires.1 (omega (arith, start.requires.0, if2-left))) _ (width-says) _ (end-code-says) _ _ (loop-inv)) start.args.v (start.requires.1 (omega (arith, start.requires.0, if2-left))) _ (width-says) _ c.action-action.ensures.0 c.if-action-ge-NONE_THERE.true, start.requires.2, apart_ready start.args.kind.now _ start.requires.2 start.requires.3 start.args.v (start.requires.1 (omega (arith, start.requires.0, if2-left))) _ (width-says) _ (end-code-says) _ _ (loop-inv)))
-
-pub check-returns-then-action-ge-NONE_THERE : goal.check-returns-then-action-ge-NONE_THERE
-check-returns-then-action-ge-NONE_THERE t c =
-    let start = c in
-    let if2-left = c.if-v-eq512.false in
-    let width-says = c.width-w.ensures in
-    let end-code-says = c.end_code-code.ensures in
-    let loop-inv = c.loop-side.invariant in
-    check_settles (grid_in start.args.kind.now) _ _ start.args.v (omega (arith, small_pad start.args.kind.now _ start.requires.2 start.requires.3 start.args.v (start.requires.1 (omega (arith, start.requires.0, if2-left))))) c.if-board-ge-ENDED.false (apart_done start.args.kind.now _ start.requires.2 start.requires.3 start.args.v (start.requires.1 (omega (arith, start.requires.0, if2-left))) _ (width-says) _ (end-code-says) _ _ (loop-inv) (λ low. absurd (omega (arith, c.loop-side-test.false)))) c.if-board-ge-ENDED-2.false _ (settle_leaves start.args.kind.now _ start.requires.2 (apart_ready start.args.kind.now _ start.requires.2 start.requires.3 start.args.v (start.requires.1 (omega (arith, start.requires.0, if2-left))) _ (width-says) _ (end-code-says) _ _ (loop-inv)) start.args.v (start.requires.1 (omega (arith, start.requires.0, if2-left))) _ (width-says) _ c.action-action.ensures.0 c.if-action-ge-NONE_THERE.true _ c.decide_none-then-action-ge-NONE_THERE.ensures)
-
-pub check-overflow_sub-pad : goal.check-overflow_sub-pad
-check-overflow_sub-pad t c =
-    let start = c in
-    let if2-left = c.if-v-eq512.false in
-    let width-says = c.width-w.ensures in
-    omega (arith, draw_high start.args.kind.now _ start.requires.2 (apart_ready start.args.kind.now _ start.requires.2 start.requires.3 start.args.v (start.requires.1 (omega (arith, start.requires.0, if2-left))) _ (width-says) _ c.end_code-code.ensures _ _ c.loop-side.invariant) start.args.v (start.requires.1 (omega (arith, start.requires.0, if2-left))) _ (width-says) _ c.action-action.ensures.0 c.if-action-lt2.false c.if-action-ge-NONE_THERE.false)
-
-pub check-decide_line_right-requires : goal.check-decide_line_right-requires
-check-decide_line_right-requires t c =
-    let start = c in
-    let if2-left = c.if-v-eq512.false in
-    let width-says = c.width-w.ensures in
-    let end-code-says = c.end_code-code.ensures in
-    let loop-inv = c.loop-side.invariant in
-    let action-says = c.action-action.ensures in
-    let if4-left = c.if-action-lt2.false in
-    let if5-left = c.if-action-ge-NONE_THERE.false in
-    ((omega (arith, start.decreases, apart_fewer start.args.kind.now _ start.requires.2 start.requires.3 start.args.v (start.requires.1 (omega (arith, start.requires.0, if2-left))) _ (width-says) _ (end-code-says) _ _ (loop-inv))), (draw_right start.args.kind.now _ start.requires.2 (apart_ready start.args.kind.now _ start.requires.2 start.requires.3 start.args.v (start.requires.1 (omega (arith, start.requires.0, if2-left))) _ (width-says) _ (end-code-says) _ _ (loop-inv)) start.args.v (start.requires.1 (omega (arith, start.requires.0, if2-left))) _ (width-says) _ action-says.0 (if4-left) (if5-left) _ refl c.if-action-eq0.true, draw_small start.args.kind.now _ start.requires.2 (apart_ready start.args.kind.now _ start.requires.2 start.requires.3 start.args.v (start.requires.1 (omega (arith, start.requires.0, if2-left))) _ (width-says) _ (end-code-says) _ _ (loop-inv)) start.args.v (start.requires.1 (omega (arith, start.requires.0, if2-left))) _ (width-says) _ action-says.0 (if4-left) (if5-left) _ refl, start.requires.2, apart_ready start.args.kind.now _ start.requires.2 start.requires.3 start.args.v (start.requires.1 (omega (arith, start.requires.0, if2-left))) _ (width-says) _ (end-code-says) _ _ (loop-inv)))
-
-pub check-returns-then-action-eq0 : goal.check-returns-then-action-eq0
-check-returns-then-action-eq0 t c =
-    let start = c in
-    let if2-left = c.if-v-eq512.false in
-    let width-says = c.width-w.ensures in
-    let end-code-says = c.end_code-code.ensures in
-    let loop-inv = c.loop-side.invariant in
-    check_settles (grid_in start.args.kind.now) _ _ start.args.v (omega (arith, small_pad start.args.kind.now _ start.requires.2 start.requires.3 start.args.v (start.requires.1 (omega (arith, start.requires.0, if2-left))))) c.if-board-ge-ENDED.false (apart_done start.args.kind.now _ start.requires.2 start.requires.3 start.args.v (start.requires.1 (omega (arith, start.requires.0, if2-left))) _ (width-says) _ (end-code-says) _ _ (loop-inv) (λ low. absurd (omega (arith, c.loop-side-test.false)))) c.if-board-ge-ENDED-2.false _ (settle_draws_right start.args.kind.now _ start.requires.2 (apart_ready start.args.kind.now _ start.requires.2 start.requires.3 start.args.v (start.requires.1 (omega (arith, start.requires.0, if2-left))) _ (width-says) _ (end-code-says) _ _ (loop-inv)) start.args.v (start.requires.1 (omega (arith, start.requires.0, if2-left))) _ (width-says) _ c.action-action.ensures.0 c.if-action-lt2.false c.if-action-ge-NONE_THERE.false _ refl c.if-action-eq0.true _ c.decide_line_right.ensures)
-
-pub check-decide_line_down-requires : goal.check-decide_line_down-requires
-check-decide_line_down-requires t c =
-    let start = c in
-    let if2-left = c.if-v-eq512.false in
-    let width-says = c.width-w.ensures in
-    let end-code-says = c.end_code-code.ensures in
-    let loop-inv = c.loop-side.invariant in
-    let action-says = c.action-action.ensures in
-    let if4-left = c.if-action-lt2.false in
-    let if5-left = c.if-action-ge-NONE_THERE.false in
-    ((omega (arith, start.decreases, apart_fewer start.args.kind.now _ start.requires.2 start.requires.3 start.args.v (start.requires.1 (omega (arith, start.requires.0, if2-left))) _ (width-says) _ (end-code-says) _ _ (loop-inv))), (draw_down start.args.kind.now _ start.requires.2 (apart_ready start.args.kind.now _ start.requires.2 start.requires.3 start.args.v (start.requires.1 (omega (arith, start.requires.0, if2-left))) _ (width-says) _ (end-code-says) _ _ (loop-inv)) start.args.v (start.requires.1 (omega (arith, start.requires.0, if2-left))) _ (width-says) _ action-says.0 (if4-left) (if5-left) _ refl c.if-action-eq0.false, draw_small start.args.kind.now _ start.requires.2 (apart_ready start.args.kind.now _ start.requires.2 start.requires.3 start.args.v (start.requires.1 (omega (arith, start.requires.0, if2-left))) _ (width-says) _ (end-code-says) _ _ (loop-inv)) start.args.v (start.requires.1 (omega (arith, start.requires.0, if2-left))) _ (width-says) _ action-says.0 (if4-left) (if5-left) _ refl, start.requires.2, apart_ready start.args.kind.now _ start.requires.2 start.requires.3 start.args.v (start.requires.1 (omega (arith, start.requires.0, if2-left))) _ (width-says) _ (end-code-says) _ _ (loop-inv)))
+pub check-check_pad-requires : goal.check-check_pad-requires
+check-check_pad-requires t c = let start = c in (omega (arith, start.decreases), (start.requires.1 (omega (arith, start.requires.0, c.if-v-eq512.false)), c.if-board-ge-ENDED.false, start.requires.2, start.requires.3))
 
 pub check-returns : goal.check-returns
-check-returns t c =
+check-returns t c = c.check_pad.ensures
+
+pub check_pad-end_code-code-requires : goal.check_pad-end_code-code-requires
+check_pad-end_code-code-requires t c = let start = c in (omega (arith, small_pad start.args.kind.now _ start.requires.2 start.requires.3 start.args.v start.requires.0), start.requires.3.ends_long)
+
+pub check_pad-first_side-first-requires : goal.check_pad-first_side-first-requires
+check_pad-first_side-first-requires t c =
     let start = c in
-    let if2-left = c.if-v-eq512.false in
+    let width-says = c.width-w.ensures in
+    (small_pad start.args.kind.now _ start.requires.2 start.requires.3 start.args.v start.requires.0, (omega (arith, start.requires.2.least_width, width-says)), (omega (arith, start.requires.2.largest_width, width-says)), start.requires.3.ends_long, past_left start.args.kind.now _ start.requires.2 start.requires.3 start.args.v start.requires.0, past_up start.args.kind.now _ start.requires.2 start.requires.3 start.args.v start.requires.0 _ (width-says))
+
+pub check_pad-loop-side-init : goal.check_pad-loop-side-init
+check_pad-loop-side-init t c = let start = c in apart_begins start.args.kind.now _ start.requires.2 start.requires.3 start.args.v start.requires.0 _ c.width-w.ensures _ c.end_code-code.ensures start.requires.1 _ c.first_side-first.ensures
+
+pub check_pad-slot_around-there-requires : goal.check_pad-slot_around-there-requires
+check_pad-slot_around-there-requires t c = let start = c in (small_pad start.args.kind.now _ start.requires.2 start.requires.3 start.args.v start.requires.0, omega (arith, start.requires.2.largest_width, c.width-w.ensures))
+
+pub check_pad-past_around-past-requires : goal.check_pad-past_around-past-requires
+check_pad-past_around-past-requires t c = let start = c in (small_pad start.args.kind.now _ start.requires.2 start.requires.3 start.args.v start.requires.0, omega (arith, start.requires.2.largest_width, c.width-w.ensures))
+
+pub check_pad-slot_apart-slot-requires : goal.check_pad-slot_apart-slot-requires
+check_pad-slot_apart-slot-requires t c =
+    let start = c in
+    let slot-around-says = c.slot_around-there.ensures in
     let width-says = c.width-w.ensures in
     let end-code-says = c.end_code-code.ensures in
     let loop-inv = c.loop-side.invariant in
-    check_settles (grid_in start.args.kind.now) _ _ start.args.v (omega (arith, small_pad start.args.kind.now _ start.requires.2 start.requires.3 start.args.v (start.requires.1 (omega (arith, start.requires.0, if2-left))))) c.if-board-ge-ENDED.false (apart_done start.args.kind.now _ start.requires.2 start.requires.3 start.args.v (start.requires.1 (omega (arith, start.requires.0, if2-left))) _ (width-says) _ (end-code-says) _ _ (loop-inv) (λ low. absurd (omega (arith, c.loop-side-test.false)))) c.if-board-ge-ENDED-2.false _ (settle_draws_down start.args.kind.now _ start.requires.2 (apart_ready start.args.kind.now _ start.requires.2 start.requires.3 start.args.v (start.requires.1 (omega (arith, start.requires.0, if2-left))) _ (width-says) _ (end-code-says) _ _ (loop-inv)) start.args.v (start.requires.1 (omega (arith, start.requires.0, if2-left))) _ (width-says) _ c.action-action.ensures.0 c.if-action-lt2.false c.if-action-ge-NONE_THERE.false _ refl c.if-action-eq0.false _ c.decide_line_down.ensures)
+    (slot-around-says.1, c.past_around-past.ensures.1, (λ z. rw c.past_around-past.ensures.0 (past_there start.args.kind.now _ start.requires.2 start.requires.3 start.args.v start.requires.0 _ (width-says) _ (end-code-says) _ _ (loop-inv) c.loop-side-test.true (rw slot-around-says.0 at z))), (apart_ready start.args.kind.now _ start.requires.2 start.requires.3 start.args.v start.requires.0 _ (width-says) _ (end-code-says) _ _ (loop-inv)).ends_long)
+
+pub check_pad-decide_none-requires : goal.check_pad-decide_none-requires
+check_pad-decide_none-requires t c =
+    let start = c in
+    let width-says = c.width-w.ensures in
+    let end-code-says = c.end_code-code.ensures in
+    let loop-inv = c.loop-side.invariant in
+    (omega (arith, start.decreases, apart_fewer start.args.kind.now _ start.requires.2 start.requires.3 start.args.v start.requires.0 _ (width-says) _ (end-code-says) _ _ (loop-inv)), (c.slot_apart-slot.ensures.1, start.requires.2, apart_ready start.args.kind.now _ start.requires.2 start.requires.3 start.args.v start.requires.0 _ (width-says) _ (end-code-says) _ _ (loop-inv)))
+
+pub check_pad-loop-side-preserved : goal.check_pad-loop-side-preserved
+check_pad-loop-side-preserved t c =
+    let start = c in
+    let said = rw (c.slot_around-there.ensures.0, c.past_around-past.ensures.0) at c.slot_apart-slot.ensures.0 in
+    elim c.if-slot-ne0.branch [
+        | check_pad-then-slot-ne0 w ↦ rw w.board-is (apart_takes start.args.kind.now _ start.requires.2 start.requires.3 start.args.v start.requires.0 _ c.width-w.ensures _ c.end_code-code.ensures _ _ c.loop-side.invariant c.loop-side-test.true _ said w.if-slot-ne0.true _ w.decide_none.ensures)
+        | check_pad-else-slot-ne0 w ↦ rw w.board-is (apart_skips start.args.kind.now _ start.requires.2 start.requires.3 start.args.v start.requires.0 _ c.width-w.ensures _ c.end_code-code.ensures _ _ c.loop-side.invariant c.loop-side-test.true _ said w.if-slot-ne0.false)
+    ]
+
+pub check_pad-returns-then-board-ge-ENDED : goal.check_pad-returns-then-board-ge-ENDED
+check_pad-returns-then-board-ge-ENDED t c =
+    let start = c in
+    check_ends (grid_in start.args.kind.now) _ _ start.args.v (omega (arith, small_pad start.args.kind.now _ start.requires.2 start.requires.3 start.args.v start.requires.0)) start.requires.1 (apart_done start.args.kind.now _ start.requires.2 start.requires.3 start.args.v start.requires.0 _ c.width-w.ensures _ c.end_code-code.ensures _ _ c.loop-side.invariant (λ low. absurd (omega (arith, c.loop-side-test.false)))) c.if-board-ge-ENDED.true
+
+pub check_pad-action-action-requires : goal.check_pad-action-action-requires
+check_pad-action-action-requires t c =
+    let start = c in
+    let width-says = c.width-w.ensures in
+    (small_pad start.args.kind.now _ start.requires.2 start.requires.3 start.args.v start.requires.0, omega (arith, start.requires.2.largest_width, width-says), (apart_ready start.args.kind.now _ start.requires.2 start.requires.3 start.args.v start.requires.0 _ (width-says) _ c.end_code-code.ensures _ _ c.loop-side.invariant).bytes, start.requires.2)
+
+pub check_pad-rest-board-requires : goal.check_pad-rest-board-requires
+check_pad-rest-board-requires t c = c.if-action-lt2.true
+
+pub check_pad-returns-then-action-lt2 : goal.check_pad-returns-then-action-lt2
+check_pad-returns-then-action-lt2 t c =
+    let start = c in
+    let width-says = c.width-w.ensures in
+    let end-code-says = c.end_code-code.ensures in
+    let loop-inv = c.loop-side.invariant in
+    check_settles (grid_in start.args.kind.now) _ _ start.args.v (omega (arith, small_pad start.args.kind.now _ start.requires.2 start.requires.3 start.args.v start.requires.0)) start.requires.1 (apart_done start.args.kind.now _ start.requires.2 start.requires.3 start.args.v start.requires.0 _ (width-says) _ (end-code-says) _ _ (loop-inv) (λ low. absurd (omega (arith, c.loop-side-test.false)))) c.if-board-ge-ENDED.false _ (settle_rests start.args.kind.now _ start.requires.2 (apart_ready start.args.kind.now _ start.requires.2 start.requires.3 start.args.v start.requires.0 _ (width-says) _ (end-code-says) _ _ (loop-inv)) start.args.v start.requires.0 _ (width-says) _ c.action-action.ensures.0 c.if-action-lt2.true _ c.rest-board.ensures)
+
+pub check_pad-decide_none-requires-then-action-ge-NONE_THERE : goal.check_pad-decide_none-requires-then-action-ge-NONE_THERE
+check_pad-decide_none-requires-then-action-ge-NONE_THERE t c =
+    let start = c in
+    let width-says = c.width-w.ensures in
+    let end-code-says = c.end_code-code.ensures in
+    let loop-inv = c.loop-side.invariant in
+    ((omega (arith, start.decreases, apart_fewer start.args.kind.now _ start.requires.2 start.requires.3 start.args.v start.requires.0 _ (width-says) _ (end-code-says) _ _ (loop-inv))), (leave_there start.args.kind.now _ start.requires.2 (apart_ready start.args.kind.now _ start.requires.2 start.requires.3 start.args.v start.requires.0 _ (width-says) _ (end-code-says) _ _ (loop-inv)) start.args.v start.requires.0 _ (width-says) _ c.action-action.ensures.0 c.if-action-ge-NONE_THERE.true, start.requires.2, apart_ready start.args.kind.now _ start.requires.2 start.requires.3 start.args.v start.requires.0 _ (width-says) _ (end-code-says) _ _ (loop-inv)))
+
+pub check_pad-returns-then-action-ge-NONE_THERE : goal.check_pad-returns-then-action-ge-NONE_THERE
+check_pad-returns-then-action-ge-NONE_THERE t c =
+    let start = c in
+    let width-says = c.width-w.ensures in
+    let end-code-says = c.end_code-code.ensures in
+    let loop-inv = c.loop-side.invariant in
+    check_settles (grid_in start.args.kind.now) _ _ start.args.v (omega (arith, small_pad start.args.kind.now _ start.requires.2 start.requires.3 start.args.v start.requires.0)) start.requires.1 (apart_done start.args.kind.now _ start.requires.2 start.requires.3 start.args.v start.requires.0 _ (width-says) _ (end-code-says) _ _ (loop-inv) (λ low. absurd (omega (arith, c.loop-side-test.false)))) c.if-board-ge-ENDED.false _ (settle_leaves start.args.kind.now _ start.requires.2 (apart_ready start.args.kind.now _ start.requires.2 start.requires.3 start.args.v start.requires.0 _ (width-says) _ (end-code-says) _ _ (loop-inv)) start.args.v start.requires.0 _ (width-says) _ c.action-action.ensures.0 c.if-action-ge-NONE_THERE.true _ c.decide_none-then-action-ge-NONE_THERE.ensures)
+
+pub check_pad-overflow_sub-pad : goal.check_pad-overflow_sub-pad
+check_pad-overflow_sub-pad t c =
+    let start = c in
+    let width-says = c.width-w.ensures in
+    omega (arith, draw_high start.args.kind.now _ start.requires.2 (apart_ready start.args.kind.now _ start.requires.2 start.requires.3 start.args.v start.requires.0 _ (width-says) _ c.end_code-code.ensures _ _ c.loop-side.invariant) start.args.v start.requires.0 _ (width-says) _ c.action-action.ensures.0 c.if-action-lt2.false c.if-action-ge-NONE_THERE.false)
+
+pub check_pad-decide_line_right-requires : goal.check_pad-decide_line_right-requires
+check_pad-decide_line_right-requires t c =
+    let start = c in
+    let width-says = c.width-w.ensures in
+    let end-code-says = c.end_code-code.ensures in
+    let loop-inv = c.loop-side.invariant in
+    let action-says = c.action-action.ensures in
+    let if4-left = c.if-action-lt2.false in
+    let if5-left = c.if-action-ge-NONE_THERE.false in
+    ((omega (arith, start.decreases, apart_fewer start.args.kind.now _ start.requires.2 start.requires.3 start.args.v start.requires.0 _ (width-says) _ (end-code-says) _ _ (loop-inv))), (draw_right start.args.kind.now _ start.requires.2 (apart_ready start.args.kind.now _ start.requires.2 start.requires.3 start.args.v start.requires.0 _ (width-says) _ (end-code-says) _ _ (loop-inv)) start.args.v start.requires.0 _ (width-says) _ action-says.0 (if4-left) (if5-left) _ refl c.if-action-eq0.true, draw_small start.args.kind.now _ start.requires.2 (apart_ready start.args.kind.now _ start.requires.2 start.requires.3 start.args.v start.requires.0 _ (width-says) _ (end-code-says) _ _ (loop-inv)) start.args.v start.requires.0 _ (width-says) _ action-says.0 (if4-left) (if5-left) _ refl, start.requires.2, apart_ready start.args.kind.now _ start.requires.2 start.requires.3 start.args.v start.requires.0 _ (width-says) _ (end-code-says) _ _ (loop-inv)))
+
+pub check_pad-returns-then-action-eq0 : goal.check_pad-returns-then-action-eq0
+check_pad-returns-then-action-eq0 t c =
+    let start = c in
+    let width-says = c.width-w.ensures in
+    let end-code-says = c.end_code-code.ensures in
+    let loop-inv = c.loop-side.invariant in
+    check_settles (grid_in start.args.kind.now) _ _ start.args.v (omega (arith, small_pad start.args.kind.now _ start.requires.2 start.requires.3 start.args.v start.requires.0)) start.requires.1 (apart_done start.args.kind.now _ start.requires.2 start.requires.3 start.args.v start.requires.0 _ (width-says) _ (end-code-says) _ _ (loop-inv) (λ low. absurd (omega (arith, c.loop-side-test.false)))) c.if-board-ge-ENDED.false _ (settle_draws_right start.args.kind.now _ start.requires.2 (apart_ready start.args.kind.now _ start.requires.2 start.requires.3 start.args.v start.requires.0 _ (width-says) _ (end-code-says) _ _ (loop-inv)) start.args.v start.requires.0 _ (width-says) _ c.action-action.ensures.0 c.if-action-lt2.false c.if-action-ge-NONE_THERE.false _ refl c.if-action-eq0.true _ c.decide_line_right.ensures)
+
+pub check_pad-decide_line_down-requires : goal.check_pad-decide_line_down-requires
+check_pad-decide_line_down-requires t c =
+    let start = c in
+    let width-says = c.width-w.ensures in
+    let end-code-says = c.end_code-code.ensures in
+    let loop-inv = c.loop-side.invariant in
+    let action-says = c.action-action.ensures in
+    let if4-left = c.if-action-lt2.false in
+    let if5-left = c.if-action-ge-NONE_THERE.false in
+    ((omega (arith, start.decreases, apart_fewer start.args.kind.now _ start.requires.2 start.requires.3 start.args.v start.requires.0 _ (width-says) _ (end-code-says) _ _ (loop-inv))), (draw_down start.args.kind.now _ start.requires.2 (apart_ready start.args.kind.now _ start.requires.2 start.requires.3 start.args.v start.requires.0 _ (width-says) _ (end-code-says) _ _ (loop-inv)) start.args.v start.requires.0 _ (width-says) _ action-says.0 (if4-left) (if5-left) _ refl c.if-action-eq0.false, draw_small start.args.kind.now _ start.requires.2 (apart_ready start.args.kind.now _ start.requires.2 start.requires.3 start.args.v start.requires.0 _ (width-says) _ (end-code-says) _ _ (loop-inv)) start.args.v start.requires.0 _ (width-says) _ action-says.0 (if4-left) (if5-left) _ refl, start.requires.2, apart_ready start.args.kind.now _ start.requires.2 start.requires.3 start.args.v start.requires.0 _ (width-says) _ (end-code-says) _ _ (loop-inv)))
+
+pub check_pad-returns : goal.check_pad-returns
+check_pad-returns t c =
+    let start = c in
+    let width-says = c.width-w.ensures in
+    let end-code-says = c.end_code-code.ensures in
+    let loop-inv = c.loop-side.invariant in
+    check_settles (grid_in start.args.kind.now) _ _ start.args.v (omega (arith, small_pad start.args.kind.now _ start.requires.2 start.requires.3 start.args.v start.requires.0)) start.requires.1 (apart_done start.args.kind.now _ start.requires.2 start.requires.3 start.args.v start.requires.0 _ (width-says) _ (end-code-says) _ _ (loop-inv) (λ low. absurd (omega (arith, c.loop-side-test.false)))) c.if-board-ge-ENDED.false _ (settle_draws_down start.args.kind.now _ start.requires.2 (apart_ready start.args.kind.now _ start.requires.2 start.requires.3 start.args.v start.requires.0 _ (width-says) _ (end-code-says) _ _ (loop-inv)) start.args.v start.requires.0 _ (width-says) _ c.action-action.ensures.0 c.if-action-lt2.false c.if-action-ge-NONE_THERE.false _ refl c.if-action-eq0.false _ c.decide_line_down.ensures)
 
 pub corner_left-returns-then-board-ge-ENDED : goal.corner_left-returns-then-board-ge-ENDED
 corner_left-returns-then-board-ge-ENDED t c = done_ended (grid_in c.args.kind.now) 1 _ _ c.requires.4 c.if-board-ge-ENDED.true
@@ -683,7 +677,7 @@ pub decide_none-second_pad-q-requires : goal.decide_none-second_pad-q-requires
 decide_none-second_pad-q-requires t c = let start = c in (none_high start.args.kind.now _ start.args.slot start.requires.0 start.requires.1 start.requires.2 c.if-state-eq-UNDECIDED.true, start.requires.0, rw c.width.ensures start.requires.1.largest_width)
 
 pub decide_none-overflow_add-board : goal.decide_none-overflow_add-board
-decide_none-overflow_add-board t c = let start = c in omega (arith, c.go_on.ensures, ap (λ (s : Arrays). going s.count) c.store.ensures, (going_count start.args.board.now.count start.requires.2.mode).1)
+decide_none-overflow_add-board t c = let start = c in omega (arith, c.go_on.ensures, (going_count start.args.board.now.count start.requires.2.mode).1)
 
 pub decide_none-check-requires : goal.decide_none-check-requires
 decide_none-check-requires t c =
