@@ -15,7 +15,7 @@ ghost use Rattle.board.specs.Held.{Held, IsBoard, Says, Shows, declined_with};
 ghost use Rattle.board.specs.ShowLaws.{Laid, end_at_index};
 ghost use Rattle.board.specs.CallLaws.{CanGoBack, board_back};
 
-use boardparts::FLAGGED;
+use boardparts::{Direction, FLAGGED};
 use boardview::Arrays;
 use grid::{Edge, Pads};
 
@@ -72,8 +72,8 @@ fn decide_pads(arrays: &mut Arrays, kind: &[u8; 1024], pads: Pads, line: bool)
     ensures { IfEdge (place_of pads) (λ e. Decided (grid_in kind.now) arrays.old e (line_or_none line) arrays.new) }
 {
     match pads {
-        Pads::Beside(v, _) => decision::decide_right(arrays, kind, v, line),
-        Pads::Above(v, _) => decision::decide_down(arrays, kind, v, line),
+        Pads::Beside(v, _) => decision::decide(arrays, kind, Direction::Right, v, line),
+        Pads::Above(v, _) => decision::decide(arrays, kind, Direction::Down, v, line),
         Pads::NoEdge => (),
     }
 }

@@ -3,10 +3,12 @@
 #![tactic(auto)]
 
 ghost use Rattle.std.specs.Prelude.{◌≡◌, true, false, ℕ, ◌+◌, ◌*◌, ◌-◌, ◌/◌, ◌%◌, ◌≤◌, ◌<◌, get_or, set, length, eqb, ltb, pos};
-ghost use Rattle.rules.specs.Drawing.{num};
+ghost use Rattle.rules.specs.Grid.{right};
+ghost use Rattle.rules.specs.Drawing.{num, on_left};
 ghost use Rattle.model.specs.JoinedEnds.{is_through, unjoinable};
-ghost use Rattle.boardview.specs.View.{logged, pick, stopped, ended, going, end_at, has_bit, grid_in, second_pad, joined, pad_number, code_number, rival, keeps_apart, clue_apart, slot_around, past_around, action_around, Kinds};
+ghost use Rattle.boardview.specs.View.{logged, slot, beside, corner_bit, pick, stopped, ended, going, end_at, has_bit, grid_in, second_pad, joined, pad_number, code_number, rival, keeps_apart, clue_apart, slot_around, past_around, action_around, Kinds};
 ghost use Rattle.boardview.specs.Actions.{action_index};
+ghost use Rattle.boardparts.specs.Sides.{side_of, edge_to};
 ghost use Rattle.boardview.specs.Unwind.{stored, log_joined, LineBegun};
 
 use boardview::Arrays;
@@ -38,6 +40,56 @@ pub const ENDED: usize = 2048;
 
 // What the pad check does last is a slot for a line there, or this plus a slot for none there.
 pub const NONE_THERE: usize = 1024;
+
+// The two sides of a pad in its row.
+#[derive(Clone, Copy)]
+pub enum Side {
+    Right,
+    Left,
+}
+
+impl Side {
+    // The bit of a pad's kind that says that it has an edge downward and one to the side.
+    pub fn corner(self) -> u8
+        ensures { result ≡ corner_bit (side_of self) }
+    {
+        match self {
+            Side::Right => CORNER_RIGHT,
+            Side::Left => CORNER_LEFT,
+        }
+    }
+
+    // The first pad of the edge beside a pad on the side.
+    pub fn first_beside(self, v: usize) -> usize
+        requires { side_of self ≡ on_left → 1 ≤ v }
+        ensures { (right result ≡ beside (side_of self) v) × (result ≤ v) }
+    {
+        match self {
+            Side::Right => v,
+            Side::Left => v - 1,
+        }
+    }
+}
+
+// The two directions in which an edge leads from its first pad.
+#[derive(Clone, Copy)]
+pub enum Direction {
+    Right,
+    Down,
+}
+
+impl Direction {
+    // The slot of the edge from a pad.
+    pub fn slot(self, v: usize) -> usize
+        requires { v < 256 }
+        ensures { result ≡ slot (edge_to self v) }
+    {
+        match self {
+            Direction::Right => 32 + 2 * v,
+            Direction::Down => 33 + 2 * v,
+        }
+    }
+}
 
 // A byte as a number.
 pub fn wide(byte: u8) -> usize

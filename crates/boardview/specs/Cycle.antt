@@ -20,7 +20,7 @@ use Rattle.model.specs.JoinedEnds.{End, through, at_pad, at_clue, unjoinable}
 use Rattle.model.specs.PadTests.{has_right, has_left, has_down, has_up, on_board}
 use Rattle.model.specs.Board.{line, Item, has_side, barred, shape_items, keep_aparts, around}
 use Rattle.boardview.specs.declared.Arrays.{Arrays}
-use Rattle.boardview.specs.View.{logged, stopped, ended, going, pick, slot, edge_of, slot_on, state_of, end_at, second_pad, has_bit, grid_in, corner_bit, joined, undecided_in, Kinds, Ready, Decided, Done, NoneAt, Settled, pad_number, detour_at, corner_at, bar_at, check_at, code_number, keeps_apart, some_apart, clue_apart, keep_at, slot_around, past_around, action_around}
+use Rattle.boardview.specs.View.{logged, beside, stopped, ended, going, pick, slot, edge_of, slot_on, state_of, end_at, second_pad, has_bit, grid_in, corner_bit, joined, undecided_in, Kinds, Ready, Decided, Done, NoneAt, Settled, pad_number, detour_at, corner_at, bar_at, check_at, code_number, keeps_apart, some_apart, clue_apart, keep_at, slot_around, past_around, action_around}
 use Rattle.model.specs.Lists.{default_free}
 use Rattle.boardview.specs.Bytes.{slot_of_edge, on_slot}
 use Rattle.boardview.specs.Unwind.{log_stored, log_joined, stored, LineBegun}
@@ -360,6 +360,13 @@ module _ (kind : List ℕ) (k : Kinds kind) (q : ℕ) (inside : q < pads (grid_i
 
   pub corner_line_left : t ≡ has_bit kind q 16 → t ≡ true → on_board gc (right (q - 1)) ≡ true
   corner_line_left et ht = rw (lt-ltb ((q - 1) % gc.width + 1) gc.width (column_before gc.width q (omega (arith, k.least_width)) (left_column et ht)), lt-ltb (q - 1) (pads gc) (omega arith)) refl
+
+  pub corner_line : (side : Side) → t ≡ has_bit kind q (corner_bit side) → t ≡ true → on_board gc (beside side q) ≡ true
+  corner_line on_right et ht = corner_line_right et ht
+  corner_line on_left et ht = corner_line_left et ht
+
+  pub corner_not_left : (side : Side) → t ≡ has_bit kind q (corner_bit side) → t ≡ true → side ≡ on_left → 1 ≤ q
+  corner_not_left side et ht is = corner_not_first (rw is at et) ht
 
 -- the pads beyond, as the code counts them
 pub beyond_left : (v : ℕ) → 15 + v - 16 ≡ v - 1

@@ -2,14 +2,15 @@
 use mathlib.Core.Path.{refl, ap, sym, ◌∙◌}
 use native.Mathlib.Omega.{arith}
 use Rattle.rules.specs.Grid.{right, down}
-use Rattle.rules.specs.Drawing.{on_left, on_right}
+use Rattle.boardparts.specs.Sides.{side_of}
+use Rattle.model.specs.PadTests.{on_board}
 use Rattle.boardview.specs.View.{grid_in, has_bit, going}
 use Rattle.boardview.specs.declared.Arrays.{Arrays}
 use Rattle.boardview.specs.Stores.{going_count}
 use Rattle.boardview.specs.Steps.{done_then, done_ended, slot_is_on, detour_off, detour_first, detour_both}
 use Rattle.boardview.specs.Items.{recount_decided, corner_off, corner_taken, corner_ends, corner_lines, bar_off, bar_none}
 use Rattle.boardview.specs.Check.{check_nothing, check_ends, check_settles}
-use Rattle.boardview.specs.Cycle.{same_on, none_room, none_high, none_first, none_second, none_is_stored, none_returns, none_raised, none_again, line_again, line_raised, line_room, line_first, line_second, line_is_stored, line_returns, line_end, right_up_left, right_up_right, right_up, right_left, right_right, right_below, right_corner, left_corner, right_bar_on, left_bar_on, right_done, down_left, down_left_below, down_if_left, down_right, down_right_below, down_if_right, down_far_left, down_far_right, picked_small, down_right_corner, down_left_corner, down_left_bar_on, down_right_bar_on, down_done, corner_exists, corner_down, corner_line_right, corner_line_left, corner_not_first, small_pad, past_left, past_up, settle_rests, leave_there, settle_leaves, draw_high, draw_right, draw_down, draw_small, settle_draws_right, settle_draws_down, line_stops, apart_begins, apart_ready, apart_fewer, apart_done, apart_takes, apart_skips, past_there}
+use Rattle.boardview.specs.Cycle.{same_on, none_room, none_high, none_first, none_second, none_is_stored, none_returns, none_raised, none_again, line_again, line_raised, line_room, line_first, line_second, line_is_stored, line_returns, line_end, right_up_left, right_up_right, right_up, right_left, right_right, right_below, right_corner, left_corner, right_bar_on, left_bar_on, right_done, down_left, down_left_below, down_if_left, down_right, down_right_below, down_if_right, down_far_left, down_far_right, picked_small, down_right_corner, down_left_corner, down_left_bar_on, down_right_bar_on, down_done, corner_exists, corner_down, corner_line, corner_not_left, small_pad, past_left, past_up, settle_rests, leave_there, settle_leaves, draw_high, draw_right, draw_down, draw_small, settle_draws_right, settle_draws_down, line_stops, apart_begins, apart_ready, apart_fewer, apart_done, apart_takes, apart_skips, past_there}
 use Prim.Native.Nat.{◌+◌, ◌*◌}
 use Rattle.decision.proofs.+deciding.Goals.{check_pad-then-slot-ne0, check_pad-else-slot-ne0}
 use Rattle.decision.proofs.+deciding.Goals as goal
@@ -85,8 +86,8 @@ check_pad-loop-side-preserved t c =
     let start = c in
     let said = rw (c.slot_around-there.ensures.0, c.past_around-past.ensures.0) at c.slot_apart-slot.ensures.0 in
     elim c.if-slot-ne0.branch [
-        | check_pad-then-slot-ne0 w ↦ rw w.board-is (apart_takes start.args.kind.now _ start.requires.2 start.requires.3 start.args.v start.requires.0 _ c.width-w.ensures _ c.end_code-code.ensures _ _ c.loop-side.invariant c.loop-side-test.true _ said w.if-slot-ne0.true _ w.decide_none.ensures)
-        | check_pad-else-slot-ne0 w ↦ rw w.board-is (apart_skips start.args.kind.now _ start.requires.2 start.requires.3 start.args.v start.requires.0 _ c.width-w.ensures _ c.end_code-code.ensures _ _ c.loop-side.invariant c.loop-side-test.true _ said w.if-slot-ne0.false)
+      | check_pad-then-slot-ne0 w ↦ rw w.board-is (apart_takes start.args.kind.now _ start.requires.2 start.requires.3 start.args.v start.requires.0 _ c.width-w.ensures _ c.end_code-code.ensures _ _ c.loop-side.invariant c.loop-side-test.true _ said w.if-slot-ne0.true _ w.decide_none.ensures)
+      | check_pad-else-slot-ne0 w ↦ rw w.board-is (apart_skips start.args.kind.now _ start.requires.2 start.requires.3 start.args.v start.requires.0 _ c.width-w.ensures _ c.end_code-code.ensures _ _ c.loop-side.invariant c.loop-side-test.true _ said w.if-slot-ne0.false)
     ]
 
 pub check_pad-returns-then-board-ge-ENDED : goal.check_pad-returns-then-board-ge-ENDED
@@ -171,86 +172,51 @@ check_pad-returns t c =
     let loop-inv = c.loop-side.invariant in
     check_settles (grid_in start.args.kind.now) _ _ start.args.v (omega (arith, small_pad start.args.kind.now _ start.requires.2 start.requires.3 start.args.v start.requires.0)) start.requires.1 (apart_done start.args.kind.now _ start.requires.2 start.requires.3 start.args.v start.requires.0 _ (width-says) _ (end-code-says) _ _ (loop-inv) (λ low. absurd (omega (arith, c.loop-side-test.false)))) c.if-board-ge-ENDED.false _ (settle_draws_down start.args.kind.now _ start.requires.2 (apart_ready start.args.kind.now _ start.requires.2 start.requires.3 start.args.v start.requires.0 _ (width-says) _ (end-code-says) _ _ (loop-inv)) start.args.v start.requires.0 _ (width-says) _ c.action-action.ensures.0 c.if-action-lt2.false c.if-action-ge-NONE_THERE.false _ refl c.if-action-eq0.false _ c.decide_line_down.ensures)
 
-pub corner_left-returns-then-board-ge-ENDED : goal.corner_left-returns-then-board-ge-ENDED
-corner_left-returns-then-board-ge-ENDED t c = done_ended (grid_in c.args.kind.now) 1 _ _ c.requires.4 c.if-board-ge-ENDED.true
+pub corner-returns-then-board-ge-ENDED : goal.corner-returns-then-board-ge-ENDED
+corner-returns-then-board-ge-ENDED t c = done_ended (grid_in c.args.kind.now) 1 _ _ c.requires.4 c.if-board-ge-ENDED.true
 
-pub corner_left-returns-then-board-a-ne-LINE : goal.corner_left-returns-then-board-a-ne-LINE
-corner_left-returns-then-board-a-ne-LINE t c = let start = c in corner_off start.args.kind.now on_left _ start.requires.4 start.args.q start.args.a start.requires.0 c.if-board-ge-ENDED.false c.if-board-a-ne-LINE.true
+pub corner-returns-then-board-a-ne-LINE : goal.corner-returns-then-board-a-ne-LINE
+corner-returns-then-board-a-ne-LINE t c = let start = c in corner_off start.args.kind.now (side_of start.args.side) _ start.requires.4 start.args.q start.args.a start.requires.0 c.if-board-ge-ENDED.false c.if-board-a-ne-LINE.true
 
-pub corner_left-has-requires : goal.corner_left-has-requires
-corner_left-has-requires t c = (omega (arith, c.requires.1))
+pub corner-has-requires : goal.corner-has-requires
+corner-has-requires t c = (omega (arith, c.requires.1))
 
-pub corner_left-returns-then-has : goal.corner_left-returns-then-has
-corner_left-returns-then-has t c = let start = c in corner_taken start.args.kind.now on_left _ start.requires.4 start.args.q start.args.a start.requires.0 c.if-board-ge-ENDED.false c.if-board-a-ne-LINE.false start.requires.3 (omega (arith, (start.requires.2 (slot_is_on (grid_in start.args.kind.now) _ start.requires.4 start.args.a start.requires.0 (omega (arith, c.if-board-a-ne-LINE.false)))), start.requires.4.few_pads)) (sym c.has.ensures ∙ c.if-has.true)
+pub corner-returns-then-has : goal.corner-returns-then-has
+corner-returns-then-has t c = let start = c in corner_taken start.args.kind.now (side_of start.args.side) _ start.requires.4 start.args.q start.args.a start.requires.0 c.if-board-ge-ENDED.false c.if-board-a-ne-LINE.false start.requires.3 (omega (arith, (start.requires.2 (slot_is_on (grid_in start.args.kind.now) _ start.requires.4 start.args.a start.requires.0 (omega (arith, c.if-board-a-ne-LINE.false)))), start.requires.4.few_pads)) (sym c.has.ensures ∙ c.if-has.true)
 
-pub corner_left-has-requires-2 : goal.corner_left-has-requires-2
-corner_left-has-requires-2 t c = (omega (arith, c.requires.1))
+pub corner-has-requires-2 : goal.corner-has-requires-2
+corner-has-requires-2 t c = (omega (arith, c.requires.1))
 
-pub corner_left-overflow_sub-q : goal.corner_left-overflow_sub-q
-corner_left-overflow_sub-q t c = let start = c in omega (arith, corner_not_first start.args.kind.now start.requires.3 start.args.q (start.requires.2 (slot_is_on (grid_in start.args.kind.now) _ start.requires.4 start.args.a start.requires.0 (omega (arith, c.if-board-a-ne-LINE.false)))) _ c.has-2.ensures c.if-has-2.true)
+pub corner-first_beside-requires : goal.corner-first_beside-requires
+corner-first_beside-requires t c =
+    let start = c in
+    let inside = start.requires.2 (slot_is_on (grid_in start.args.kind.now) _ start.requires.4 start.args.a start.requires.0 (omega (arith, c.if-board-a-ne-LINE.false))) in
+    corner_not_left start.args.kind.now start.requires.3 start.args.q inside _ (side_of start.args.side) (c.has-2.ensures ∙ ap (has_bit start.args.kind.now start.args.q) c.corner.ensures) c.if-has-2.true
 
-pub corner_left-decide_line_right-requires : goal.corner_left-decide_line_right-requires
-corner_left-decide_line_right-requires t c =
+pub corner-decide_line_right-requires : goal.corner-decide_line_right-requires
+corner-decide_line_right-requires t c =
+    let start = c in
+    let inside = start.requires.2 (slot_is_on (grid_in start.args.kind.now) _ start.requires.4 start.args.a start.requires.0 (omega (arith, c.if-board-a-ne-LINE.false))) in
+    let there = corner_line start.args.kind.now start.requires.3 start.args.q inside _ (side_of start.args.side) (c.has-2.ensures ∙ ap (has_bit start.args.kind.now start.args.q) c.corner.ensures) c.if-has-2.true in
+    (omega (arith, start.decreases), (ap (on_board (grid_in start.args.kind.now)) c.first_beside.ensures.0 ∙ there, omega (arith, inside, c.first_beside.ensures.1, start.requires.4.few_pads), start.requires.3, start.requires.4))
+
+pub corner-decide_line_down-requires : goal.corner-decide_line_down-requires
+corner-decide_line_down-requires t c =
     let start = c in
     let if2-left = c.if-board-a-ne-LINE.false in
-    ((omega (arith, start.decreases)), (corner_line_left start.args.kind.now start.requires.3 start.args.q (start.requires.2 (slot_is_on (grid_in start.args.kind.now) _ start.requires.4 start.args.a start.requires.0 (omega (arith, if2-left)))) _ c.has-2.ensures c.if-has-2.true, (omega (arith, (start.requires.2 (slot_is_on (grid_in start.args.kind.now) _ start.requires.4 start.args.a start.requires.0 (omega (arith, if2-left)))), start.requires.4.few_pads)), start.requires.3, start.requires.4))
+    let d = c.decide_line_right.ensures in ((omega (arith, start.decreases, d.fewer)), (corner_down start.args.kind.now start.requires.3 start.args.q (start.requires.2 (slot_is_on (grid_in start.args.kind.now) _ start.requires.4 start.args.a start.requires.0 (omega (arith, if2-left)))) _ (side_of start.args.side) (c.has-2.ensures ∙ ap (has_bit start.args.kind.now start.args.q) c.corner.ensures) c.if-has-2.true, (omega (arith, (start.requires.2 (slot_is_on (grid_in start.args.kind.now) _ start.requires.4 start.args.a start.requires.0 (omega (arith, if2-left)))), start.requires.4.few_pads)), start.requires.3, rw c.go_on-board.ensures (recount_decided d)))
 
-pub corner_left-decide_line_down-requires : goal.corner_left-decide_line_down-requires
-corner_left-decide_line_down-requires t c =
+pub corner-returns-then-has-2 : goal.corner-returns-then-has-2
+corner-returns-then-has-2 t c =
     let start = c in
     let if2-left = c.if-board-a-ne-LINE.false in
-    let d = c.decide_line_right.ensures in ((omega (arith, start.decreases, d.fewer)), (corner_down start.args.kind.now start.requires.3 start.args.q (start.requires.2 (slot_is_on (grid_in start.args.kind.now) _ start.requires.4 start.args.a start.requires.0 (omega (arith, if2-left)))) _ on_left c.has-2.ensures c.if-has-2.true, (omega (arith, (start.requires.2 (slot_is_on (grid_in start.args.kind.now) _ start.requires.4 start.args.a start.requires.0 (omega (arith, if2-left)))), start.requires.4.few_pads)), start.requires.3, rw c.go_on-board.ensures (recount_decided d)))
+    rw c.go_on-board-then-has-2.ensures (corner_lines start.args.kind.now (side_of start.args.side) _ start.requires.4 start.args.q start.args.a start.requires.0 c.if-board-ge-ENDED.false (if2-left) start.requires.3 (omega (arith, (start.requires.2 (slot_is_on (grid_in start.args.kind.now) _ start.requires.4 start.args.a start.requires.0 (omega (arith, if2-left)))), start.requires.4.few_pads)) (sym c.has.ensures ∙ c.if-has.false) (corner_exists start.args.kind.now start.requires.3 start.args.q (start.requires.2 (slot_is_on (grid_in start.args.kind.now) _ start.requires.4 start.args.a start.requires.0 (omega (arith, if2-left)))) _ (side_of start.args.side) (c.has-2.ensures ∙ ap (has_bit start.args.kind.now start.args.q) c.corner.ensures) ∙ c.if-has-2.true) _ _ (rw c.first_beside.ensures.0 at c.decide_line_right.ensures) (rw c.go_on-board.ensures at c.decide_line_down.ensures))
 
-pub corner_left-returns-then-has-2 : goal.corner_left-returns-then-has-2
-corner_left-returns-then-has-2 t c =
+pub corner-returns : goal.corner-returns
+corner-returns t c =
     let start = c in
     let if2-left = c.if-board-a-ne-LINE.false in
-    rw c.go_on-board-then-has-2.ensures (corner_lines start.args.kind.now on_left _ start.requires.4 start.args.q start.args.a start.requires.0 c.if-board-ge-ENDED.false (if2-left) start.requires.3 (omega (arith, (start.requires.2 (slot_is_on (grid_in start.args.kind.now) _ start.requires.4 start.args.a start.requires.0 (omega (arith, if2-left)))), start.requires.4.few_pads)) (sym c.has.ensures ∙ c.if-has.false) (corner_exists start.args.kind.now start.requires.3 start.args.q (start.requires.2 (slot_is_on (grid_in start.args.kind.now) _ start.requires.4 start.args.a start.requires.0 (omega (arith, if2-left)))) _ on_left c.has-2.ensures ∙ c.if-has-2.true) _ _ c.decide_line_right.ensures (rw c.go_on-board.ensures at c.decide_line_down.ensures))
-
-pub corner_left-returns : goal.corner_left-returns
-corner_left-returns t c =
-    let start = c in
-    let if2-left = c.if-board-a-ne-LINE.false in
-    rw c.stop-board.ensures (corner_ends start.args.kind.now on_left _ start.requires.4 start.args.q start.args.a start.requires.0 c.if-board-ge-ENDED.false (if2-left) start.requires.3 (omega (arith, (start.requires.2 (slot_is_on (grid_in start.args.kind.now) _ start.requires.4 start.args.a start.requires.0 (omega (arith, if2-left)))), start.requires.4.few_pads)) (sym c.has.ensures ∙ c.if-has.false) (corner_exists start.args.kind.now start.requires.3 start.args.q (start.requires.2 (slot_is_on (grid_in start.args.kind.now) _ start.requires.4 start.args.a start.requires.0 (omega (arith, if2-left)))) _ on_left c.has-2.ensures ∙ c.if-has-2.false))
-
-pub corner_right-returns-then-board-ge-ENDED : goal.corner_right-returns-then-board-ge-ENDED
-corner_right-returns-then-board-ge-ENDED t c = done_ended (grid_in c.args.kind.now) 1 _ _ c.requires.4 c.if-board-ge-ENDED.true
-
-pub corner_right-returns-then-board-a-ne-LINE : goal.corner_right-returns-then-board-a-ne-LINE
-corner_right-returns-then-board-a-ne-LINE t c = let start = c in corner_off start.args.kind.now on_right _ start.requires.4 start.args.q start.args.a start.requires.0 c.if-board-ge-ENDED.false c.if-board-a-ne-LINE.true
-
-pub corner_right-has-requires : goal.corner_right-has-requires
-corner_right-has-requires t c = (omega (arith, c.requires.1))
-
-pub corner_right-returns-then-has : goal.corner_right-returns-then-has
-corner_right-returns-then-has t c = let start = c in corner_taken start.args.kind.now on_right _ start.requires.4 start.args.q start.args.a start.requires.0 c.if-board-ge-ENDED.false c.if-board-a-ne-LINE.false start.requires.3 (omega (arith, (start.requires.2 (slot_is_on (grid_in start.args.kind.now) _ start.requires.4 start.args.a start.requires.0 (omega (arith, c.if-board-a-ne-LINE.false)))), start.requires.4.few_pads)) (sym c.has.ensures ∙ c.if-has.true)
-
-pub corner_right-has-requires-2 : goal.corner_right-has-requires-2
-corner_right-has-requires-2 t c = (omega (arith, c.requires.1))
-
-pub corner_right-decide_line_right-requires : goal.corner_right-decide_line_right-requires
-corner_right-decide_line_right-requires t c =
-    let start = c in
-    let if2-left = c.if-board-a-ne-LINE.false in
-    ((omega (arith, start.decreases)), (corner_line_right start.args.kind.now start.requires.3 start.args.q (start.requires.2 (slot_is_on (grid_in start.args.kind.now) _ start.requires.4 start.args.a start.requires.0 (omega (arith, if2-left)))) _ c.has-2.ensures c.if-has-2.true, (omega (arith, (start.requires.2 (slot_is_on (grid_in start.args.kind.now) _ start.requires.4 start.args.a start.requires.0 (omega (arith, if2-left)))), start.requires.4.few_pads)), start.requires.3, start.requires.4))
-
-pub corner_right-decide_line_down-requires : goal.corner_right-decide_line_down-requires
-corner_right-decide_line_down-requires t c =
-    let start = c in
-    let if2-left = c.if-board-a-ne-LINE.false in
-    let d = c.decide_line_right.ensures in ((omega (arith, start.decreases, d.fewer)), (corner_down start.args.kind.now start.requires.3 start.args.q (start.requires.2 (slot_is_on (grid_in start.args.kind.now) _ start.requires.4 start.args.a start.requires.0 (omega (arith, if2-left)))) _ on_right c.has-2.ensures c.if-has-2.true, (omega (arith, (start.requires.2 (slot_is_on (grid_in start.args.kind.now) _ start.requires.4 start.args.a start.requires.0 (omega (arith, if2-left)))), start.requires.4.few_pads)), start.requires.3, rw c.go_on-board.ensures (recount_decided d)))
-
-pub corner_right-returns-then-has-2 : goal.corner_right-returns-then-has-2
-corner_right-returns-then-has-2 t c =
-    let start = c in
-    let if2-left = c.if-board-a-ne-LINE.false in
-    rw c.go_on-board-then-has-2.ensures (corner_lines start.args.kind.now on_right _ start.requires.4 start.args.q start.args.a start.requires.0 c.if-board-ge-ENDED.false (if2-left) start.requires.3 (omega (arith, (start.requires.2 (slot_is_on (grid_in start.args.kind.now) _ start.requires.4 start.args.a start.requires.0 (omega (arith, if2-left)))), start.requires.4.few_pads)) (sym c.has.ensures ∙ c.if-has.false) (corner_exists start.args.kind.now start.requires.3 start.args.q (start.requires.2 (slot_is_on (grid_in start.args.kind.now) _ start.requires.4 start.args.a start.requires.0 (omega (arith, if2-left)))) _ on_right c.has-2.ensures ∙ c.if-has-2.true) _ _ c.decide_line_right.ensures (rw c.go_on-board.ensures at c.decide_line_down.ensures))
-
-pub corner_right-returns : goal.corner_right-returns
-corner_right-returns t c =
-    let start = c in
-    let if2-left = c.if-board-a-ne-LINE.false in
-    rw c.stop-board.ensures (corner_ends start.args.kind.now on_right _ start.requires.4 start.args.q start.args.a start.requires.0 c.if-board-ge-ENDED.false (if2-left) start.requires.3 (omega (arith, (start.requires.2 (slot_is_on (grid_in start.args.kind.now) _ start.requires.4 start.args.a start.requires.0 (omega (arith, if2-left)))), start.requires.4.few_pads)) (sym c.has.ensures ∙ c.if-has.false) (corner_exists start.args.kind.now start.requires.3 start.args.q (start.requires.2 (slot_is_on (grid_in start.args.kind.now) _ start.requires.4 start.args.a start.requires.0 (omega (arith, if2-left)))) _ on_right c.has-2.ensures ∙ c.if-has-2.false))
+    rw c.stop-board.ensures (corner_ends start.args.kind.now (side_of start.args.side) _ start.requires.4 start.args.q start.args.a start.requires.0 c.if-board-ge-ENDED.false (if2-left) start.requires.3 (omega (arith, (start.requires.2 (slot_is_on (grid_in start.args.kind.now) _ start.requires.4 start.args.a start.requires.0 (omega (arith, if2-left)))), start.requires.4.few_pads)) (sym c.has.ensures ∙ c.if-has.false) (corner_exists start.args.kind.now start.requires.3 start.args.q (start.requires.2 (slot_is_on (grid_in start.args.kind.now) _ start.requires.4 start.args.a start.requires.0 (omega (arith, if2-left)))) _ (side_of start.args.side) (c.has-2.ensures ∙ ap (has_bit start.args.kind.now start.args.q) c.corner.ensures) ∙ c.if-has-2.false))
 
 pub decide_line_down-overflow_mul-slot : goal.decide_line_down-overflow_mul-slot
 decide_line_down-overflow_mul-slot t c = omega (arith, c.requires.1, c.requires.2.largest_width, c.requires.2.least_width)
@@ -389,33 +355,33 @@ decide_line_down-detour-requires-then-old-eq-UNDECIDED-5 t c =
     let slot-where2-says = c.slot_where-if_right.ensures in
     let st = line_is_stored start.args.kind.now _ (down start.args.v) start.requires.2 start.requires.3 start.requires.0 c.if-old-eq-UNDECIDED.true _ (ap (◌+◌ start.args.v) (width-says)) _ c.begin_line.ensures c.if-board-ge-ENDED.false in ((omega (arith, start.decreases, st.less, c.detour.ensures.fewer, c.detour-then-old-eq-UNDECIDED.ensures.fewer, c.detour-then-old-eq-UNDECIDED-2.ensures.fewer, c.detour-then-old-eq-UNDECIDED-3.ensures.fewer, detour5-says.fewer)), (picked_small start.args.kind.now start.requires.2 start.requires.3.few_pads start.args.v _ (width-says) start.requires.0 (has_bit start.args.kind.now start.args.v 8) _ (35 + 2 * start.args.v) (slot-where2-says) (omega (arith, start.requires.1, start.requires.2.largest_width, width-says)), (omega (arith, start.requires.1, start.requires.2.largest_width, width-says)), (omega (arith, start.requires.1, start.requires.2.largest_width, width-says)), (λ o. (same_on (down_if_right start.args.kind.now start.requires.2 start.requires.3.few_pads start.args.v _ (width-says) start.requires.0 _ (slot-where2-says)) (down_right start.args.kind.now start.requires.2 start.requires.3.few_pads start.args.v _ (width-says) start.requires.0) o, same_on (down_if_right start.args.kind.now start.requires.2 start.requires.3.few_pads start.args.v _ (width-says) start.requires.0 _ (slot-where2-says)) (down_right_below start.args.kind.now start.requires.2 start.requires.3.few_pads start.args.v _ (width-says) start.requires.0) o)), start.requires.2, detour5-says.ready))
 
-pub decide_line_down-corner_left-requires : goal.decide_line_down-corner_left-requires
-decide_line_down-corner_left-requires t c =
+pub decide_line_down-corner-requires : goal.decide_line_down-corner-requires
+decide_line_down-corner-requires t c =
     let start = c in
     let width-says = c.width-w.ensures in
     let detour6-says = c.detour-then-old-eq-UNDECIDED-5.ensures in
     let st = line_is_stored start.args.kind.now _ (down start.args.v) start.requires.2 start.requires.3 start.requires.0 c.if-old-eq-UNDECIDED.true _ (ap (◌+◌ start.args.v) (width-says)) _ c.begin_line.ensures c.if-board-ge-ENDED.false in ((omega (arith, start.decreases, st.less, c.detour.ensures.fewer, c.detour-then-old-eq-UNDECIDED.ensures.fewer, c.detour-then-old-eq-UNDECIDED-2.ensures.fewer, c.detour-then-old-eq-UNDECIDED-3.ensures.fewer, c.detour-then-old-eq-UNDECIDED-4.ensures.fewer, detour6-says.fewer)), ((omega (arith, start.requires.1, start.requires.2.largest_width, width-says)), (omega (arith, start.requires.1, start.requires.2.largest_width, width-says)), (λ o. down_left_corner start.args.kind.now start.requires.2 start.requires.3.few_pads start.args.v _ (width-says) start.requires.0 _ refl), start.requires.2, detour6-says.ready))
 
-pub decide_line_down-corner_right-requires : goal.decide_line_down-corner_right-requires
-decide_line_down-corner_right-requires t c =
+pub decide_line_down-corner-requires-then-old-eq-UNDECIDED : goal.decide_line_down-corner-requires-then-old-eq-UNDECIDED
+decide_line_down-corner-requires-then-old-eq-UNDECIDED t c =
     let start = c in
     let width-says = c.width-w.ensures in
-    let corner-left-says = c.corner_left.ensures in
+    let corner-left-says = c.corner.ensures in
     let st = line_is_stored start.args.kind.now _ (down start.args.v) start.requires.2 start.requires.3 start.requires.0 c.if-old-eq-UNDECIDED.true _ (ap (◌+◌ start.args.v) (width-says)) _ c.begin_line.ensures c.if-board-ge-ENDED.false in ((omega (arith, start.decreases, st.less, c.detour.ensures.fewer, c.detour-then-old-eq-UNDECIDED.ensures.fewer, c.detour-then-old-eq-UNDECIDED-2.ensures.fewer, c.detour-then-old-eq-UNDECIDED-3.ensures.fewer, c.detour-then-old-eq-UNDECIDED-4.ensures.fewer, c.detour-then-old-eq-UNDECIDED-5.ensures.fewer, corner-left-says.fewer)), ((omega (arith, start.requires.1, start.requires.2.largest_width, width-says)), (omega (arith, start.requires.1, start.requires.2.largest_width, width-says)), (λ o. down_right_corner start.args.kind.now start.requires.2 start.requires.3.few_pads start.args.v _ (width-says) start.requires.0 _ refl o), start.requires.2, corner-left-says.ready))
 
 pub decide_line_down-bar-requires : goal.decide_line_down-bar-requires
 decide_line_down-bar-requires t c =
     let start = c in
     let width-says = c.width-w.ensures in
-    let corner-right-says = c.corner_right.ensures in
-    let st = line_is_stored start.args.kind.now _ (down start.args.v) start.requires.2 start.requires.3 start.requires.0 c.if-old-eq-UNDECIDED.true _ (ap (◌+◌ start.args.v) (width-says)) _ c.begin_line.ensures c.if-board-ge-ENDED.false in ((omega (arith, start.decreases, st.less, c.detour.ensures.fewer, c.detour-then-old-eq-UNDECIDED.ensures.fewer, c.detour-then-old-eq-UNDECIDED-2.ensures.fewer, c.detour-then-old-eq-UNDECIDED-3.ensures.fewer, c.detour-then-old-eq-UNDECIDED-4.ensures.fewer, c.detour-then-old-eq-UNDECIDED-5.ensures.fewer, c.corner_left.ensures.fewer, corner-right-says.fewer)), ((omega (arith, start.requires.1, start.requires.2.largest_width, width-says)), (omega (arith, start.requires.1, start.requires.2.largest_width, width-says)), down_left_bar_on start.args.kind.now start.requires.2 start.requires.3.few_pads start.args.v _ (width-says) start.requires.0, start.requires.2, corner-right-says.ready))
+    let corner-right-says = c.corner-then-old-eq-UNDECIDED.ensures in
+    let st = line_is_stored start.args.kind.now _ (down start.args.v) start.requires.2 start.requires.3 start.requires.0 c.if-old-eq-UNDECIDED.true _ (ap (◌+◌ start.args.v) (width-says)) _ c.begin_line.ensures c.if-board-ge-ENDED.false in ((omega (arith, start.decreases, st.less, c.detour.ensures.fewer, c.detour-then-old-eq-UNDECIDED.ensures.fewer, c.detour-then-old-eq-UNDECIDED-2.ensures.fewer, c.detour-then-old-eq-UNDECIDED-3.ensures.fewer, c.detour-then-old-eq-UNDECIDED-4.ensures.fewer, c.detour-then-old-eq-UNDECIDED-5.ensures.fewer, c.corner.ensures.fewer, corner-right-says.fewer)), ((omega (arith, start.requires.1, start.requires.2.largest_width, width-says)), (omega (arith, start.requires.1, start.requires.2.largest_width, width-says)), down_left_bar_on start.args.kind.now start.requires.2 start.requires.3.few_pads start.args.v _ (width-says) start.requires.0, start.requires.2, corner-right-says.ready))
 
 pub decide_line_down-bar-requires-then-old-eq-UNDECIDED : goal.decide_line_down-bar-requires-then-old-eq-UNDECIDED
 decide_line_down-bar-requires-then-old-eq-UNDECIDED t c =
     let start = c in
     let width-says = c.width-w.ensures in
     let bar-says = c.bar.ensures in
-    let st = line_is_stored start.args.kind.now _ (down start.args.v) start.requires.2 start.requires.3 start.requires.0 c.if-old-eq-UNDECIDED.true _ (ap (◌+◌ start.args.v) (width-says)) _ c.begin_line.ensures c.if-board-ge-ENDED.false in ((omega (arith, start.decreases, st.less, c.detour.ensures.fewer, c.detour-then-old-eq-UNDECIDED.ensures.fewer, c.detour-then-old-eq-UNDECIDED-2.ensures.fewer, c.detour-then-old-eq-UNDECIDED-3.ensures.fewer, c.detour-then-old-eq-UNDECIDED-4.ensures.fewer, c.detour-then-old-eq-UNDECIDED-5.ensures.fewer, c.corner_left.ensures.fewer, c.corner_right.ensures.fewer, bar-says.fewer)), ((omega (arith, start.requires.1, start.requires.2.largest_width, width-says)), (omega (arith, start.requires.1, start.requires.2.largest_width, width-says)), down_right_bar_on start.args.kind.now start.requires.2 start.requires.3.few_pads start.args.v _ (width-says) start.requires.0, start.requires.2, bar-says.ready))
+    let st = line_is_stored start.args.kind.now _ (down start.args.v) start.requires.2 start.requires.3 start.requires.0 c.if-old-eq-UNDECIDED.true _ (ap (◌+◌ start.args.v) (width-says)) _ c.begin_line.ensures c.if-board-ge-ENDED.false in ((omega (arith, start.decreases, st.less, c.detour.ensures.fewer, c.detour-then-old-eq-UNDECIDED.ensures.fewer, c.detour-then-old-eq-UNDECIDED-2.ensures.fewer, c.detour-then-old-eq-UNDECIDED-3.ensures.fewer, c.detour-then-old-eq-UNDECIDED-4.ensures.fewer, c.detour-then-old-eq-UNDECIDED-5.ensures.fewer, c.corner.ensures.fewer, c.corner-then-old-eq-UNDECIDED.ensures.fewer, bar-says.fewer)), ((omega (arith, start.requires.1, start.requires.2.largest_width, width-says)), (omega (arith, start.requires.1, start.requires.2.largest_width, width-says)), down_right_bar_on start.args.kind.now start.requires.2 start.requires.3.few_pads start.args.v _ (width-says) start.requires.0, start.requires.2, bar-says.ready))
 
 pub decide_line_down-check-requires : goal.decide_line_down-check-requires
 decide_line_down-check-requires t c =
@@ -423,7 +389,7 @@ decide_line_down-check-requires t c =
     let if1-taken = c.if-old-eq-UNDECIDED.true in
     let width-says = c.width-w.ensures in
     let bar2-says = c.bar-then-old-eq-UNDECIDED.ensures in
-    let st = line_is_stored start.args.kind.now _ (down start.args.v) start.requires.2 start.requires.3 start.requires.0 (if1-taken) _ (ap (◌+◌ start.args.v) (width-says)) _ c.begin_line.ensures c.if-board-ge-ENDED.false in ((omega (arith, start.decreases, st.less, c.detour.ensures.fewer, c.detour-then-old-eq-UNDECIDED.ensures.fewer, c.detour-then-old-eq-UNDECIDED-2.ensures.fewer, c.detour-then-old-eq-UNDECIDED-3.ensures.fewer, c.detour-then-old-eq-UNDECIDED-4.ensures.fewer, c.detour-then-old-eq-UNDECIDED-5.ensures.fewer, c.corner_left.ensures.fewer, c.corner_right.ensures.fewer, c.bar.ensures.fewer, bar2-says.fewer)), ((omega (arith, (line_first start.args.kind.now _ (down start.args.v) start.requires.2 start.requires.3 start.requires.0 (if1-taken) _ (ap (◌+◌ start.args.v) (width-says))), start.requires.3.few_pads)), (λ h. (line_first start.args.kind.now _ (down start.args.v) start.requires.2 start.requires.3 start.requires.0 (if1-taken) _ (ap (◌+◌ start.args.v) (width-says)))), start.requires.2, bar2-says.ready))
+    let st = line_is_stored start.args.kind.now _ (down start.args.v) start.requires.2 start.requires.3 start.requires.0 (if1-taken) _ (ap (◌+◌ start.args.v) (width-says)) _ c.begin_line.ensures c.if-board-ge-ENDED.false in ((omega (arith, start.decreases, st.less, c.detour.ensures.fewer, c.detour-then-old-eq-UNDECIDED.ensures.fewer, c.detour-then-old-eq-UNDECIDED-2.ensures.fewer, c.detour-then-old-eq-UNDECIDED-3.ensures.fewer, c.detour-then-old-eq-UNDECIDED-4.ensures.fewer, c.detour-then-old-eq-UNDECIDED-5.ensures.fewer, c.corner.ensures.fewer, c.corner-then-old-eq-UNDECIDED.ensures.fewer, c.bar.ensures.fewer, bar2-says.fewer)), ((omega (arith, (line_first start.args.kind.now _ (down start.args.v) start.requires.2 start.requires.3 start.requires.0 (if1-taken) _ (ap (◌+◌ start.args.v) (width-says))), start.requires.3.few_pads)), (λ h. (line_first start.args.kind.now _ (down start.args.v) start.requires.2 start.requires.3 start.requires.0 (if1-taken) _ (ap (◌+◌ start.args.v) (width-says)))), start.requires.2, bar2-says.ready))
 
 pub decide_line_down-check-requires-then-old-eq-UNDECIDED : goal.decide_line_down-check-requires-then-old-eq-UNDECIDED
 decide_line_down-check-requires-then-old-eq-UNDECIDED t c =
@@ -431,7 +397,7 @@ decide_line_down-check-requires-then-old-eq-UNDECIDED t c =
     let if1-taken = c.if-old-eq-UNDECIDED.true in
     let width-says = c.width-w.ensures in
     let check-says = c.check.ensures in
-    let st = line_is_stored start.args.kind.now _ (down start.args.v) start.requires.2 start.requires.3 start.requires.0 (if1-taken) _ (ap (◌+◌ start.args.v) (width-says)) _ c.begin_line.ensures c.if-board-ge-ENDED.false in ((omega (arith, start.decreases, st.less, c.detour.ensures.fewer, c.detour-then-old-eq-UNDECIDED.ensures.fewer, c.detour-then-old-eq-UNDECIDED-2.ensures.fewer, c.detour-then-old-eq-UNDECIDED-3.ensures.fewer, c.detour-then-old-eq-UNDECIDED-4.ensures.fewer, c.detour-then-old-eq-UNDECIDED-5.ensures.fewer, c.corner_left.ensures.fewer, c.corner_right.ensures.fewer, c.bar.ensures.fewer, c.bar-then-old-eq-UNDECIDED.ensures.fewer, check-says.fewer)), ((omega (arith, (line_second start.args.kind.now _ (down start.args.v) start.requires.2 start.requires.3 start.requires.0 (if1-taken) _ (ap (◌+◌ start.args.v) (width-says))), start.requires.3.few_pads)), (λ h. (line_second start.args.kind.now _ (down start.args.v) start.requires.2 start.requires.3 start.requires.0 (if1-taken) _ (ap (◌+◌ start.args.v) (width-says)))), start.requires.2, check-says.ready))
+    let st = line_is_stored start.args.kind.now _ (down start.args.v) start.requires.2 start.requires.3 start.requires.0 (if1-taken) _ (ap (◌+◌ start.args.v) (width-says)) _ c.begin_line.ensures c.if-board-ge-ENDED.false in ((omega (arith, start.decreases, st.less, c.detour.ensures.fewer, c.detour-then-old-eq-UNDECIDED.ensures.fewer, c.detour-then-old-eq-UNDECIDED-2.ensures.fewer, c.detour-then-old-eq-UNDECIDED-3.ensures.fewer, c.detour-then-old-eq-UNDECIDED-4.ensures.fewer, c.detour-then-old-eq-UNDECIDED-5.ensures.fewer, c.corner.ensures.fewer, c.corner-then-old-eq-UNDECIDED.ensures.fewer, c.bar.ensures.fewer, c.bar-then-old-eq-UNDECIDED.ensures.fewer, check-says.fewer)), ((omega (arith, (line_second start.args.kind.now _ (down start.args.v) start.requires.2 start.requires.3 start.requires.0 (if1-taken) _ (ap (◌+◌ start.args.v) (width-says))), start.requires.3.few_pads)), (λ h. (line_second start.args.kind.now _ (down start.args.v) start.requires.2 start.requires.3 start.requires.0 (if1-taken) _ (ap (◌+◌ start.args.v) (width-says)))), start.requires.2, check-says.ready))
 
 pub decide_line_down-check-requires-then-old-eq-UNDECIDED-2 : goal.decide_line_down-check-requires-then-old-eq-UNDECIDED-2
 decide_line_down-check-requires-then-old-eq-UNDECIDED-2 t c =
@@ -440,7 +406,7 @@ decide_line_down-check-requires-then-old-eq-UNDECIDED-2 t c =
     let width-says = c.width-w.ensures in
     let check2-says = c.check-then-old-eq-UNDECIDED.ensures in
     let end-pad-says = c.end_pad-a.ensures in
-    let st = line_is_stored start.args.kind.now _ (down start.args.v) start.requires.2 start.requires.3 start.requires.0 (if1-taken) _ (ap (◌+◌ start.args.v) (width-says)) _ c.begin_line.ensures c.if-board-ge-ENDED.false in ((omega (arith, start.decreases, st.less, c.detour.ensures.fewer, c.detour-then-old-eq-UNDECIDED.ensures.fewer, c.detour-then-old-eq-UNDECIDED-2.ensures.fewer, c.detour-then-old-eq-UNDECIDED-3.ensures.fewer, c.detour-then-old-eq-UNDECIDED-4.ensures.fewer, c.detour-then-old-eq-UNDECIDED-5.ensures.fewer, c.corner_left.ensures.fewer, c.corner_right.ensures.fewer, c.bar.ensures.fewer, c.bar-then-old-eq-UNDECIDED.ensures.fewer, c.check.ensures.fewer, check2-says.fewer)), ((line_end start.args.kind.now _ (down start.args.v) start.requires.2 start.requires.3 start.requires.0 (if1-taken) _ (ap (◌+◌ start.args.v) (width-says)) start.args.v (line_first start.args.kind.now _ (down start.args.v) start.requires.2 start.requires.3 start.requires.0 (if1-taken) _ (ap (◌+◌ start.args.v) (width-says))) _ (end-pad-says)).0, (line_end start.args.kind.now _ (down start.args.v) start.requires.2 start.requires.3 start.requires.0 (if1-taken) _ (ap (◌+◌ start.args.v) (width-says)) start.args.v (line_first start.args.kind.now _ (down start.args.v) start.requires.2 start.requires.3 start.requires.0 (if1-taken) _ (ap (◌+◌ start.args.v) (width-says))) _ (end-pad-says)).1, start.requires.2, check2-says.ready))
+    let st = line_is_stored start.args.kind.now _ (down start.args.v) start.requires.2 start.requires.3 start.requires.0 (if1-taken) _ (ap (◌+◌ start.args.v) (width-says)) _ c.begin_line.ensures c.if-board-ge-ENDED.false in ((omega (arith, start.decreases, st.less, c.detour.ensures.fewer, c.detour-then-old-eq-UNDECIDED.ensures.fewer, c.detour-then-old-eq-UNDECIDED-2.ensures.fewer, c.detour-then-old-eq-UNDECIDED-3.ensures.fewer, c.detour-then-old-eq-UNDECIDED-4.ensures.fewer, c.detour-then-old-eq-UNDECIDED-5.ensures.fewer, c.corner.ensures.fewer, c.corner-then-old-eq-UNDECIDED.ensures.fewer, c.bar.ensures.fewer, c.bar-then-old-eq-UNDECIDED.ensures.fewer, c.check.ensures.fewer, check2-says.fewer)), ((line_end start.args.kind.now _ (down start.args.v) start.requires.2 start.requires.3 start.requires.0 (if1-taken) _ (ap (◌+◌ start.args.v) (width-says)) start.args.v (line_first start.args.kind.now _ (down start.args.v) start.requires.2 start.requires.3 start.requires.0 (if1-taken) _ (ap (◌+◌ start.args.v) (width-says))) _ (end-pad-says)).0, (line_end start.args.kind.now _ (down start.args.v) start.requires.2 start.requires.3 start.requires.0 (if1-taken) _ (ap (◌+◌ start.args.v) (width-says)) start.args.v (line_first start.args.kind.now _ (down start.args.v) start.requires.2 start.requires.3 start.requires.0 (if1-taken) _ (ap (◌+◌ start.args.v) (width-says))) _ (end-pad-says)).1, start.requires.2, check2-says.ready))
 
 pub decide_line_down-check-requires-then-old-eq-UNDECIDED-3 : goal.decide_line_down-check-requires-then-old-eq-UNDECIDED-3
 decide_line_down-check-requires-then-old-eq-UNDECIDED-3 t c =
@@ -449,13 +415,13 @@ decide_line_down-check-requires-then-old-eq-UNDECIDED-3 t c =
     let width-says = c.width-w.ensures in
     let check3-says = c.check-then-old-eq-UNDECIDED-2.ensures in
     let end-pad2-says = c.end_pad-b.ensures in
-    let st = line_is_stored start.args.kind.now _ (down start.args.v) start.requires.2 start.requires.3 start.requires.0 (if1-taken) _ (ap (◌+◌ start.args.v) (width-says)) _ c.begin_line.ensures c.if-board-ge-ENDED.false in ((omega (arith, start.decreases, st.less, c.detour.ensures.fewer, c.detour-then-old-eq-UNDECIDED.ensures.fewer, c.detour-then-old-eq-UNDECIDED-2.ensures.fewer, c.detour-then-old-eq-UNDECIDED-3.ensures.fewer, c.detour-then-old-eq-UNDECIDED-4.ensures.fewer, c.detour-then-old-eq-UNDECIDED-5.ensures.fewer, c.corner_left.ensures.fewer, c.corner_right.ensures.fewer, c.bar.ensures.fewer, c.bar-then-old-eq-UNDECIDED.ensures.fewer, c.check.ensures.fewer, c.check-then-old-eq-UNDECIDED.ensures.fewer, check3-says.fewer)), ((line_end start.args.kind.now _ (down start.args.v) start.requires.2 start.requires.3 start.requires.0 (if1-taken) _ (ap (◌+◌ start.args.v) (width-says)) _ (line_second start.args.kind.now _ (down start.args.v) start.requires.2 start.requires.3 start.requires.0 (if1-taken) _ (ap (◌+◌ start.args.v) (width-says))) _ (end-pad2-says)).0, (line_end start.args.kind.now _ (down start.args.v) start.requires.2 start.requires.3 start.requires.0 (if1-taken) _ (ap (◌+◌ start.args.v) (width-says)) _ (line_second start.args.kind.now _ (down start.args.v) start.requires.2 start.requires.3 start.requires.0 (if1-taken) _ (ap (◌+◌ start.args.v) (width-says))) _ (end-pad2-says)).1, start.requires.2, check3-says.ready))
+    let st = line_is_stored start.args.kind.now _ (down start.args.v) start.requires.2 start.requires.3 start.requires.0 (if1-taken) _ (ap (◌+◌ start.args.v) (width-says)) _ c.begin_line.ensures c.if-board-ge-ENDED.false in ((omega (arith, start.decreases, st.less, c.detour.ensures.fewer, c.detour-then-old-eq-UNDECIDED.ensures.fewer, c.detour-then-old-eq-UNDECIDED-2.ensures.fewer, c.detour-then-old-eq-UNDECIDED-3.ensures.fewer, c.detour-then-old-eq-UNDECIDED-4.ensures.fewer, c.detour-then-old-eq-UNDECIDED-5.ensures.fewer, c.corner.ensures.fewer, c.corner-then-old-eq-UNDECIDED.ensures.fewer, c.bar.ensures.fewer, c.bar-then-old-eq-UNDECIDED.ensures.fewer, c.check.ensures.fewer, c.check-then-old-eq-UNDECIDED.ensures.fewer, check3-says.fewer)), ((line_end start.args.kind.now _ (down start.args.v) start.requires.2 start.requires.3 start.requires.0 (if1-taken) _ (ap (◌+◌ start.args.v) (width-says)) _ (line_second start.args.kind.now _ (down start.args.v) start.requires.2 start.requires.3 start.requires.0 (if1-taken) _ (ap (◌+◌ start.args.v) (width-says))) _ (end-pad2-says)).0, (line_end start.args.kind.now _ (down start.args.v) start.requires.2 start.requires.3 start.requires.0 (if1-taken) _ (ap (◌+◌ start.args.v) (width-says)) _ (line_second start.args.kind.now _ (down start.args.v) start.requires.2 start.requires.3 start.requires.0 (if1-taken) _ (ap (◌+◌ start.args.v) (width-says))) _ (end-pad2-says)).1, start.requires.2, check3-says.ready))
 
 pub decide_line_down-returns-then-old-eq-UNDECIDED : goal.decide_line_down-returns-then-old-eq-UNDECIDED
 decide_line_down-returns-then-old-eq-UNDECIDED t c =
     let start = c in
     let width-says = c.width-w.ensures in
-    line_returns start.args.kind.now _ (down start.args.v) start.requires.2 start.requires.3 start.requires.0 c.if-old-eq-UNDECIDED.true _ (ap (◌+◌ start.args.v) (width-says)) _ c.begin_line.ensures c.if-board-ge-ENDED.false _ _ c.end_pad-a.ensures c.end_pad-b.ensures _ (down_done start.args.kind.now start.requires.2 start.requires.3.few_pads start.args.v _ (width-says) start.requires.0 _ _ c.slot_where-if_left.ensures c.slot_where-if_right.ensures _ (done_then (grid_in start.args.kind.now) c.detour.ensures (done_then (grid_in start.args.kind.now) c.detour-then-old-eq-UNDECIDED.ensures (done_then (grid_in start.args.kind.now) c.detour-then-old-eq-UNDECIDED-2.ensures (done_then (grid_in start.args.kind.now) c.detour-then-old-eq-UNDECIDED-3.ensures (done_then (grid_in start.args.kind.now) c.detour-then-old-eq-UNDECIDED-4.ensures (done_then (grid_in start.args.kind.now) c.detour-then-old-eq-UNDECIDED-5.ensures (done_then (grid_in start.args.kind.now) c.corner_left.ensures (done_then (grid_in start.args.kind.now) c.corner_right.ensures (done_then (grid_in start.args.kind.now) c.bar.ensures (done_then (grid_in start.args.kind.now) c.bar-then-old-eq-UNDECIDED.ensures (done_then (grid_in start.args.kind.now) c.check.ensures (done_then (grid_in start.args.kind.now) c.check-then-old-eq-UNDECIDED.ensures (done_then (grid_in start.args.kind.now) c.check-then-old-eq-UNDECIDED-2.ensures c.check-then-old-eq-UNDECIDED-3.ensures)))))))))))))) _ c.end-board.ensures
+    line_returns start.args.kind.now _ (down start.args.v) start.requires.2 start.requires.3 start.requires.0 c.if-old-eq-UNDECIDED.true _ (ap (◌+◌ start.args.v) (width-says)) _ c.begin_line.ensures c.if-board-ge-ENDED.false _ _ c.end_pad-a.ensures c.end_pad-b.ensures _ (down_done start.args.kind.now start.requires.2 start.requires.3.few_pads start.args.v _ (width-says) start.requires.0 _ _ c.slot_where-if_left.ensures c.slot_where-if_right.ensures _ (done_then (grid_in start.args.kind.now) c.detour.ensures (done_then (grid_in start.args.kind.now) c.detour-then-old-eq-UNDECIDED.ensures (done_then (grid_in start.args.kind.now) c.detour-then-old-eq-UNDECIDED-2.ensures (done_then (grid_in start.args.kind.now) c.detour-then-old-eq-UNDECIDED-3.ensures (done_then (grid_in start.args.kind.now) c.detour-then-old-eq-UNDECIDED-4.ensures (done_then (grid_in start.args.kind.now) c.detour-then-old-eq-UNDECIDED-5.ensures (done_then (grid_in start.args.kind.now) c.corner.ensures (done_then (grid_in start.args.kind.now) c.corner-then-old-eq-UNDECIDED.ensures (done_then (grid_in start.args.kind.now) c.bar.ensures (done_then (grid_in start.args.kind.now) c.bar-then-old-eq-UNDECIDED.ensures (done_then (grid_in start.args.kind.now) c.check.ensures (done_then (grid_in start.args.kind.now) c.check-then-old-eq-UNDECIDED.ensures (done_then (grid_in start.args.kind.now) c.check-then-old-eq-UNDECIDED-2.ensures c.check-then-old-eq-UNDECIDED-3.ensures)))))))))))))) _ c.end-board.ensures
 
 pub decide_line_down-returns-then-old-eq-LINE : goal.decide_line_down-returns-then-old-eq-LINE
 decide_line_down-returns-then-old-eq-LINE t c = let start = c in line_again start.args.kind.now _ (down start.args.v) start.requires.2 start.requires.3 start.requires.0 c.if-old-eq-LINE.true _ c.end-board-then-old-eq-LINE.ensures
@@ -600,47 +566,47 @@ decide_line_right-detour-requires-then-old-eq-UNDECIDED-5 t c =
     let width-says = c.width-w.ensures in
     let st = line_is_stored start.args.kind.now _ (right start.args.v) start.requires.2 start.requires.3 start.requires.0 c.if-old-eq-UNDECIDED.true _ refl _ c.begin_line.ensures c.if-board-ge-ENDED.false in ((omega (arith, start.decreases, st.less, c.detour.ensures.fewer, c.detour-then-old-eq-UNDECIDED.ensures.fewer, c.detour-then-old-eq-UNDECIDED-2.ensures.fewer, c.detour-then-old-eq-UNDECIDED-3.ensures.fewer, detour5-says.fewer)), ((omega (arith, start.requires.1, start.requires.2.largest_width, width-says)), (omega (arith, start.requires.1, start.requires.2.largest_width, width-says)), (omega (arith, start.requires.1, start.requires.2.largest_width, width-says)), (λ o. (same_on (right_below start.args.kind.now start.requires.2 start.requires.3.few_pads start.args.v _ (width-says) start.requires.0) (right_left start.args.kind.now start.requires.2 start.requires.3.few_pads start.args.v _ (width-says) start.requires.0) o, same_on (right_below start.args.kind.now start.requires.2 start.requires.3.few_pads start.args.v _ (width-says) start.requires.0) (right_right start.args.kind.now start.requires.2 start.requires.3.few_pads start.args.v _ (width-says) start.requires.0) o)), start.requires.2, detour5-says.ready))
 
-pub decide_line_right-corner_right-requires : goal.decide_line_right-corner_right-requires
-decide_line_right-corner_right-requires t c =
+pub decide_line_right-corner-requires : goal.decide_line_right-corner-requires
+decide_line_right-corner-requires t c =
     let start = c in
     let detour6-says = c.detour-then-old-eq-UNDECIDED-5.ensures in
     let width-says = c.width-w.ensures in
     let st = line_is_stored start.args.kind.now _ (right start.args.v) start.requires.2 start.requires.3 start.requires.0 c.if-old-eq-UNDECIDED.true _ refl _ c.begin_line.ensures c.if-board-ge-ENDED.false in ((omega (arith, start.decreases, st.less, c.detour.ensures.fewer, c.detour-then-old-eq-UNDECIDED.ensures.fewer, c.detour-then-old-eq-UNDECIDED-2.ensures.fewer, c.detour-then-old-eq-UNDECIDED-3.ensures.fewer, c.detour-then-old-eq-UNDECIDED-4.ensures.fewer, detour6-says.fewer)), ((omega (arith, start.requires.1, start.requires.2.largest_width, width-says)), (omega (arith, start.requires.1, start.requires.2.largest_width, width-says)), (λ o. right_corner start.args.kind.now start.requires.2 start.requires.3.few_pads start.args.v _ (width-says) start.requires.0 _ refl o), start.requires.2, detour6-says.ready))
 
-pub decide_line_right-corner_left-requires : goal.decide_line_right-corner_left-requires
-decide_line_right-corner_left-requires t c =
+pub decide_line_right-corner-requires-then-old-eq-UNDECIDED : goal.decide_line_right-corner-requires-then-old-eq-UNDECIDED
+decide_line_right-corner-requires-then-old-eq-UNDECIDED t c =
     let start = c in
-    let corner-right-says = c.corner_right.ensures in
+    let corner-right-says = c.corner.ensures in
     let width-says = c.width-w.ensures in
     let st = line_is_stored start.args.kind.now _ (right start.args.v) start.requires.2 start.requires.3 start.requires.0 c.if-old-eq-UNDECIDED.true _ refl _ c.begin_line.ensures c.if-board-ge-ENDED.false in ((omega (arith, start.decreases, st.less, c.detour.ensures.fewer, c.detour-then-old-eq-UNDECIDED.ensures.fewer, c.detour-then-old-eq-UNDECIDED-2.ensures.fewer, c.detour-then-old-eq-UNDECIDED-3.ensures.fewer, c.detour-then-old-eq-UNDECIDED-4.ensures.fewer, c.detour-then-old-eq-UNDECIDED-5.ensures.fewer, corner-right-says.fewer)), ((omega (arith, start.requires.1, start.requires.2.largest_width, width-says)), (omega (arith, start.requires.1, start.requires.2.largest_width, width-says)), (λ o. left_corner start.args.kind.now start.requires.2 start.requires.3.few_pads start.args.v _ (width-says) start.requires.0 _ refl o), start.requires.2, corner-right-says.ready))
 
 pub decide_line_right-bar-requires : goal.decide_line_right-bar-requires
 decide_line_right-bar-requires t c =
     let start = c in
-    let corner-left-says = c.corner_left.ensures in
+    let corner-left-says = c.corner-then-old-eq-UNDECIDED.ensures in
     let width-says = c.width-w.ensures in
-    let st = line_is_stored start.args.kind.now _ (right start.args.v) start.requires.2 start.requires.3 start.requires.0 c.if-old-eq-UNDECIDED.true _ refl _ c.begin_line.ensures c.if-board-ge-ENDED.false in ((omega (arith, start.decreases, st.less, c.detour.ensures.fewer, c.detour-then-old-eq-UNDECIDED.ensures.fewer, c.detour-then-old-eq-UNDECIDED-2.ensures.fewer, c.detour-then-old-eq-UNDECIDED-3.ensures.fewer, c.detour-then-old-eq-UNDECIDED-4.ensures.fewer, c.detour-then-old-eq-UNDECIDED-5.ensures.fewer, c.corner_right.ensures.fewer, corner-left-says.fewer)), ((omega (arith, start.requires.1, start.requires.2.largest_width, width-says)), (omega (arith, start.requires.1, start.requires.2.largest_width, width-says)), right_bar_on start.args.kind.now start.requires.2 start.requires.3.few_pads start.args.v _ (width-says) start.requires.0, start.requires.2, corner-left-says.ready))
+    let st = line_is_stored start.args.kind.now _ (right start.args.v) start.requires.2 start.requires.3 start.requires.0 c.if-old-eq-UNDECIDED.true _ refl _ c.begin_line.ensures c.if-board-ge-ENDED.false in ((omega (arith, start.decreases, st.less, c.detour.ensures.fewer, c.detour-then-old-eq-UNDECIDED.ensures.fewer, c.detour-then-old-eq-UNDECIDED-2.ensures.fewer, c.detour-then-old-eq-UNDECIDED-3.ensures.fewer, c.detour-then-old-eq-UNDECIDED-4.ensures.fewer, c.detour-then-old-eq-UNDECIDED-5.ensures.fewer, c.corner.ensures.fewer, corner-left-says.fewer)), ((omega (arith, start.requires.1, start.requires.2.largest_width, width-says)), (omega (arith, start.requires.1, start.requires.2.largest_width, width-says)), right_bar_on start.args.kind.now start.requires.2 start.requires.3.few_pads start.args.v _ (width-says) start.requires.0, start.requires.2, corner-left-says.ready))
 
 pub decide_line_right-bar-requires-then-old-eq-UNDECIDED : goal.decide_line_right-bar-requires-then-old-eq-UNDECIDED
 decide_line_right-bar-requires-then-old-eq-UNDECIDED t c =
     let start = c in
     let bar-says = c.bar.ensures in
     let width-says = c.width-w.ensures in
-    let st = line_is_stored start.args.kind.now _ (right start.args.v) start.requires.2 start.requires.3 start.requires.0 c.if-old-eq-UNDECIDED.true _ refl _ c.begin_line.ensures c.if-board-ge-ENDED.false in ((omega (arith, start.decreases, st.less, c.detour.ensures.fewer, c.detour-then-old-eq-UNDECIDED.ensures.fewer, c.detour-then-old-eq-UNDECIDED-2.ensures.fewer, c.detour-then-old-eq-UNDECIDED-3.ensures.fewer, c.detour-then-old-eq-UNDECIDED-4.ensures.fewer, c.detour-then-old-eq-UNDECIDED-5.ensures.fewer, c.corner_right.ensures.fewer, c.corner_left.ensures.fewer, bar-says.fewer)), ((omega (arith, start.requires.1, start.requires.2.largest_width, width-says)), (omega (arith, start.requires.1, start.requires.2.largest_width, width-says)), left_bar_on start.args.kind.now start.requires.2 start.requires.3.few_pads start.args.v _ (width-says) start.requires.0, start.requires.2, bar-says.ready))
+    let st = line_is_stored start.args.kind.now _ (right start.args.v) start.requires.2 start.requires.3 start.requires.0 c.if-old-eq-UNDECIDED.true _ refl _ c.begin_line.ensures c.if-board-ge-ENDED.false in ((omega (arith, start.decreases, st.less, c.detour.ensures.fewer, c.detour-then-old-eq-UNDECIDED.ensures.fewer, c.detour-then-old-eq-UNDECIDED-2.ensures.fewer, c.detour-then-old-eq-UNDECIDED-3.ensures.fewer, c.detour-then-old-eq-UNDECIDED-4.ensures.fewer, c.detour-then-old-eq-UNDECIDED-5.ensures.fewer, c.corner.ensures.fewer, c.corner-then-old-eq-UNDECIDED.ensures.fewer, bar-says.fewer)), ((omega (arith, start.requires.1, start.requires.2.largest_width, width-says)), (omega (arith, start.requires.1, start.requires.2.largest_width, width-says)), left_bar_on start.args.kind.now start.requires.2 start.requires.3.few_pads start.args.v _ (width-says) start.requires.0, start.requires.2, bar-says.ready))
 
 pub decide_line_right-check-requires : goal.decide_line_right-check-requires
 decide_line_right-check-requires t c =
     let start = c in
     let if1-taken = c.if-old-eq-UNDECIDED.true in
     let bar2-says = c.bar-then-old-eq-UNDECIDED.ensures in
-    let st = line_is_stored start.args.kind.now _ (right start.args.v) start.requires.2 start.requires.3 start.requires.0 (if1-taken) _ refl _ c.begin_line.ensures c.if-board-ge-ENDED.false in ((omega (arith, start.decreases, st.less, c.detour.ensures.fewer, c.detour-then-old-eq-UNDECIDED.ensures.fewer, c.detour-then-old-eq-UNDECIDED-2.ensures.fewer, c.detour-then-old-eq-UNDECIDED-3.ensures.fewer, c.detour-then-old-eq-UNDECIDED-4.ensures.fewer, c.detour-then-old-eq-UNDECIDED-5.ensures.fewer, c.corner_right.ensures.fewer, c.corner_left.ensures.fewer, c.bar.ensures.fewer, bar2-says.fewer)), ((omega (arith, (line_first start.args.kind.now _ (right start.args.v) start.requires.2 start.requires.3 start.requires.0 (if1-taken) _ refl), start.requires.3.few_pads)), (λ h. (line_first start.args.kind.now _ (right start.args.v) start.requires.2 start.requires.3 start.requires.0 (if1-taken) _ refl)), start.requires.2, bar2-says.ready))
+    let st = line_is_stored start.args.kind.now _ (right start.args.v) start.requires.2 start.requires.3 start.requires.0 (if1-taken) _ refl _ c.begin_line.ensures c.if-board-ge-ENDED.false in ((omega (arith, start.decreases, st.less, c.detour.ensures.fewer, c.detour-then-old-eq-UNDECIDED.ensures.fewer, c.detour-then-old-eq-UNDECIDED-2.ensures.fewer, c.detour-then-old-eq-UNDECIDED-3.ensures.fewer, c.detour-then-old-eq-UNDECIDED-4.ensures.fewer, c.detour-then-old-eq-UNDECIDED-5.ensures.fewer, c.corner.ensures.fewer, c.corner-then-old-eq-UNDECIDED.ensures.fewer, c.bar.ensures.fewer, bar2-says.fewer)), ((omega (arith, (line_first start.args.kind.now _ (right start.args.v) start.requires.2 start.requires.3 start.requires.0 (if1-taken) _ refl), start.requires.3.few_pads)), (λ h. (line_first start.args.kind.now _ (right start.args.v) start.requires.2 start.requires.3 start.requires.0 (if1-taken) _ refl)), start.requires.2, bar2-says.ready))
 
 pub decide_line_right-check-requires-then-old-eq-UNDECIDED : goal.decide_line_right-check-requires-then-old-eq-UNDECIDED
 decide_line_right-check-requires-then-old-eq-UNDECIDED t c =
     let start = c in
     let if1-taken = c.if-old-eq-UNDECIDED.true in
     let check-says = c.check.ensures in
-    let st = line_is_stored start.args.kind.now _ (right start.args.v) start.requires.2 start.requires.3 start.requires.0 (if1-taken) _ refl _ c.begin_line.ensures c.if-board-ge-ENDED.false in ((omega (arith, start.decreases, st.less, c.detour.ensures.fewer, c.detour-then-old-eq-UNDECIDED.ensures.fewer, c.detour-then-old-eq-UNDECIDED-2.ensures.fewer, c.detour-then-old-eq-UNDECIDED-3.ensures.fewer, c.detour-then-old-eq-UNDECIDED-4.ensures.fewer, c.detour-then-old-eq-UNDECIDED-5.ensures.fewer, c.corner_right.ensures.fewer, c.corner_left.ensures.fewer, c.bar.ensures.fewer, c.bar-then-old-eq-UNDECIDED.ensures.fewer, check-says.fewer)), ((omega (arith, (line_second start.args.kind.now _ (right start.args.v) start.requires.2 start.requires.3 start.requires.0 (if1-taken) _ refl), start.requires.3.few_pads)), (λ h. (line_second start.args.kind.now _ (right start.args.v) start.requires.2 start.requires.3 start.requires.0 (if1-taken) _ refl)), start.requires.2, check-says.ready))
+    let st = line_is_stored start.args.kind.now _ (right start.args.v) start.requires.2 start.requires.3 start.requires.0 (if1-taken) _ refl _ c.begin_line.ensures c.if-board-ge-ENDED.false in ((omega (arith, start.decreases, st.less, c.detour.ensures.fewer, c.detour-then-old-eq-UNDECIDED.ensures.fewer, c.detour-then-old-eq-UNDECIDED-2.ensures.fewer, c.detour-then-old-eq-UNDECIDED-3.ensures.fewer, c.detour-then-old-eq-UNDECIDED-4.ensures.fewer, c.detour-then-old-eq-UNDECIDED-5.ensures.fewer, c.corner.ensures.fewer, c.corner-then-old-eq-UNDECIDED.ensures.fewer, c.bar.ensures.fewer, c.bar-then-old-eq-UNDECIDED.ensures.fewer, check-says.fewer)), ((omega (arith, (line_second start.args.kind.now _ (right start.args.v) start.requires.2 start.requires.3 start.requires.0 (if1-taken) _ refl), start.requires.3.few_pads)), (λ h. (line_second start.args.kind.now _ (right start.args.v) start.requires.2 start.requires.3 start.requires.0 (if1-taken) _ refl)), start.requires.2, check-says.ready))
 
 pub decide_line_right-check-requires-then-old-eq-UNDECIDED-2 : goal.decide_line_right-check-requires-then-old-eq-UNDECIDED-2
 decide_line_right-check-requires-then-old-eq-UNDECIDED-2 t c =
@@ -648,7 +614,7 @@ decide_line_right-check-requires-then-old-eq-UNDECIDED-2 t c =
     let if1-taken = c.if-old-eq-UNDECIDED.true in
     let check2-says = c.check-then-old-eq-UNDECIDED.ensures in
     let end-pad-says = c.end_pad-a.ensures in
-    let st = line_is_stored start.args.kind.now _ (right start.args.v) start.requires.2 start.requires.3 start.requires.0 (if1-taken) _ refl _ c.begin_line.ensures c.if-board-ge-ENDED.false in ((omega (arith, start.decreases, st.less, c.detour.ensures.fewer, c.detour-then-old-eq-UNDECIDED.ensures.fewer, c.detour-then-old-eq-UNDECIDED-2.ensures.fewer, c.detour-then-old-eq-UNDECIDED-3.ensures.fewer, c.detour-then-old-eq-UNDECIDED-4.ensures.fewer, c.detour-then-old-eq-UNDECIDED-5.ensures.fewer, c.corner_right.ensures.fewer, c.corner_left.ensures.fewer, c.bar.ensures.fewer, c.bar-then-old-eq-UNDECIDED.ensures.fewer, c.check.ensures.fewer, check2-says.fewer)), ((line_end start.args.kind.now _ (right start.args.v) start.requires.2 start.requires.3 start.requires.0 (if1-taken) _ refl start.args.v (line_first start.args.kind.now _ (right start.args.v) start.requires.2 start.requires.3 start.requires.0 (if1-taken) _ refl) _ (end-pad-says)).0, (line_end start.args.kind.now _ (right start.args.v) start.requires.2 start.requires.3 start.requires.0 (if1-taken) _ refl start.args.v (line_first start.args.kind.now _ (right start.args.v) start.requires.2 start.requires.3 start.requires.0 (if1-taken) _ refl) _ (end-pad-says)).1, start.requires.2, check2-says.ready))
+    let st = line_is_stored start.args.kind.now _ (right start.args.v) start.requires.2 start.requires.3 start.requires.0 (if1-taken) _ refl _ c.begin_line.ensures c.if-board-ge-ENDED.false in ((omega (arith, start.decreases, st.less, c.detour.ensures.fewer, c.detour-then-old-eq-UNDECIDED.ensures.fewer, c.detour-then-old-eq-UNDECIDED-2.ensures.fewer, c.detour-then-old-eq-UNDECIDED-3.ensures.fewer, c.detour-then-old-eq-UNDECIDED-4.ensures.fewer, c.detour-then-old-eq-UNDECIDED-5.ensures.fewer, c.corner.ensures.fewer, c.corner-then-old-eq-UNDECIDED.ensures.fewer, c.bar.ensures.fewer, c.bar-then-old-eq-UNDECIDED.ensures.fewer, c.check.ensures.fewer, check2-says.fewer)), ((line_end start.args.kind.now _ (right start.args.v) start.requires.2 start.requires.3 start.requires.0 (if1-taken) _ refl start.args.v (line_first start.args.kind.now _ (right start.args.v) start.requires.2 start.requires.3 start.requires.0 (if1-taken) _ refl) _ (end-pad-says)).0, (line_end start.args.kind.now _ (right start.args.v) start.requires.2 start.requires.3 start.requires.0 (if1-taken) _ refl start.args.v (line_first start.args.kind.now _ (right start.args.v) start.requires.2 start.requires.3 start.requires.0 (if1-taken) _ refl) _ (end-pad-says)).1, start.requires.2, check2-says.ready))
 
 pub decide_line_right-check-requires-then-old-eq-UNDECIDED-3 : goal.decide_line_right-check-requires-then-old-eq-UNDECIDED-3
 decide_line_right-check-requires-then-old-eq-UNDECIDED-3 t c =
@@ -656,10 +622,10 @@ decide_line_right-check-requires-then-old-eq-UNDECIDED-3 t c =
     let if1-taken = c.if-old-eq-UNDECIDED.true in
     let check3-says = c.check-then-old-eq-UNDECIDED-2.ensures in
     let end-pad2-says = c.end_pad-b.ensures in
-    let st = line_is_stored start.args.kind.now _ (right start.args.v) start.requires.2 start.requires.3 start.requires.0 (if1-taken) _ refl _ c.begin_line.ensures c.if-board-ge-ENDED.false in ((omega (arith, start.decreases, st.less, c.detour.ensures.fewer, c.detour-then-old-eq-UNDECIDED.ensures.fewer, c.detour-then-old-eq-UNDECIDED-2.ensures.fewer, c.detour-then-old-eq-UNDECIDED-3.ensures.fewer, c.detour-then-old-eq-UNDECIDED-4.ensures.fewer, c.detour-then-old-eq-UNDECIDED-5.ensures.fewer, c.corner_right.ensures.fewer, c.corner_left.ensures.fewer, c.bar.ensures.fewer, c.bar-then-old-eq-UNDECIDED.ensures.fewer, c.check.ensures.fewer, c.check-then-old-eq-UNDECIDED.ensures.fewer, check3-says.fewer)), ((line_end start.args.kind.now _ (right start.args.v) start.requires.2 start.requires.3 start.requires.0 (if1-taken) _ refl _ (line_second start.args.kind.now _ (right start.args.v) start.requires.2 start.requires.3 start.requires.0 (if1-taken) _ refl) _ (end-pad2-says)).0, (line_end start.args.kind.now _ (right start.args.v) start.requires.2 start.requires.3 start.requires.0 (if1-taken) _ refl _ (line_second start.args.kind.now _ (right start.args.v) start.requires.2 start.requires.3 start.requires.0 (if1-taken) _ refl) _ (end-pad2-says)).1, start.requires.2, check3-says.ready))
+    let st = line_is_stored start.args.kind.now _ (right start.args.v) start.requires.2 start.requires.3 start.requires.0 (if1-taken) _ refl _ c.begin_line.ensures c.if-board-ge-ENDED.false in ((omega (arith, start.decreases, st.less, c.detour.ensures.fewer, c.detour-then-old-eq-UNDECIDED.ensures.fewer, c.detour-then-old-eq-UNDECIDED-2.ensures.fewer, c.detour-then-old-eq-UNDECIDED-3.ensures.fewer, c.detour-then-old-eq-UNDECIDED-4.ensures.fewer, c.detour-then-old-eq-UNDECIDED-5.ensures.fewer, c.corner.ensures.fewer, c.corner-then-old-eq-UNDECIDED.ensures.fewer, c.bar.ensures.fewer, c.bar-then-old-eq-UNDECIDED.ensures.fewer, c.check.ensures.fewer, c.check-then-old-eq-UNDECIDED.ensures.fewer, check3-says.fewer)), ((line_end start.args.kind.now _ (right start.args.v) start.requires.2 start.requires.3 start.requires.0 (if1-taken) _ refl _ (line_second start.args.kind.now _ (right start.args.v) start.requires.2 start.requires.3 start.requires.0 (if1-taken) _ refl) _ (end-pad2-says)).0, (line_end start.args.kind.now _ (right start.args.v) start.requires.2 start.requires.3 start.requires.0 (if1-taken) _ refl _ (line_second start.args.kind.now _ (right start.args.v) start.requires.2 start.requires.3 start.requires.0 (if1-taken) _ refl) _ (end-pad2-says)).1, start.requires.2, check3-says.ready))
 
 pub decide_line_right-returns-then-old-eq-UNDECIDED : goal.decide_line_right-returns-then-old-eq-UNDECIDED
-decide_line_right-returns-then-old-eq-UNDECIDED t c = let start = c in line_returns start.args.kind.now _ (right start.args.v) start.requires.2 start.requires.3 start.requires.0 c.if-old-eq-UNDECIDED.true _ refl _ c.begin_line.ensures c.if-board-ge-ENDED.false _ _ c.end_pad-a.ensures c.end_pad-b.ensures _ (right_done start.args.kind.now start.requires.2 start.requires.3.few_pads start.args.v _ c.width-w.ensures start.requires.0 _ (done_then (grid_in start.args.kind.now) c.detour.ensures (done_then (grid_in start.args.kind.now) c.detour-then-old-eq-UNDECIDED.ensures (done_then (grid_in start.args.kind.now) c.detour-then-old-eq-UNDECIDED-2.ensures (done_then (grid_in start.args.kind.now) c.detour-then-old-eq-UNDECIDED-3.ensures (done_then (grid_in start.args.kind.now) c.detour-then-old-eq-UNDECIDED-4.ensures (done_then (grid_in start.args.kind.now) c.detour-then-old-eq-UNDECIDED-5.ensures (done_then (grid_in start.args.kind.now) c.corner_right.ensures (done_then (grid_in start.args.kind.now) c.corner_left.ensures (done_then (grid_in start.args.kind.now) c.bar.ensures (done_then (grid_in start.args.kind.now) c.bar-then-old-eq-UNDECIDED.ensures (done_then (grid_in start.args.kind.now) c.check.ensures (done_then (grid_in start.args.kind.now) c.check-then-old-eq-UNDECIDED.ensures (done_then (grid_in start.args.kind.now) c.check-then-old-eq-UNDECIDED-2.ensures c.check-then-old-eq-UNDECIDED-3.ensures)))))))))))))) _ c.end-board.ensures
+decide_line_right-returns-then-old-eq-UNDECIDED t c = let start = c in line_returns start.args.kind.now _ (right start.args.v) start.requires.2 start.requires.3 start.requires.0 c.if-old-eq-UNDECIDED.true _ refl _ c.begin_line.ensures c.if-board-ge-ENDED.false _ _ c.end_pad-a.ensures c.end_pad-b.ensures _ (right_done start.args.kind.now start.requires.2 start.requires.3.few_pads start.args.v _ c.width-w.ensures start.requires.0 _ (done_then (grid_in start.args.kind.now) c.detour.ensures (done_then (grid_in start.args.kind.now) c.detour-then-old-eq-UNDECIDED.ensures (done_then (grid_in start.args.kind.now) c.detour-then-old-eq-UNDECIDED-2.ensures (done_then (grid_in start.args.kind.now) c.detour-then-old-eq-UNDECIDED-3.ensures (done_then (grid_in start.args.kind.now) c.detour-then-old-eq-UNDECIDED-4.ensures (done_then (grid_in start.args.kind.now) c.detour-then-old-eq-UNDECIDED-5.ensures (done_then (grid_in start.args.kind.now) c.corner.ensures (done_then (grid_in start.args.kind.now) c.corner-then-old-eq-UNDECIDED.ensures (done_then (grid_in start.args.kind.now) c.bar.ensures (done_then (grid_in start.args.kind.now) c.bar-then-old-eq-UNDECIDED.ensures (done_then (grid_in start.args.kind.now) c.check.ensures (done_then (grid_in start.args.kind.now) c.check-then-old-eq-UNDECIDED.ensures (done_then (grid_in start.args.kind.now) c.check-then-old-eq-UNDECIDED-2.ensures c.check-then-old-eq-UNDECIDED-3.ensures)))))))))))))) _ c.end-board.ensures
 
 pub decide_line_right-returns-then-old-eq-LINE : goal.decide_line_right-returns-then-old-eq-LINE
 decide_line_right-returns-then-old-eq-LINE t c = let start = c in line_again start.args.kind.now _ (right start.args.v) start.requires.2 start.requires.3 start.requires.0 c.if-old-eq-LINE.true _ c.end-board-then-old-eq-LINE.ensures

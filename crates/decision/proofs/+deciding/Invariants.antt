@@ -13,11 +13,8 @@ decreases-check l = 3 * undecided_in l.board.now.edges + 2
 abbrev pub decreases-check_pad : goal.decreases-check_pad
 decreases-check_pad l = 3 * undecided_in l.board.now.edges + 1
 
-abbrev pub decreases-corner_left : goal.decreases-corner_left
-decreases-corner_left l = 3 * undecided_in l.board.now.edges + 1
-
-abbrev pub decreases-corner_right : goal.decreases-corner_right
-decreases-corner_right l = 3 * undecided_in l.board.now.edges + 1
+abbrev pub decreases-corner : goal.decreases-corner
+decreases-corner l = 3 * undecided_in l.board.now.edges + 1
 
 abbrev pub decreases-decide_line_down : goal.decreases-decide_line_down
 decreases-decide_line_down l = 3 * undecided_in l.board.now.edges
