@@ -85,24 +85,6 @@ fn flag_number(count: usize) -> usize
     if count < FLAGGED { 0 } else { 1 }
 }
 
-fn no_bytes() -> [u8; 961]
-    ensures { length result ≡ 961 }
-{
-    [0; 961]
-}
-
-fn no_ends() -> [i64; 256]
-    ensures { length result ≡ 256 }
-{
-    [0; 256]
-}
-
-fn no_marks() -> [usize; 256]
-    ensures { length result ≡ 256 }
-{
-    [0; 256]
-}
-
 // A declined call: its number, and the board as it was.
 fn declined(board: Board, number: u8) -> Answer
     ensures { result ≡ declined_with number board }
@@ -122,11 +104,12 @@ fn fresh(height: usize, width: usize, cells: &[i64]) -> Board
     let fresh = boardfresh::fresh_board(height, width, cells);
     let arrays = fresh.board;
     let kind = fresh.kind;
+    let marks = [0; 256];
     Board {
         arrays,
         kind,
         fresh: arrays.count,
-        marks: no_marks(),
+        marks,
         standing: 0,
     }
 }
@@ -169,7 +152,7 @@ fn record_of(edges: &[u8; 1024], kind: &[u8; 1024]) -> [u8; 961]
     requires { Kinds kind.now × (length edges.now ≡ 1024) × ((n : ℕ) → get_or edges.now n 2 ≤ 2) }
     ensures { take (places (grid_in kind.now).height (grid_in kind.now).width) result ≡ record_shown (grid_in kind.now) edges.now }
 {
-    let mut bytes = no_bytes();
+    let mut bytes = [0; 961];
     boardrecord::put_record(edges, kind, &mut bytes, 0);
     bytes
 }
@@ -179,12 +162,8 @@ fn shown_ends(ends: &[i64; 512]) -> [i64; 256]
     requires { length ends.now ≡ 512 }
     ensures { Laid (end_at_index ends.now) 256 result 256 }
 {
-    let mut shown = no_ends();
-    let mut i = 0;
-    while i < 256 {
-        shown[i] = ends[i];
-        i += 1;
-    }
+    let mut shown = [0; 256];
+    shown.copy_from_slice(&ends[..256]);
     shown
 }
 
