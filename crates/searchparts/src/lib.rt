@@ -66,14 +66,12 @@ pub fn next_pad(edges: &[u8; 1024], last: usize, from: usize) -> usize
     requires { (from ≤ last) × (last ≤ 256) × (length edges.now ≡ 1024) }
     ensures { NextPad edges.now last from result }
 {
-    let mut v = from;
-    while v < last {
+    for v in from..last {
         if edges[32 + 2 * v] == UNDECIDED {
             return v;
         }
-        v += 1;
     }
-    v
+    last
 }
 
 // A layout is complete: its record is put into the buffer and counted, or the buffer is full.

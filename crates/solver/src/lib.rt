@@ -13,7 +13,7 @@ ghost use Rattle.tally.specs.Empty.{empty};
 ghost use Rattle.solver.specs.Answers.{so_far};
 ghost use Rattle.solver.specs.Answers as answers;
 
-use boardparts::FLAGGED;
+use boardparts::{Direction, FLAGGED};
 use boardview::Arrays;
 use grid::Refusal;
 use tally::{Solved, Stop, Tally};
@@ -39,8 +39,8 @@ fn attempt(
         return Ok(());
     }
     let before = board.count;
-    decision::decide_right(board, kind, v, right);
-    decision::decide_down(board, kind, v, down);
+    decision::decide(board, kind, Direction::Right, v, right);
+    decision::decide(board, kind, Direction::Down, v, down);
     if board.count < FLAGGED {
         let last = searchparts::first_of_last_row(kind);
         let next = searchparts::next_pad(&board.edges, last, v + 1);

@@ -20,15 +20,15 @@ attempt-tried-requires t c = (pad_small _ _ c.requires.0.ready c.requires.0.kind
 pub attempt-returns-then-not-tried : goal.attempt-returns-then-not-tried
 attempt-returns-then-not-tried t c = (not_tried _ _ _ _ _ _ _ c.requires.0.inside (sym c.tried.ensures ∙ not-true _ (ap not c.if-not-tried.true)), refl)
 
-pub attempt-decide_right-requires : goal.attempt-decide_right-requires
-attempt-decide_right-requires t c =
+pub attempt-decide-requires : goal.attempt-decide-requires
+attempt-decide-requires t c =
     let start = c in
     (pad_small _ _ start.requires.0.ready start.requires.0.kinds.least_height _ start.requires.1, start.requires.0.kinds, start.requires.0.ready, right_on_board _ _ start.requires.0.ready start.requires.0.kinds.least_height _ start.requires.1)
 
-pub attempt-decide_down-requires : goal.attempt-decide_down-requires
-attempt-decide_down-requires t c =
+pub attempt-decide-requires-2 : goal.attempt-decide-requires-2
+attempt-decide-requires-2 t c =
     let start = c in
-    (pad_small _ _ start.requires.0.ready start.requires.0.kinds.least_height _ start.requires.1, start.requires.0.kinds, c.decide_right.ensures.ready, down_on_board _ _ start.requires.0.ready start.requires.0.kinds.least_height _ start.requires.1)
+    (pad_small _ _ start.requires.0.ready start.requires.0.kinds.least_height _ start.requires.1, start.requires.0.kinds, c.decide.ensures.ready, down_on_board _ _ start.requires.0.ready start.requires.0.kinds.least_height _ start.requires.1)
 
 pub attempt-first_of_last_row-last-requires : goal.attempt-first_of_last_row-last-requires
 attempt-first_of_last_row-last-requires t c = c.requires.0.kinds
@@ -37,21 +37,21 @@ pub attempt-overflow_add-v : goal.attempt-overflow_add-v
 attempt-overflow_add-v t c = let k = pad_small _ _ c.requires.0.ready c.requires.0.kinds.least_height _ c.requires.1 in omega arith
 
 pub attempt-next_pad-next-requires : goal.attempt-next_pad-next-requires
-attempt-next_pad-next-requires t c = let below = row_below _ _ c.requires.0.ready c.requires.0.kinds.least_height in (omega (arith, c.first_of_last_row-last.ensures, c.requires.1.low), omega (arith, c.first_of_last_row-last.ensures), c.decide_down.ensures.ready.edges_long)
+attempt-next_pad-next-requires t c = let below = row_below _ _ c.requires.0.ready c.requires.0.kinds.least_height in (omega (arith, c.first_of_last_row-last.ensures, c.requires.1.low), omega (arith, c.first_of_last_row-last.ensures), c.decide-2.ensures.ready.edges_long)
 
 pub attempt-backtrack-outcome-requires : goal.attempt-backtrack-outcome-requires
 attempt-backtrack-outcome-requires t c =
     let start = c in
     let next-pad-says = c.next_pad-next.ensures in
-    let decide-down-says = c.decide_down.ensures in
+    let decide-down-says = c.decide-2.ensures in
     let if2-taken = c.if-board-lt-FLAGGED.true in
-    (omega (arith, start.decreases, next-pad-says.later, row_small _ _ start.requires.0.ready start.requires.0.kinds.least_height, start.requires.1.low), (record { kinds = start.requires.0.kinds; ready = decide-down-says.ready; clear = if2-taken; inside = start.requires.0.inside }, next_entered _ _ _ _ _ (sym c.tried.ensures ∙ not-false _ (ap not c.if-not-tried.false)) start.requires.0.ready _ _ c.decide_right.ensures (decide-down-says) start.requires.0.kinds.least_width start.requires.0.kinds.least_height (row_few _ _ start.requires.0.ready start.requires.0.kinds.least_height) (if2-taken) start.requires.1.low _ (next_in_row _ _ _ _ _ c.first_of_last_row-last.ensures (next-pad-says))))
+    (omega (arith, start.decreases, next-pad-says.later, row_small _ _ start.requires.0.ready start.requires.0.kinds.least_height, start.requires.1.low), (record { kinds = start.requires.0.kinds; ready = decide-down-says.ready; clear = if2-taken; inside = start.requires.0.inside }, next_entered _ _ _ _ _ (sym c.tried.ensures ∙ not-false _ (ap not c.if-not-tried.false)) start.requires.0.ready _ _ c.decide.ensures (decide-down-says) start.requires.0.kinds.least_width start.requires.0.kinds.least_height (row_few _ _ start.requires.0.ready start.requires.0.kinds.least_height) (if2-taken) start.requires.1.low _ (next_in_row _ _ _ _ _ c.first_of_last_row-last.ensures (next-pad-says))))
 
 pub attempt-undo-requires : goal.attempt-undo-requires
 attempt-undo-requires t c =
     let start = c in
-    let ready = ready_restored _ _ _ c.backtrack-outcome.ensures.1 c.backtrack-outcome.ensures.0.restored c.decide_down.ensures.ready in
-    let since = since_restored _ _ _ _ c.backtrack-outcome.ensures.1 (since_then _ _ _ _ c.decide_right.ensures.since c.decide_down.ensures.since) c.backtrack-outcome.ensures.0.restored in
+    let ready = ready_restored _ _ _ c.backtrack-outcome.ensures.1 c.backtrack-outcome.ensures.0.restored c.decide-2.ensures.ready in
+    let since = since_restored _ _ _ _ c.backtrack-outcome.ensures.1 (since_then _ _ _ _ c.decide.ensures.since c.decide-2.ensures.since) c.backtrack-outcome.ensures.0.restored in
     (omega (arith, since.longer), omega (arith, ready.room), ready.ends_long, start.requires.0.kinds, ready.few_pads, ready.entries)
 
 pub attempt-shape_of-buffer-then-board-lt-FLAGGED : goal.attempt-shape_of-buffer-then-board-lt-FLAGGED
@@ -60,23 +60,23 @@ attempt-shape_of-buffer-then-board-lt-FLAGGED t c = c.backtrack-outcome.ensures.
 pub attempt-returns-then-board-lt-FLAGGED : goal.attempt-returns-then-board-lt-FLAGGED
 attempt-returns-then-board-lt-FLAGGED t c =
     let start = c in
-    let decide-right-says = c.decide_right.ensures in
-    let decide-down-says = c.decide_down.ensures in
+    let decide-right-says = c.decide.ensures in
+    let decide-down-says = c.decide-2.ensures in
     let backtrack-says = c.backtrack-outcome.ensures in
     let back = gone_back _ _ _ _ (since_restored _ _ _ _ backtrack-says.1 (since_then _ _ _ _ decide-right-says.since decide-down-says.since) backtrack-says.0.restored) (backtrack-says.0.restored.log_long ∙ decide-down-says.ready.log_long ∙ sym start.requires.0.ready.log_long) c.undo.ensures in
     (went_on _ _ _ _ _ (sym c.tried.ensures ∙ not-false _ (ap not c.if-not-tried.false)) start.requires.0.ready _ _ (decide-right-says) (decide-down-says) start.requires.0.kinds.least_width start.requires.0.kinds.least_height (row_few _ _ start.requires.0.ready start.requires.0.kinds.least_height) c.if-board-lt-FLAGGED.true start.requires.1.low _ (next_in_row _ _ _ _ _ c.first_of_last_row-last.ensures c.next_pad-next.ensures) _ _ _ _ _ backtrack-says.0 back.0, back.1)
 
 pub attempt-undo-requires-2 : goal.attempt-undo-requires-2
 attempt-undo-requires-2 t c =
-    let ready = c.decide_down.ensures.ready in
-    let since = since_then _ _ _ _ c.decide_right.ensures.since c.decide_down.ensures.since in
+    let ready = c.decide-2.ensures.ready in
+    let since = since_then _ _ _ _ c.decide.ensures.since c.decide-2.ensures.since in
     (omega (arith, since.longer), omega (arith, ready.room), ready.ends_long, c.requires.0.kinds, ready.few_pads, ready.entries)
 
 pub attempt-returns : goal.attempt-returns
 attempt-returns t c =
     let start = c in
-    let decide-right-says = c.decide_right.ensures in
-    let decide-down-says = c.decide_down.ensures in
+    let decide-right-says = c.decide.ensures in
+    let decide-down-says = c.decide-2.ensures in
     let back = gone_back _ _ _ _ (since_then _ _ _ _ decide-right-says.since decide-down-says.since) (decide-down-says.ready.log_long ∙ sym start.requires.0.ready.log_long) c.undo-2.ensures in
     (flagged _ _ _ _ _ (sym c.tried.ensures ∙ not-false _ (ap not c.if-not-tried.false)) start.requires.0.ready _ _ (decide-right-says) (decide-down-says) _ _ start.requires.0.inside c.if-board-lt-FLAGGED.false _ back.0, back.1)
 
