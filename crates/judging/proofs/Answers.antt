@@ -1,17 +1,20 @@
 -- Laws of the answers: what is answered by the refusals, by the verdict of an accepted grid, and by the lines. They rest on the model's
 -- Judge.antt.
 use Prim.Native.Nat.{ℕ}
-use mathlib.Core.Path.{◌≡◌, refl, ap, ◌∙◌}
+use mathlib.Core.Path.{◌≡◌, refl, sym, ap, ◌∙◌}
 use mathlib.Core.List.{List}
 use lib.IntN.{ℤ}
-use borrow.Author.Tests.{ne_eqb}
 use Rattle.rules.specs.Grid.{grid_of, Accepted}
 use Rattle.rules.specs.Record.{record_lines}
 use Rattle.model.specs.Refusals.{grid_refusal}
 use Rattle.model.specs.RefusalLaws.{not_refused}
 use Rattle.model.specs.Judge as model
 use Rattle.model.specs.Judge.{verdict, judge}
-use Rattle.judging.specs.Judging.{answer}
+use Rattle.std.specs.Prelude.{Err}
+use Rattle.grid.specs.declared.Refusal.{Refusal}
+use Rattle.grid.specs.declared.Refusal.TheVariants.{Size, CellCount, Cell}
+use Rattle.grid.specs.Answers.{refusal_says}
+use Rattle.judging.specs.Judging.{judged_says, answer}
 
 -- A VERDICT WITH THE LINES
 module _ (said lines : ℕ) where
@@ -22,15 +25,16 @@ module _ (said lines : ℕ) where
   a_layout n m is h k = is ∙ (λ i. answer (h i) (k i))
 
 -- THE ANSWER
-module _ (height width : ℕ) (cells : List ℤ) (bytes : List ℕ) {number index : ℕ} (refusal : (number, index) ≡ grid_refusal height width cells) where
-  pub refused : (number ≡ 0 → ⊥) → record { number = number; index = index; verdict = 0; lines = 0 } ≡ judge height width cells bytes
+module _ (height width : ℕ) (cells : List ℤ) (bytes : List ℕ) where
+  pub refused : (r : Refusal) → refusal_says (Err r) ≡ grid_refusal height width cells → judged_says (Err r) ≡ judge height width cells bytes
   unfolding judge
-  refused h = rw (← refusal, ne_eqb number 0 h) refl
+  refused Size is = rw (← is) refl
+  refused CellCount is = rw (← is) refl
+  refused (Cell index) is = rw (← is) refl
 
-  module _ (none : number ≡ 0) where
-    pub accepted : Accepted height width cells
-    accepted = not_refused height width cells (rw (← refusal) none)
+  pub accepted : (0, 0) ≡ grid_refusal height width cells → Accepted height width cells
+  accepted none = not_refused height width cells (ap (λ (p : ℕ × ℕ). p.0) (sym none))
 
-    pub judged : {said : model.Judged} → said ≡ answer (verdict (grid_of height width cells) bytes) (record_lines bytes) → said ≡ judge height width cells bytes
-    unfolding judge
-    judged is = rw (← refusal, none) is
+  pub judged : (0, 0) ≡ grid_refusal height width cells → {said : model.Judged} → said ≡ answer (verdict (grid_of height width cells) bytes) (record_lines bytes) → said ≡ judge height width cells bytes
+  unfolding judge
+  judged none is = is ∙ rw (← none) refl

@@ -5,4 +5,4 @@ mod Cells
 mod Drawn
 mod EveryPad
 mod Ordinary
-mod Answers
+pub mod Answers

@@ -16,7 +16,8 @@ use Rattle.std.specs.Prelude.{if◌then◌else◌}
 use Rattle.model.specs.JoinedEnds.{at_pad, unjoinable, joined_ends}
 use Rattle.model.specs.Judge.{wrong, so_far, after_line, after_edge, after_place}
 use Rattle.grid.specs.PadsAt.{pads_of}
-use Rattle.grid.specs.declared.Pads.TheVariants.{Beside, Above, NoEdge}
+use Rattle.std.proofs.Common.{Some, None}
+use Rattle.grid.specs.declared.Pads.TheVariants.{Beside, Above}
 use Rattle.boardview.specs.View.{end_at, joined}
 use Rattle.boardview.specs.Ends.{stay_near, joined_long, joined_at}
 use Rattle.judging.specs.Following.{told, InUse, Stepped}
@@ -62,7 +63,7 @@ module _ (v q byte : ℕ) {before : List ℤ} where
 
 -- THE BYTE OF A PLACE, by the pads that are found there
 module _ (width byte : ℕ) {before : List ℤ} where
-  pub place_beside : (p : Place) {a b : ℕ} → Beside a b ≡ pads_of width p → {r : Bool} {after : List ℤ} → Stepped (after_edge a b byte) before r after
+  pub place_beside : (p : Place) {a b : ℕ} → Some (Beside a b) ≡ pads_of width p → {r : Bool} {after : List ℤ} → Stepped (after_edge a b byte) before r after
       → Stepped (after_place width p byte) before r after
   unfolding pads_of after_place after_edge
   place_beside (edge (right u)) {a} {b} is stepped =
@@ -72,7 +73,7 @@ module _ (width byte : ℕ) {before : List ℤ} where
   place_beside (edge (down u)) is stepped = zero≢one (cc)
   place_beside no_edge is stepped = zero≢one (cc)
 
-  pub place_above : (p : Place) {a b : ℕ} → Above a b ≡ pads_of width p → {r : Bool} {after : List ℤ} → Stepped (after_edge a b byte) before r after
+  pub place_above : (p : Place) {a b : ℕ} → Some (Above a b) ≡ pads_of width p → {r : Bool} {after : List ℤ} → Stepped (after_edge a b byte) before r after
       → Stepped (after_place width p byte) before r after
   unfolding pads_of after_place after_edge
   place_above (edge (right u)) is stepped = zero≢one (cc)
@@ -82,7 +83,7 @@ module _ (width byte : ℕ) {before : List ℤ} where
       record { says = stepped.says ∙ (λ i. after_edge (p i) (q i) byte (λ x. end_at before x)); in_use = stepped.in_use }
   place_above no_edge is stepped = zero≢one (cc)
 
-  pub place_nowhere : (p : Place) → NoEdge ≡ pads_of width p → InUse before → Stepped (after_place width p byte) before (eqb byte undecided_byte) before
+  pub place_nowhere : (p : Place) → None ≡ pads_of width p → InUse before → Stepped (after_place width p byte) before (eqb byte undecided_byte) before
   unfolding pads_of after_place
   place_nowhere (edge (right u)) is good = zero≢one (cc)
   place_nowhere (edge (down u)) is good = zero≢one (cc)
@@ -94,11 +95,11 @@ module _ (width byte : ℕ) {before : List ℤ} where
 
 -- the pads that are found have their ends in the array
 module _ (width : ℕ) (narrow : width ≤ 16) (p : Place) (small : (e : Edge) → p ≡ edge e → first e < 256) where
-  pub beside_small : {a b : ℕ} → Beside a b ≡ pads_of width p → (a < 512) × (b < 512)
+  pub beside_small : {a b : ℕ} → Some (Beside a b) ≡ pads_of width p → (a < 512) × (b < 512)
   unfolding pads_of
   beside_small {a} {b} is = go p refl small is
     where
-      go : (p' : Place) → p ≡ p' → ((e : Edge) → p' ≡ edge e → first e < 256) → Beside a b ≡ pads_of width p' → (a < 512) × (b < 512)
+      go : (p' : Place) → p ≡ p' → ((e : Edge) → p' ≡ edge e → first e < 256) → Some (Beside a b) ≡ pads_of width p' → (a < 512) × (b < 512)
       go (edge (right u)) same low e =
           let f : a ≡ u = cc in
           let s : b ≡ u + 1 = cc in
@@ -107,11 +108,11 @@ module _ (width : ℕ) (narrow : width ≤ 16) (p : Place) (small : (e : Edge) �
       go (edge (down u)) same low e = zero≢one (cc)
       go no_edge same low e = zero≢one (cc)
 
-  pub above_small : {a b : ℕ} → Above a b ≡ pads_of width p → (a < 512) × (b < 512)
+  pub above_small : {a b : ℕ} → Some (Above a b) ≡ pads_of width p → (a < 512) × (b < 512)
   unfolding pads_of
   above_small {a} {b} is = go p refl small is
     where
-      go : (p' : Place) → p ≡ p' → ((e : Edge) → p' ≡ edge e → first e < 256) → Above a b ≡ pads_of width p' → (a < 512) × (b < 512)
+      go : (p' : Place) → p ≡ p' → ((e : Edge) → p' ≡ edge e → first e < 256) → Some (Above a b) ≡ pads_of width p' → (a < 512) × (b < 512)
       go (edge (right u)) same low e = zero≢one (cc)
       go (edge (down u)) same low e =
           let f : a ≡ u = cc in

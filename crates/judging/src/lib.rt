@@ -4,7 +4,7 @@
 // once, and then the pads: whether each is finished, and whether each keeps the rules of a listed drawing.
 #![tactic(auto)]
 
-ghost use Rattle.std.specs.Prelude.{◌≡◌, ◌+◌, ◌*◌, ◌≤◌, ◌<◌, eqb, length, get_or};
+ghost use Rattle.std.specs.Prelude.{◌≡◌, ◌+◌, ◌*◌, ◌≤◌, ◌<◌, eqb, length, get_or, Ok};
 ghost use Rattle.rules.specs.Grid.{pad_index, place_at, field_side, places, grid_of, Accepted};
 ghost use Rattle.rules.specs.Record.{line_byte, undecided_byte, drawing_of, record_lines};
 ghost use Rattle.rules.specs.Tests.{all_below};
@@ -15,7 +15,7 @@ ghost use Rattle.judging.specs.Following.{InUse, Stepped, lines_in, FollowedOn, 
 ghost use Rattle.judging.specs.Shape.{InColumn, side_of, line_beside, taken_at, lines_around, square_keeps, corner_keeps, pad_keeps};
 
 use boardbare::Side;
-use grid::{BLANK, Edge, HOLE, Pads};
+use grid::{BLANK, Edge, HOLE, Pads, Refusal};
 
 // The bytes of an edge's states, as the edge type names them.
 const UNDECIDED: u8 = Edge::UNDECIDED.0;
@@ -24,35 +24,32 @@ const LINE: u8 = Edge::LINE.0;
 
 const NONE: u8 = Edge::NONE.0;
 
-// The verdict on a drawing, 0 for no layout, 1 for an ordinary one, 2 for a listed one, and its lines, 0 beside 0. Number and index are
-// those of a declined grid, beside a 0.
-#[derive(Clone, Copy)]
-pub struct Judged {
-    pub number: u8,
-    pub index: usize,
-    pub verdict: u8,
-    pub lines: usize,
-}
-
-// What the pads say of a drawing: it is no layout, an ordinary one, or a listed one.
-#[derive(Clone, Copy, PartialEq, Eq)]
-enum Verdict {
+// The verdict on a drawing: it is no layout, an ordinary one, or a listed one.
+#[derive(Clone, Copy, PartialEq, Eq, PartialOrd, Ord)]
+pub enum Verdict {
     NoLayout,
     Ordinary,
     Listed,
 }
 
-impl Verdict {
-    // The number by which it is told.
-    fn number(self) -> u8
-        ensures { result ≡ verdict_number self }
-    {
-        match self {
+// The number by which a verdict is told: 0, 1 or 2.
+impl From<Verdict> for u8 {
+    ghost from_gives = { λ verdict number. number ≡ verdict_number verdict };
+
+    fn from(verdict: Verdict) -> u8 {
+        match verdict {
             Verdict::NoLayout => 0,
             Verdict::Ordinary => 1,
             Verdict::Listed => 2,
         }
     }
+}
+
+// The verdict on a drawing and its lines, 0 beside no layout.
+#[derive(Clone, Copy, PartialEq, Eq)]
+pub struct Judged {
+    pub verdict: Verdict,
+    pub lines: usize,
 }
 
 // Joins the ends of the two pads of a line, if the line can be.
@@ -84,9 +81,9 @@ fn follow_place(ends: &mut [i64; 512], width: usize, row: usize, column: usize, 
     ensures { Stepped (model.after_place width (place_at width row column) byte) ends.old result ends.new }
 {
     match grid::pads_at(width, row, column) {
-        Pads::Beside(first, second) => follow_edge(ends, first, second, byte),
-        Pads::Above(first, second) => follow_edge(ends, first, second, byte),
-        Pads::NoEdge => byte == UNDECIDED,
+        Some(Pads::Beside(first, second)) => follow_edge(ends, first, second, byte),
+        Some(Pads::Above(first, second)) => follow_edge(ends, first, second, byte),
+        None => byte == UNDECIDED,
     }
 }
 
@@ -290,12 +287,10 @@ fn pads_verdict(
 
 // The answer for an accepted grid: a verdict with the lines, 0 beside no layout.
 fn answered(verdict: Verdict, lines: usize) -> Judged
-    ensures { judged_says result ≡ answer (verdict_number verdict) lines }
+    ensures { judged_says (Ok result) ≡ answer (verdict_number verdict) lines }
 {
     Judged {
-        number: 0,
-        index: 0,
-        verdict: verdict.number(),
+        verdict,
         lines: if verdict == Verdict::NoLayout {
             0
         } else {
@@ -307,7 +302,7 @@ fn answered(verdict: Verdict, lines: usize) -> Judged
 // Judges a record of an accepted grid: its length, its places, the pads.
 pub fn judge_record(height: usize, width: usize, cells: &[i64], bytes: &[u8]) -> Judged
     requires { Accepted height width cells.now }
-    ensures { judged_says result ≡ answer (model.verdict (grid_of height width cells.now) bytes.now) (record_lines bytes.now) }
+    ensures { judged_says (Ok result) ≡ answer (model.verdict (grid_of height width cells.now) bytes.now) (record_lines bytes.now) }
 {
     if bytes.len() != (2 * height - 1) * (2 * width - 1) {
         return answered(Verdict::NoLayout, 0);
@@ -319,18 +314,10 @@ pub fn judge_record(height: usize, width: usize, cells: &[i64], bytes: &[u8]) ->
     }
 }
 
-// Judges a record: the grid's refusals beside a 0, or the verdict with the lines.
-pub fn judge(height: usize, width: usize, cells: &[i64], bytes: &[u8]) -> Judged
+// Judges a record: the grid's refusals, or the verdict with the lines.
+pub fn judge(height: usize, width: usize, cells: &[i64], bytes: &[u8]) -> Result<Judged, Refusal>
     ensures { judged_says result ≡ model.judge height width cells.now bytes.now }
 {
-    let refusal = grid::grid_refusal(height, width, cells);
-    if refusal.number != 0 {
-        return Judged {
-            number: refusal.number,
-            index: refusal.index,
-            verdict: 0,
-            lines: 0,
-        };
-    }
-    judge_record(height, width, cells, bytes)
+    grid::grid_refusal(height, width, cells)?;
+    Ok(judge_record(height, width, cells, bytes))
 }
