@@ -5,7 +5,7 @@ use native.Mathlib.Omega.{arith}
 use borrow.Author.Tests.{not-true, not-false}
 use Rattle.boardview.specs.View.{grid_in}
 use Rattle.boardview.specs.Unwind.{since_then}
-use Rattle.searchview.specs.Searched.{arrays, reached}
+use Rattle.searchview.specs.Searched.{reached}
 use Rattle.searchview.specs.SearchLaws.{ready_edges, since_restored, ready_restored, not_tried, flagged, next_entered, went_on, spent, last_row_reached, begun, loop_over, stops_at, next_one, row_small, row_few, row_below, pad_small, right_on_board, down_on_board, next_in_row, gone_back}
 use mathlib.Core.Path.{ap}
 use mathlib.Core.Bool.{not}
