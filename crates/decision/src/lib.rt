@@ -1,8 +1,9 @@
-// A decision and the pad check, which call each other over the board's arrays, which are lent: three times the undecided edges, plus one
-// or two in the parts that come to a decision or to a check by themselves, falls. Each function equals the model's decision, check or item (boardview's Decided, Done and NoneAt), on flagged boards too, keeps what
-// is true of the arrays of every board, and logs what it stores, so that undoing the log's entries gives back the arrays.
-// The board's count is the log's length, plus 1024 if the flag is set, plus 2048 if it is set and the decision has ended; an ended decision goes
-// through every part unchanged.
+// A decision and the pad check, which call each other over the board's arrays, which are lent to them. A measure falls: four times the
+// undecided edges, plus up to three in the parts that lead on to decisions and checks. Each function equals the model's decision, check or
+// item (boardview's Decided, Done and NoneAt), on flagged boards too, keeps what is true of the arrays of every board, and logs what it
+// stores, so that undoing the log's entries gives back the arrays.
+// The board's count is the log's length, plus 1024 if the flag is set, plus 2048 if it is set and the decision has ended; an ended
+// decision goes through every part unchanged.
 #![tactic(auto)]
 
 ghost use Rattle.std.specs.Prelude.{◌≡◌, true, ◌+◌, ◌*◌, ◌-◌, ◌≤◌, ◌<◌};

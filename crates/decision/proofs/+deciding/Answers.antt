@@ -1,7 +1,6 @@
 -- The functions of the cycle meet their contracts: each path through the code does the items that the contract names, and the number falls.
 use mathlib.Core.Path.{refl, ap, sym, ◌∙◌}
 use native.Mathlib.Omega.{arith}
-use Rattle.rules.specs.Grid.{right, down}
 use Rattle.boardparts.specs.Sides.{side_of}
 use Rattle.model.specs.PadTests.{on_board}
 use Rattle.boardview.specs.View.{grid_in, has_bit}
@@ -263,7 +262,7 @@ decide_line-returns-then-old-eq-UNDECIDED t c =
     let start = c in
     let g = grid_in start.args.kind.now in
     all_done start.args.kind.now _ start.args.direction start.args.v start.requires.2 start.requires.3 start.requires.0 _ c.slot-slot.ensures c.if-old-eq-UNDECIDED.true _ c.width.ensures _ c.second-q.ensures _ c.begin_line.ensures c.if-board-ge-ENDED.false _ _ c.end_pad-a.ensures c.end_pad-b.ensures _
-        (done_then g c.shape.ensures (done_then g c.check.ensures (done_then g c.check-then-old-eq-UNDECIDED.ensures (done_then g c.check-then-old-eq-UNDECIDED-2.ensures c.check-then-old-eq-UNDECIDED-3.ensures)))) _ c.end-board.ensures
+    (done_then g c.shape.ensures (done_then g c.check.ensures (done_then g c.check-then-old-eq-UNDECIDED.ensures (done_then g c.check-then-old-eq-UNDECIDED-2.ensures c.check-then-old-eq-UNDECIDED-3.ensures)))) _ c.end-board.ensures
 
 pub decide_line-returns-then-old-eq-LINE : goal.decide_line-returns-then-old-eq-LINE
 decide_line-returns-then-old-eq-LINE t c = let start = c in again start.args.kind.now _ start.args.direction start.args.v start.requires.2 start.requires.3 start.requires.0 _ c.slot-slot.ensures c.if-old-eq-LINE.true _ c.end-board-then-old-eq-LINE.ensures
