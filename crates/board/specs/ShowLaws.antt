@@ -2,6 +2,7 @@
 -- ShownRecord.antt.
 use Rattle.std.specs.Prelude.{ℕ, zero, suc, ◌+◌, ◌*◌, ◌≤◌, ◌<◌, ◌≡◌, refl, List, [], ◌∷◌, ◌++◌, get_or, length, take, drop, set, ℤ, pos}
 use Rattle.std.proofs.Math.Path.{sym, ap}
+use Rattle.std.proofs.Math.Seq.{take-suc}
 use Rattle.std.proofs.Common.{◌∙◌, arith, zero-add, add-one, length-set, take-suc-set, take-take, take_at}
 use Rattle.rules.specs.Grid.{places, Grid, pads}
 use Rattle.rules.specs.Record.{field, tabulate}
@@ -34,6 +35,16 @@ one_laid f size {list} {i} {value} is below laid = record {
       ∙ ap (λ (n : ℕ). tabulate f 0 n) (sym (add-one i));
   long = length-set list i value ∙ laid.long;
 }
+
+-- the first elements of a list are that list's
+pub laid_copied : {A : Type 0} (list : List A) (d : A) (n : ℕ) → n ≤ length list → {copy : List A} → copy ≡ take n list → length copy ≡ n → Laid (λ v. get_or list v d) n copy n
+unfolding tabulate
+laid_copied list d n few {copy} is long = record { first = ap (take n) is ∙ take-take n n list (omega arith) ∙ copied n few; long = long }
+  where
+    copied : (n : ℕ) → n ≤ length list → take n list ≡ tabulate (λ v. get_or list v d) 0 n
+    copied zero low = refl
+    copied (suc n) low = take-suc list n d (omega arith) ∙ ap (λ l. l ++ (get_or list n d ∷ [])) (copied n (omega arith))
+        ∙ ap (λ (v : ℕ). tabulate (λ v. get_or list v d) 0 n ++ (get_or list v d ∷ [])) (sym (zero-add n)) ∙ sym (one_more (λ v. get_or list v d) 0 n)
 
 -- fewer of them
 take_tabulate : {A : Type 0} (f : ℕ → A) (start n m : ℕ) → n ≤ m → take n (tabulate f start m) ≡ tabulate f start n

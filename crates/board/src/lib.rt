@@ -15,7 +15,7 @@ ghost use Rattle.board.specs.Held.{Held, IsBoard, Says, Shows, declined_with};
 ghost use Rattle.board.specs.ShowLaws.{Laid, end_at_index};
 ghost use Rattle.board.specs.CallLaws.{CanGoBack, board_back};
 
-use boardparts::FLAGGED;
+use boardparts::{Direction, FLAGGED};
 use boardview::Arrays;
 use grid::{Edge, Pads};
 
@@ -72,8 +72,8 @@ fn decide_pads(arrays: &mut Arrays, kind: &[u8; 1024], pads: Pads, line: bool)
     ensures { IfEdge (place_of pads) (λ e. Decided (grid_in kind.now) arrays.old e (line_or_none line) arrays.new) }
 {
     match pads {
-        Pads::Beside(v, _) => decision::decide_right(arrays, kind, v, line),
-        Pads::Above(v, _) => decision::decide_down(arrays, kind, v, line),
+        Pads::Beside(v, _) => decision::decide(arrays, kind, Direction::Right, v, line),
+        Pads::Above(v, _) => decision::decide(arrays, kind, Direction::Down, v, line),
         Pads::NoEdge => (),
     }
 }
@@ -83,24 +83,6 @@ fn flag_number(count: usize) -> usize
     ensures { result ≡ num (flag_in count) }
 {
     if count < FLAGGED { 0 } else { 1 }
-}
-
-fn no_bytes() -> [u8; 961]
-    ensures { length result ≡ 961 }
-{
-    [0; 961]
-}
-
-fn no_ends() -> [i64; 256]
-    ensures { length result ≡ 256 }
-{
-    [0; 256]
-}
-
-fn no_marks() -> [usize; 256]
-    ensures { length result ≡ 256 }
-{
-    [0; 256]
 }
 
 // A declined call: its number, and the board as it was.
@@ -122,11 +104,12 @@ fn fresh(height: usize, width: usize, cells: &[i64]) -> Board
     let fresh = boardfresh::fresh_board(height, width, cells);
     let arrays = fresh.board;
     let kind = fresh.kind;
+    let marks = [0; 256];
     Board {
         arrays,
         kind,
         fresh: arrays.count,
-        marks: no_marks(),
+        marks,
         standing: 0,
     }
 }
@@ -169,7 +152,7 @@ fn record_of(edges: &[u8; 1024], kind: &[u8; 1024]) -> [u8; 961]
     requires { Kinds kind.now × (length edges.now ≡ 1024) × ((n : ℕ) → get_or edges.now n 2 ≤ 2) }
     ensures { take (places (grid_in kind.now).height (grid_in kind.now).width) result ≡ record_shown (grid_in kind.now) edges.now }
 {
-    let mut bytes = no_bytes();
+    let mut bytes = [0; 961];
     boardrecord::put_record(edges, kind, &mut bytes, 0);
     bytes
 }
@@ -179,12 +162,8 @@ fn shown_ends(ends: &[i64; 512]) -> [i64; 256]
     requires { length ends.now ≡ 512 }
     ensures { Laid (end_at_index ends.now) 256 result 256 }
 {
-    let mut shown = no_ends();
-    let mut i = 0;
-    while i < 256 {
-        shown[i] = ends[i];
-        i += 1;
-    }
+    let mut shown = [0; 256];
+    shown.copy_from_slice(&ends[..256]);
     shown
 }
 

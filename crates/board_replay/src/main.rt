@@ -9,7 +9,8 @@ ghost use Rattle.board.specs.Held.{IsBoard};
 
 use board::{Answer, Board};
 use grid::Edge;
-use stream::{byte_at, cells_at, later, number_at, taken, taken_bytes, taken_ends};
+use std::os::fd::AsRawFd;
+use stream::{byte_at, cells_at, later, number_at, replay_all, taken, taken_bytes, taken_ends};
 
 // No stream is longer.
 const LONGEST: usize = 400000;
@@ -19,26 +20,19 @@ fn called(board: Board, first: u8, column: u8) -> Answer
     requires { IsBoard board }
     ensures { IsBoard result.board }
 {
-    let kind = first / 32;
-    let y = (first % 32) as usize;
-    let x = column as usize;
-    if kind == 0 {
-        return board.add_checkpoint();
-    }
-    if kind == 1 {
-        return Answer {
+    let y = usize::from(first % 32);
+    let x = usize::from(column);
+    match first / 32 {
+        0 => board.add_checkpoint(),
+        1 => Answer {
             number: 0,
             answer: 0,
             board: board.undo(),
-        };
+        },
+        2 => board.get_edge(y, x),
+        3 => board.decide_edge(y, x, Edge::LINE),
+        _ => board.decide_edge(y, x, Edge::NONE),
     }
-    if kind == 2 {
-        return board.get_edge(y, x);
-    }
-    if kind == 3 {
-        return board.decide_edge(y, x, Edge::LINE);
-    }
-    board.decide_edge(y, x, Edge::NONE)
 }
 
 // The checksum with what a board shows after a call.
@@ -57,33 +51,25 @@ fn taken_board(sum: u64, answer: usize, board: Board) -> u64
     taken_ends(taken_bytes(head, &edges[..places]), &ends[..pads])
 }
 
-// A number and the byte after it.
-fn print(number: u64, after: u8) {
-    io::print_decimal(1, number);
-    io::write_all(1, &[after]);
-}
-
 // The calls of one sequence, from a place on; its checksum.
 fn sum_of_calls(stream: &[u8], place: usize, calls: usize, fresh: Board) -> u64
     requires { IsBoard fresh × (calls ≤ 65535) }
 {
     let mut board = fresh;
     let mut sum: u64 = 1;
-    let mut call = 0;
-    while call < calls {
+    for call in 0..calls {
         let at = later(place, 2 * call);
         let answer = called(board, byte_at(stream, at), byte_at(stream, later(at, 1)));
         board = answer.board;
         sum = taken_board(sum, answer.answer, board);
-        call += 1;
     }
     sum
 }
 
 // One sequence; the place after it.
-fn sequence_at(stream: &[u8], place: usize, number: u64) -> usize {
-    let height = byte_at(stream, place) as usize;
-    let width = byte_at(stream, later(place, 1)) as usize;
+fn sequence_at(rt: &impl Print, stream: &[u8], place: usize, number: u64) -> usize {
+    let height = usize::from(byte_at(stream, place));
+    let width = usize::from(byte_at(stream, later(place, 1)));
     let count = height * width;
     if count > 256 {
         return LONGEST;
@@ -96,9 +82,7 @@ fn sequence_at(stream: &[u8], place: usize, number: u64) -> usize {
     }
     let first = later(place, 4 + count);
     let sum = sum_of_calls(stream, first, calls as usize, fresh.board);
-    print(number, b',');
-    print(calls, b',');
-    print(sum, b'\n');
+    let _ = println!(rt; "{number},{calls},{sum}");
     later(first, 2 * calls as usize)
 }
 
@@ -109,14 +93,13 @@ fn room() -> [u8; 400000]
     [0; 400000]
 }
 
-fn main() {
+fn main(rt: HostRuntime) {
     let mut buffer = room();
-    let length = io::read_full(0, &mut buffer);
+    // By the kit's io: std fills an array only by read_exact, which fails where the input ends before it.
+    let length = io::read_full(rt.stdin().as_raw_fd(), &mut buffer);
     let stream = &buffer[..length];
-    let mut place = 0;
-    let mut number = 1;
-    while number < 100000 && place < length {
-        place = sequence_at(stream, place, number);
-        number += 1;
-    }
+    replay_all(
+        length,
+        |place, number| sequence_at(&rt, stream, place, number),
+    );
 }

@@ -1,1 +1,2 @@
--- The leaves state their promises with the definitions of boardview; there are none here.
+-- The leaves state their promises with the definitions of boardview; here is what the code's sides and directions stand for.
+pub mod Sides

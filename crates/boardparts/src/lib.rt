@@ -3,10 +3,12 @@
 #![tactic(auto)]
 
 ghost use Rattle.std.specs.Prelude.{◌≡◌, true, false, ℕ, ◌+◌, ◌*◌, ◌-◌, ◌/◌, ◌%◌, ◌≤◌, ◌<◌, get_or, set, length, eqb, ltb, pos};
-ghost use Rattle.rules.specs.Drawing.{num};
+ghost use Rattle.rules.specs.Grid.{right};
+ghost use Rattle.rules.specs.Drawing.{num, on_left};
 ghost use Rattle.model.specs.JoinedEnds.{is_through, unjoinable};
-ghost use Rattle.boardview.specs.View.{logged, pick, stopped, ended, going, end_at, has_bit, grid_in, second_pad, joined, pad_number, code_number, rival, keeps_apart, clue_apart, slot_around, past_around, action_around, Kinds};
+ghost use Rattle.boardview.specs.View.{logged, slot, beside, corner_bit, pick, stopped, ended, going, end_at, has_bit, grid_in, second_pad, joined, pad_number, code_number, rival, keeps_apart, clue_apart, slot_around, past_around, action_around, Kinds};
 ghost use Rattle.boardview.specs.Actions.{action_index};
+ghost use Rattle.boardparts.specs.Sides.{side_of, edge_to};
 ghost use Rattle.boardview.specs.Unwind.{stored, log_joined, LineBegun};
 
 use boardview::Arrays;
@@ -38,6 +40,56 @@ pub const ENDED: usize = 2048;
 
 // What the pad check does last is a slot for a line there, or this plus a slot for none there.
 pub const NONE_THERE: usize = 1024;
+
+// The two sides of a pad in its row.
+#[derive(Clone, Copy)]
+pub enum Side {
+    Right,
+    Left,
+}
+
+impl Side {
+    // The bit of a pad's kind that says that it has an edge downward and one to the side.
+    pub fn corner(self) -> u8
+        ensures { result ≡ corner_bit (side_of self) }
+    {
+        match self {
+            Side::Right => CORNER_RIGHT,
+            Side::Left => CORNER_LEFT,
+        }
+    }
+
+    // The first pad of the edge beside a pad on the side.
+    pub fn first_beside(self, v: usize) -> usize
+        requires { side_of self ≡ on_left → 1 ≤ v }
+        ensures { (right result ≡ beside (side_of self) v) × (result ≤ v) }
+    {
+        match self {
+            Side::Right => v,
+            Side::Left => v - 1,
+        }
+    }
+}
+
+// The two directions in which an edge leads from its first pad.
+#[derive(Clone, Copy)]
+pub enum Direction {
+    Right,
+    Down,
+}
+
+impl Direction {
+    // The slot of the edge from a pad.
+    pub fn slot(self, v: usize) -> usize
+        requires { v < 256 }
+        ensures { result ≡ slot (edge_to self v) }
+    {
+        match self {
+            Direction::Right => 32 + 2 * v,
+            Direction::Down => 33 + 2 * v,
+        }
+    }
+}
 
 // A byte as a number.
 pub fn wide(byte: u8) -> usize
@@ -211,15 +263,15 @@ pub fn store(board: &mut Arrays, slot: usize, state: u8)
     board.log[k + 1] = -1;
 }
 
-// Stores an entry of the log for a line that joins the chains of pads v and q.
-fn log_line(board: &mut Arrays, slot: usize, v: usize, q: usize)
-    requires { (slot < 1024) × (v < 512) × (q < 512) × (logged board.old < 480) × (length board.old.ends ≡ 512) }
-    ensures { board.new ≡ record { edges = board.old.edges; ends = board.old.ends; log = log_joined board.old.log (logged board.old) slot (get_or board.old.ends v (pos v)) (get_or board.old.ends q (pos q)); count = board.old.count } }
+// Stores an entry of the log for a line that joined the chains of two pads, with the ends that they had.
+fn log_line(board: &mut Arrays, slot: usize, first_end: i64, second_end: i64)
+    requires { (slot < 1024) × (logged board.old < 480) }
+    ensures { board.new ≡ record { edges = board.old.edges; ends = board.old.ends; log = log_joined board.old.log (logged board.old) slot first_end second_end; count = board.old.count } }
 {
     let k = 3 * (board.count % FLAGGED);
     board.log[k] = slot as i64;
-    board.log[k + 1] = board.ends[v];
-    board.log[k + 2] = board.ends[q];
+    board.log[k + 1] = first_end;
+    board.log[k + 2] = second_end;
 }
 
 // Step c: both pads get -1, then pad A (if there is one) gets B and pad B gets A.
@@ -249,19 +301,23 @@ pub fn join_ends(ends: &mut [i64; 512], v: usize, q: usize)
 
 // Steps b and c of a line between pads v and q: its byte and an entry of the log are stored; the ends of its pads are joined, or, where they
 // cannot be, the flag is set and the decision has ended.
+#[inline]
 pub fn begin_line(board: &mut Arrays, slot: usize, v: usize, q: usize)
     requires { (slot < 1024) × (v < 512) × (q < 512) × (board.old.count < 3072) × (logged board.old < 480) × (length board.old.ends ≡ 512) }
     ensures { LineBegun board.old slot v q board.new }
 {
+    let count = board.count;
+    let first_end = board.ends[v];
+    let second_end = board.ends[q];
     if cannot_join(&board.ends, v, q) {
         store(board, slot, LINE);
-        board.count = stop(board.count) + 1;
+        board.count = stop(count) + 1;
         return;
     }
-    log_line(board, slot, v, q);
     join_ends(&mut board.ends, v, q);
+    log_line(board, slot, first_end, second_end);
     board.edges[slot] = LINE;
-    board.count = go_on(board.count) + 1;
+    board.count = go_on(count) + 1;
 }
 
 // The edge at a slot is to be none, since it leads to a pad whose end is of another clue than `code`. `past` is 16 more than that pad.
@@ -287,16 +343,6 @@ pub fn slot_apart(board: &Arrays, code: usize, slot: usize, past: usize) -> usiz
         return 0;
     }
     0
-}
-
-// The count after a decision at a slot, or as it was where the slot was 0.
-pub fn count_after(slot: usize, before: usize, after: usize) -> usize
-    ensures { result ≡ pick (eqb slot 0) before after }
-{
-    if slot == 0 {
-        return before;
-    }
-    after
 }
 
 // One of the four edges at a pad is to be none.

@@ -1,7 +1,7 @@
 -- What the calls of the decision ask, and what its ways through give, in the shape in which the code's paths come to them: numbers as the
 -- code computed them, arrays as it left them. It rests on Items.antt, Check.antt and Geometry.antt.
 use Prim.Native.Nat.{ℕ, zero, suc, ◌+◌, ◌*◌, ◌-◌, ◌%◌, ◌/◌, ◌≤◌, ◌<◌}
-use Rattle.std.specs.Prelude.{◌≡◌, Bool, ◌&&◌, ltb, set, length, ℤ, pos}
+use Rattle.std.specs.Prelude.{◌≡◌, Bool, ◌&&◌, ltb, set, length, pos}
 use Rattle.std.proofs.Math.Path.{refl, sym}
 use Rattle.std.proofs.Common.{ap, ◌∙◌, subst}
 use Rattle.std.proofs.Math.Bool.{true, false}
@@ -20,7 +20,7 @@ use Rattle.model.specs.JoinedEnds.{End, through, at_pad, at_clue, unjoinable}
 use Rattle.model.specs.PadTests.{has_right, has_left, has_down, has_up, on_board}
 use Rattle.model.specs.Board.{line, Item, has_side, barred, shape_items, keep_aparts, around}
 use Rattle.boardview.specs.declared.Arrays.{Arrays}
-use Rattle.boardview.specs.View.{logged, stopped, ended, going, pick, slot, edge_of, slot_on, state_of, end_at, second_pad, has_bit, grid_in, corner_bit, joined, undecided_in, Kinds, Ready, Decided, Done, NoneAt, Settled, pad_number, detour_at, corner_at, bar_at, check_at, code_number, keeps_apart, some_apart, clue_apart, keep_at, slot_around, past_around, action_around}
+use Rattle.boardview.specs.View.{logged, beside, stopped, ended, going, pick, slot, edge_of, slot_on, state_of, end_at, second_pad, has_bit, grid_in, corner_bit, joined, undecided_in, Kinds, Ready, Decided, Done, NoneAt, Settled, pad_number, detour_at, corner_at, bar_at, check_at, code_number, keeps_apart, some_apart, clue_apart, keep_at, slot_around, past_around, action_around}
 use Rattle.model.specs.Lists.{default_free}
 use Rattle.boardview.specs.Bytes.{slot_of_edge, on_slot}
 use Rattle.boardview.specs.Unwind.{log_stored, log_joined, stored, LineBegun}
@@ -79,13 +79,13 @@ module _ (kind : List ℕ) (s : Arrays) (n : ℕ) (h : n < 1024) (k : Kinds kind
     pub none_second : (q w : ℕ) → w ≡ g.width → q ≡ second_pad w n → q < pads g
     none_second q w ew e = omega (arith, (rw ew at e) ∙ second_is, second_inside g s (edge_of n) y edge_there byte_there)
 
-    module _ (s₀ : Arrays) (is : s₀ ≡ stored s n 2) (r : ℕ) (er : r ≡ going s₀.count) where
+    module _ (s₀ : Arrays) (is : s₀ ≡ stored s n 2) (r : ℕ) (er : r ≡ going s.count) where
       abbrev after_store : Arrays
       after_store = with_count s₀ (r + 1)
 
       starts : none_arrays g s (edge_of n) y edge_there byte_there ≡ after_store
       starts = ap (λ (x : ℕ). record { edges = set s.edges x 2; ends = s.ends; log = log_stored s.log (logged s) x; count = going s.count + 1 }) at_slot
-          ∙ (λ i. with_count (sym is i) (sym (er ∙ ap (λ (x : Arrays). going x.count) is) i + 1))
+          ∙ (λ i. with_count (sym is i) (sym er i + 1))
 
       pub none_is_stored : Stored g s after_store
       none_is_stored = subst (λ (x : Arrays). Stored g s x) starts (none_stored g s (edge_of n) y edge_there byte_there)
@@ -361,6 +361,13 @@ module _ (kind : List ℕ) (k : Kinds kind) (q : ℕ) (inside : q < pads (grid_i
   pub corner_line_left : t ≡ has_bit kind q 16 → t ≡ true → on_board gc (right (q - 1)) ≡ true
   corner_line_left et ht = rw (lt-ltb ((q - 1) % gc.width + 1) gc.width (column_before gc.width q (omega (arith, k.least_width)) (left_column et ht)), lt-ltb (q - 1) (pads gc) (omega arith)) refl
 
+  pub corner_line : (side : Side) → t ≡ has_bit kind q (corner_bit side) → t ≡ true → on_board gc (beside side q) ≡ true
+  corner_line on_right et ht = corner_line_right et ht
+  corner_line on_left et ht = corner_line_left et ht
+
+  pub corner_not_left : (side : Side) → t ≡ has_bit kind q (corner_bit side) → t ≡ true → side ≡ on_left → 1 ≤ q
+  corner_not_left side et ht is = corner_not_first (rw is at et) ht
+
 -- the pads beyond, as the code counts them
 pub beyond_left : (v : ℕ) → 15 + v - 16 ≡ v - 1
 beyond_left v = omega arith
@@ -509,6 +516,19 @@ module _ (kind : List ℕ) (s : Arrays) (k : Kinds kind) (y : Ready (grid_in kin
             let d = done_then gk (so_far.some low) (one_apart gk s₁ apart_ready code (slot_around w v side) (past_around w v side) (so_far.clue low) (side_small side) n en s₂ none_there r er) in
             let next : side + 1 ≡ suc side = omega arith in
             record { few = omega arith; clue = λ h. so_far.clue low; some = λ h. rw next d; all = λ h. all_told h (with_count s₂ r) d }
+
+        -- as the code does it: the edge becomes none, or there is nothing to do
+        module _ (n : ℕ) (en : n ≡ pick (ltb s₁.count 2048) (pick (keeps_apart s₁.edges s₁.ends code (slot_around w v side) (past_around w v side - 16)) (slot_around w v side) 0) 0) where
+          pub apart_takes : (n ≡ 0 → ⊥) → (s₂ : Arrays) → NoneAt gk s₁ n s₂ → Apart kind s v w code (side + 1) s₂
+          apart_takes some s₂ none_there = apart_more n en s₂ none_there s₂.count (rw (ne_eqb n 0 some) refl)
+
+          pub apart_skips : n ≡ 0 → Apart kind s v w code (side + 1) s₁
+          unfolding slot_on
+          apart_skips none = apart_more n en (with_count s₁ (ended s₁.count)) (rw none again) s₁.count (rw none refl)
+            where
+              again : NoneAt gk s₁ 0 (with_count s₁ (ended s₁.count))
+              again = let two = apart_ready.rim 0 (omega arith) refl in
+                  none_again kind s₁ 0 (omega arith) k apart_ready (λ z. omega (arith, two, z)) (λ o. omega (arith, two, o)) (ended s₁.count) refl
 
         -- an undecided edge on that side leads to a pad
         pub past_there : get_or s₁.edges (slot_around w v side) 0 ≡ 0 → 16 ≤ past_around w v side

@@ -10,98 +10,85 @@ ghost use Rattle.engines.specs.Kinds.{Kinds};
 
 use engines::Sums;
 
-// The number of standard output.
-const STDOUT_FILENO: i32 = 1;
-
 // A 3 by 3 field has so many grids, and the smaller sizes have fewer.
 const MOST_GRIDS: u64 = 562595;
 
-fn print_word(word: &[u8]) {
-    io::write_all(STDOUT_FILENO, word);
-}
-
-// A word and the number after it.
-fn print_number(word: &[u8], number: u64) {
-    print_word(word);
-    io::print_decimal(STDOUT_FILENO, number);
-}
-
-// The cell of a kind, after a comma.
-fn print_cell(kind: u8) {
-    if kind == 0 {
-        print_word(b",-1");
-        return;
+// The line of a grid on which the engines differ. What cannot be written is passed over, here as below.
+fn print_differs(rt: &impl Print, height: usize, width: usize, kinds: &[u8]) {
+    let _ = print!(rt; "differs,{height},{width}");
+    for kind in kinds {
+        let cell = engines::cell_of_kind(*kind);
+        let _ = print!(rt; ",{cell}");
     }
-    if kind == 1 {
-        print_word(b",-2");
-        return;
-    }
-    print_number(b",", (kind - 2) as u64);
-}
-
-// The line of a grid on which the engines differ.
-fn print_differs(height: usize, width: usize, kinds: &[u8]) {
-    print_number(b"differs,", height as u64);
-    print_number(b",", width as u64);
-    let mut pad = 0;
-    while pad < kinds.len() {
-        print_cell(kinds[pad]);
-        pad += 1;
-    }
-    print_word(b"\n");
+    let _ = println!(rt);
 }
 
 // The line of a size.
-fn print_size(height: usize, width: usize, sums: Sums) {
-    print_number(b"", height as u64);
-    print_number(b" by ", width as u64);
-    print_number(b": ", sums.grids);
-    print_number(b" grids, ", sums.equal);
-    print_number(b" equal, layouts ", sums.layouts);
-    print_number(b", visited ", sums.visited);
-    print_number(b", tried ", sums.tried);
-    print_word(b"\n");
+fn print_size(rt: &impl Print, height: usize, width: usize, sums: Sums) {
+    let Sums {
+        grids,
+        equal,
+        layouts,
+        visited,
+        tried,
+    } = sums;
+    let _ = println!(rt;
+        "{height} by {width}: {grids} grids, {equal} equal, layouts {layouts}, visited {visited}, tried {tried}"
+    );
 }
 
 // Compares the engines on one grid, and counts it.
-fn compare_grid(height: usize, width: usize, kinds: &[u8], sums: Sums) -> Sums
+fn compare_grid(rt: &impl Print, height: usize, width: usize, kinds: &[u8], sums: Sums) -> Sums
     requires { length kinds.now ≤ 9 }
 {
     let compared = engines::compare_kinds(height, width, kinds);
     if !compared.equal {
-        print_differs(height, width, kinds);
+        print_differs(rt, height, width, kinds);
     }
     engines::counted(sums, compared)
 }
 
 // The same where the grid is one of those that are taken.
-fn compare_taken(height: usize, width: usize, kinds: &[u8], taken: bool, sums: Sums) -> Sums
+fn compare_taken(
+    rt: &impl Print,
+    height: usize,
+    width: usize,
+    kinds: &[u8],
+    taken: bool,
+    sums: Sums,
+) -> Sums
     requires { length kinds.now ≤ 9 }
 {
     if !taken {
         return sums;
     }
-    compare_grid(height, width, kinds, sums)
+    compare_grid(rt, height, width, kinds, sums)
 }
 
 // Goes through the grids of a size from the one of these kinds on, and takes those whose number from 0 leaves this rest by this step.
-fn compare_size(height: usize, width: usize, step: u64, rest: u64, kinds: &mut [u8])
+fn compare_size(
+    rt: &impl Print,
+    height: usize,
+    width: usize,
+    step: u64,
+    rest: u64,
+    kinds: &mut [u8],
+)
     requires { Kinds kinds.old × (length kinds.old ≤ 9) × (0 < step) }
 {
     let mut sums = Sums::NONE;
-    let mut number: u64 = 0;
-    let mut more = true;
-    while number < MOST_GRIDS && more {
-        sums = compare_taken(height, width, kinds, number % step == rest, sums);
-        more = engines::next_grid(kinds);
-        number += 1;
+    for number in 0..MOST_GRIDS {
+        sums = compare_taken(rt, height, width, kinds, number % step == rest, sums);
+        if !engines::next_grid(kinds) {
+            break;
+        }
     }
-    print_size(height, width, sums);
+    print_size(rt, height, width, sums);
 }
 
-fn main() {
-    compare_size(2, 2, 1, 0, &mut [0; 4]);
-    compare_size(2, 3, 1, 0, &mut [0; 6]);
-    compare_size(3, 2, 1, 0, &mut [0; 6]);
-    compare_size(3, 3, 1499, 151, &mut [0; 9]);
+fn main(rt: HostRuntime) {
+    compare_size(&rt, 2, 2, 1, 0, &mut [0; 4]);
+    compare_size(&rt, 2, 3, 1, 0, &mut [0; 6]);
+    compare_size(&rt, 3, 2, 1, 0, &mut [0; 6]);
+    compare_size(&rt, 3, 3, 1499, 151, &mut [0; 9]);
 }

@@ -7,45 +7,36 @@
 ghost use Rattle.std.specs.Prelude.{◌≡◌, ◌≤◌, length};
 ghost use Rattle.model.specs.Routes.{routes_room};
 
-// The number of standard input.
-const STDIN_FILENO: i32 = 0;
+use std::os::fd::AsRawFd;
 
-// The number of standard output.
-const STDOUT_FILENO: i32 = 1;
-
-// The line of row k.
-fn print_row(table: &[u8], width: usize, rows: usize, k: usize) {
+// The line of row k. What cannot be written is passed over, here as below.
+fn print_row(rt: &impl Print, table: &[u8], width: usize, rows: usize, k: usize) {
     let text = tabling::row(table, width, rows, k);
-    let bytes = text.bytes;
-    let length = text.length;
-    io::write_all(STDOUT_FILENO, &bytes[..length]);
+    let _ = rt.write_all(&text.bytes[..text.length]);
 }
 
 // The lines of the rows, in order.
-fn print_rows(table: &[u8], width: usize, rows: usize) {
-    let mut k = 0;
-    while k < rows {
-        print_row(table, width, rows, k);
-        k += 1;
+fn print_rows(rt: &impl Print, table: &[u8], width: usize, rows: usize) {
+    for k in 0..rows {
+        print_row(rt, table, width, rows, k);
     }
 }
 
 // The whole text for a file of at most 4,096 bytes, with an answer buffer of 61,504 bytes and a table of at least 961 lent: the head, then
 // the rows.
-fn print_table(file: &[u8], buffer: &mut [u8], table: &mut [u8])
+fn print_table(rt: &impl Print, file: &[u8], buffer: &mut [u8], table: &mut [u8])
     requires { (length file.now ≤ 4096) × (length buffer.old ≡ routes_room) × (961 ≤ length table.old) }
 {
     let head = tabling::head(file, buffer, table);
-    let bytes = head.bytes;
-    let length = head.length;
-    io::write_all(STDOUT_FILENO, &bytes[..length]);
-    print_rows(table, head.width, head.rows);
+    let _ = rt.write_all(&head.bytes[..head.length]);
+    print_rows(rt, table, head.width, head.rows);
 }
 
-fn main() {
+fn main(rt: HostRuntime) {
     let mut input = io::buffer();
-    let n = io::read_full(STDIN_FILENO, &mut input);
+    // By the kit's io: std fills an array only by read_exact, which fails where the input ends before it.
+    let n = io::read_full(rt.stdin().as_raw_fd(), &mut input);
     let mut buffer = [0u8; 61504];
     let mut table = [0u8; 961];
-    print_table(&input[..n], &mut buffer, &mut table);
+    print_table(&rt, &input[..n], &mut buffer, &mut table);
 }

@@ -1,45 +1,17 @@
--- Loops over a table: the first places cleared one by one, a record laid over it place by place, and records one by one. Assumes nothing.
+-- Loops over a table: a record laid over it place by place, and records one by one. Assumes nothing.
 use Rattle.std.specs.Prelude.{if◌then◌else◌}
 use Prim.Native.Nat.{ℕ, zero, suc, ◌+◌, ◌*◌, ◌-◌, ◌≤◌, ◌<◌}
 use mathlib.Core.Path.{◌≡◌, refl, ap, ◌∙◌, sym}
 use mathlib.Core.Bool.{Bool, true, false}
-use mathlib.Core.List.{List, [], ◌∷◌, ◌++◌}
-use native.Mathlib.Nat.{le_antisymm, min-le_left}
+use mathlib.Core.List.{List, [], ◌∷◌}
+use native.Mathlib.Nat.{min-le_left}
 use native.Mathlib.Numerals.{add-one}
 use native.Mathlib.Omega.{arith}
 use lib.Bits.{bit_or}
-use lib.ListN.{length, length-set, length-take, get_or, set, take, drop, replicate}
-use lib.Seq.{take_all}
+use lib.ListN.{length, length-set, length-take, get_or, set, take, drop}
 use Rattle.rules.specs.Grid.{places}
 use Rattle.model.specs.Records.{record_length, has_record, record_at}
 use Rattle.copper.specs.Overlay.{overlaid, records_overlaid}
-
--- ## Cleared
-
--- the first i places hold 0, all others what they held
-pub record Cleared (before : List ℕ) (places : ℕ) (table : List ℕ) (i : ℕ) : Type 0 where
-  pub within : i ≤ places
-  pub holds : table ≡ replicate i 0 ++ drop i before
-  pub same_length : length table ≡ length before
-
-next_cleared : (table : List ℕ) (i : ℕ) → i < length table → set (replicate i 0 ++ drop i table) i 0 ≡ replicate (suc i) 0 ++ drop (suc i) table
-next_cleared [] i h = absurd (omega arith)
-next_cleared (byte ∷ table) zero h = refl
-next_cleared (byte ∷ table) (suc i) h = ap (λ (l : List ℕ). 0 ∷ l) (next_cleared table i (omega arith))
-
-module _ (before : List ℕ) (places : ℕ) where
-  pub none_cleared : Cleared before places before 0
-  none_cleared = record { within = omega arith; holds = refl; same_length = refl }
-
-  pub one_cleared : {table : List ℕ} {i : ℕ} → places ≤ length before → i < places → Cleared before places table i → Cleared before places (set table i 0) (i + 1)
-  one_cleared {table} {i} fits below c = record {
-    within = omega arith;
-    holds = ap (λ (l : List ℕ). set l i 0) c.holds ∙ next_cleared before i (omega arith) ∙ ap (λ (n : ℕ). replicate n 0 ++ drop n before) (sym (add-one i));
-    same_length = length-set table i 0 ∙ c.same_length;
-  }
-
-  pub all_cleared : {table : List ℕ} {i : ℕ} → places ≤ i → Cleared before places table i → table ≡ replicate places 0 ++ drop places before
-  all_cleared {table} {i} ended c = c.holds ∙ ap (λ (n : ℕ). replicate n 0 ++ drop n before) (le_antisymm c.within ended)
 
 -- ## Overlaid
 
@@ -70,9 +42,6 @@ module _ (before layout : List ℕ) where
     same_length = length-set table i (bit_or (get_or table i 0) (get_or layout i 0)) ∙ c.same_length;
   }
 
-  pub all_covered : {table : List ℕ} {i : ℕ} → length layout ≤ i → Covered before layout table i → table ≡ overlaid before layout
-  all_covered {table} {i} ended c = c.holds ∙ ap (overlaid before) (take_all i layout ended)
-
 pub length_overlaid : (table layout : List ℕ) → length (overlaid table layout) ≡ length table
 unfolding overlaid
 length_overlaid table [] = refl
@@ -87,12 +56,6 @@ module _ (height width layouts : ℕ) (buffer before : List ℕ) where
     pub within : k ≤ layouts
     pub goes_on : records_overlaid height width layouts buffer (layouts - k) k table ≡ records_overlaid height width layouts buffer layouts 0 before
     pub same_length : length table ≡ length before
-
-  pub none_laid : Laid before 0
-  none_laid = record { within = omega arith; goes_on = ap (λ (n : ℕ). records_overlaid height width layouts buffer n 0 before) all; same_length = refl }
-    where
-      all : layouts - 0 ≡ layouts
-      all = omega arith
 
   pub one_laid : {table : List ℕ} {k : ℕ} → k < layouts → Laid table k → (layout : List ℕ) → layout ≡ record_at height width layouts k buffer
       → (after : List ℕ) → after ≡ overlaid table layout → Laid after (k + 1)

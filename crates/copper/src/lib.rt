@@ -9,19 +9,17 @@ ghost use Rattle.rules.specs.Grid.{places};
 ghost use Rattle.model.specs.Common.{common};
 ghost use Rattle.copper.specs.Overlay.{overlaid, records_overlaid};
 ghost use Rattle.copper.specs.Answers.{common_says};
+ghost use Rattle.copper.specs.declared.NoTable.TheVariants.{Grid};
 
-use solver::Solved;
+use grid::Refusal;
+use tally::{Solved, Tally};
 
 // Nothing is said of the first places yet.
 fn clear(table: &mut [u8], places: usize)
     requires { places ≤ length table.old }
     ensures { table.new ≡ replicate places 0 ++ drop places table.old }
 {
-    let mut i = 0;
-    while i < places {
-        table[i] = 0;
-        i += 1;
-    }
+    table[..places].fill(0);
 }
 
 // Lays one record over the table.
@@ -29,10 +27,8 @@ fn overlay(table: &mut [u8], layout: &[u8])
     requires { length layout.now ≤ length table.old }
     ensures { table.new ≡ overlaid table.old layout.now }
 {
-    let mut i = 0;
-    while i < layout.len() {
-        table[i] = table[i] | layout[i];
-        i += 1;
+    for (i, byte) in layout.iter().enumerate() {
+        table[i] |= *byte;
     }
 }
 
@@ -41,16 +37,30 @@ fn overlay_records(table: &mut [u8], buffer: &[u8], height: usize, width: usize,
     requires { places height width ≤ length table.old }
     ensures { table.new ≡ records_overlaid height width layouts buffer.now layouts 0 table.old }
 {
-    let mut k = 0;
-    while k < layouts {
+    for k in 0..layouts {
         let layout = records::record_at(height, width, layouts, k, buffer);
         overlay(table, layout);
-        k += 1;
+    }
+}
+
+// Why there is no table: the grid is declined, the lent table is shorter than the places, or the list did not end complete, told with it.
+#[derive(Clone, Copy, PartialEq, Eq)]
+pub enum NoTable {
+    Grid(Refusal),
+    Short,
+    Incomplete(Solved),
+}
+
+impl From<Refusal> for NoTable {
+    ghost from_gives = { λ refusal r. r ≡ Grid refusal };
+
+    fn from(refusal: Refusal) -> NoTable {
+        NoTable::Grid(refusal)
     }
 }
 
 // Searches a grid into the lent buffer and, from a complete list, fills the lent table: for each edge of the board, at its place, 1 for a line
-// in every layout, 2 in none, 3 in some and missing in others. 14: the table is shorter than the places; 16: the list did not end complete.
+// in every layout, 2 in none, 3 in some and missing in others; hands on what the search has counted.
 pub fn common(
     height: usize,
     width: usize,
@@ -58,30 +68,19 @@ pub fn common(
     limit: u64,
     buffer: &mut [u8],
     table: &mut [u8],
-) -> Solved
+) -> Result<Tally, NoTable>
     ensures { common_says result buffer.new table.new ≡ common height width cells.now limit buffer.old table.old }
 {
-    let refusal = grid::grid_refusal(height, width, cells);
-    let number = refusal.number;
-    if number != 0 {
-        return solver::declined(number, refusal.index);
-    }
+    grid::grid_refusal(height, width, cells)?;
     let places = (2 * height - 1) * (2 * width - 1);
     if table.len() < places {
-        return solver::declined(14, 0);
+        return Err(NoTable::Short);
     }
-    let found = solver::solve(height, width, cells, limit, buffer);
-    if found.outcome != 0 {
-        return Solved {
-            number: 16,
-            index: found.index,
-            outcome: found.outcome,
-            layouts: found.layouts,
-            visited: found.visited,
-            fewest: found.fewest,
-        };
+    let found = solver::solve(height, width, cells, limit, buffer)?;
+    if found.outcome.is_err() {
+        return Err(NoTable::Incomplete(found));
     }
     clear(table, places);
-    overlay_records(table, buffer, height, width, found.layouts);
-    found
+    overlay_records(table, buffer, height, width, found.tally.layouts);
+    Ok(found.tally)
 }

@@ -1,5 +1,5 @@
-// A decision and the pad check, which call each other over the board's arrays, which are lent: twice the undecided edges, plus one in the check,
-// falls. Each function equals the model's decision, check or item (boardview's Decided, Done and NoneAt), on flagged boards too, keeps what
+// A decision and the pad check, which call each other over the board's arrays, which are lent: three times the undecided edges, plus one
+// or two in the parts that come to a decision or to a check by themselves, falls. Each function equals the model's decision, check or item (boardview's Decided, Done and NoneAt), on flagged boards too, keeps what
 // is true of the arrays of every board, and logs what it stores, so that undoing the log's entries gives back the arrays.
 // The board's count is the log's length, plus 1024 if the flag is set, plus 2048 if it is set and the decision has ended; an ended decision goes
 // through every part unchanged.
@@ -7,12 +7,14 @@
 
 ghost use Rattle.std.specs.Prelude.{◌≡◌, true, ◌+◌, ◌*◌, ◌-◌, ◌≤◌, ◌<◌};
 ghost use Rattle.rules.specs.Grid.{right, down, pads};
-ghost use Rattle.rules.specs.Drawing.{on_left, on_right};
 ghost use Rattle.model.specs.PadTests.{on_board};
 ghost use Rattle.model.specs.Board.{line, line_or_none};
+ghost use Rattle.boardparts.specs.Sides.{side_of, edge_to};
 ghost use Rattle.boardview.specs.View.{grid_in, has_bit, slot_on, Kinds, Ready, Decided, Done, NoneAt, detour_at, corner_at, bar_at, check_at};
 
-use boardparts::{BAR_LEFT, BAR_RIGHT, CORNER_LEFT, CORNER_RIGHT, ENDED, NONE_THERE, TAKEN};
+use boardparts::{
+    BAR_LEFT, BAR_RIGHT, CORNER_LEFT, CORNER_RIGHT, Direction, ENDED, NONE_THERE, Side, TAKEN,
+};
 use boardview::Arrays;
 use grid::Edge;
 
@@ -25,14 +27,16 @@ const NONE: u8 = Edge::NONE.0;
 
 // Steps a, b and f: an edge is to have no line. At a slot off the board nothing changes.
 #[cycle(deciding)]
+#[inline]
 pub fn decide_none(board: &mut Arrays, kind: &[u8; 1024], slot: usize)
     requires { (slot < 1024) × Kinds kind.now × Ready (grid_in kind.now) board.old }
     ensures { NoneAt (grid_in kind.now) board.old slot board.new }
 {
     let state = board.edges[slot];
     if state == UNDECIDED {
+        let count = board.count;
         boardparts::store(board, slot, NONE);
-        board.count = boardparts::go_on(board.count) + 1;
+        board.count = boardparts::go_on(count) + 1;
         let v = boardparts::first_pad(slot);
         let q = boardparts::second_pad(slot, boardparts::width(kind));
         check(board, kind, v);
@@ -78,8 +82,8 @@ pub fn decide_line_right(board: &mut Arrays, kind: &[u8; 1024], v: usize)
         detour(board, kind, left, right, below);
         detour(board, kind, right, left, below);
         detour(board, kind, below, left, right);
-        corner_right(board, kind, right_below, left);
-        corner_left(board, kind, left_below, right);
+        corner(board, kind, Side::Right, right_below, left);
+        corner(board, kind, Side::Left, left_below, right);
         bar(board, kind, v, BAR_RIGHT, left);
         bar(board, kind, q, BAR_LEFT, right);
         check(board, kind, v);
@@ -129,8 +133,8 @@ pub fn decide_line_down(board: &mut Arrays, kind: &[u8; 1024], v: usize)
         detour(board, kind, right, right_below, far_right);
         detour(board, kind, right_below, right, far_right);
         detour(board, kind, if_right, right, right_below);
-        corner_left(board, kind, pad_left, left);
-        corner_right(board, kind, pad_right, right);
+        corner(board, kind, Side::Left, pad_left, left);
+        corner(board, kind, Side::Right, pad_right, right);
         bar(board, kind, v, BAR_LEFT, left);
         bar(board, kind, v, BAR_RIGHT, right);
         check(board, kind, v);
@@ -166,11 +170,11 @@ pub fn detour(board: &mut Arrays, kind: &[u8; 1024], a: usize, b: usize, c: usiz
     decide_none(board, kind, c);
 }
 
-// Step e: the right and down corner above pad q, if the edge at slot a completes it and q is blank.
+// Step e: the corner downward and to a side above pad q, if the edge at slot a completes it and q is blank.
 #[cycle(deciding)]
-pub fn corner_right(board: &mut Arrays, kind: &[u8; 1024], q: usize, a: usize)
+pub fn corner(board: &mut Arrays, kind: &[u8; 1024], side: Side, q: usize, a: usize)
     requires { (a < 1024) × (q < 512) × (slot_on (grid_in kind.now) a ≡ true → q < pads (grid_in kind.now)) × Kinds kind.now × Ready (grid_in kind.now) board.old }
-    ensures { Done (grid_in kind.now) 1 board.old (corner_at (grid_in kind.now) on_right q a) board.new }
+    ensures { Done (grid_in kind.now) 1 board.old (corner_at (grid_in kind.now) (side_of side) q a) board.new }
 {
     if ENDED <= board.count {
         return;
@@ -181,33 +185,8 @@ pub fn corner_right(board: &mut Arrays, kind: &[u8; 1024], q: usize, a: usize)
     if boardparts::has(kind, q, TAKEN) {
         return;
     }
-    if boardparts::has(kind, q, CORNER_RIGHT) {
-        decide_line_right(board, kind, q);
-        board.count = boardparts::go_on(board.count);
-        decide_line_down(board, kind, q);
-        board.count = boardparts::go_on(board.count);
-        return;
-    }
-    board.count = boardparts::stop(board.count);
-}
-
-// Step e: the left and down corner above pad q, if the edge at slot a completes it and q is blank.
-#[cycle(deciding)]
-pub fn corner_left(board: &mut Arrays, kind: &[u8; 1024], q: usize, a: usize)
-    requires { (a < 1024) × (q < 512) × (slot_on (grid_in kind.now) a ≡ true → q < pads (grid_in kind.now)) × Kinds kind.now × Ready (grid_in kind.now) board.old }
-    ensures { Done (grid_in kind.now) 1 board.old (corner_at (grid_in kind.now) on_left q a) board.new }
-{
-    if ENDED <= board.count {
-        return;
-    }
-    if board.edges[a] != LINE {
-        return;
-    }
-    if boardparts::has(kind, q, TAKEN) {
-        return;
-    }
-    if boardparts::has(kind, q, CORNER_LEFT) {
-        decide_line_right(board, kind, q - 1);
+    if boardparts::has(kind, q, side.corner()) {
+        decide_line_right(board, kind, side.first_beside(q));
         board.count = boardparts::go_on(board.count);
         decide_line_down(board, kind, q);
         board.count = boardparts::go_on(board.count);
@@ -232,6 +211,7 @@ pub fn bar(board: &mut Arrays, kind: &[u8; 1024], v: usize, bit: u8, slot: usize
 
 // The pad check; a pad number of 512 stands for no pad.
 #[cycle(deciding)]
+#[inline]
 pub fn check(board: &mut Arrays, kind: &[u8; 1024], v: usize)
     requires { (v ≤ 512) × (v < 512 → v < pads (grid_in kind.now)) × Kinds kind.now × Ready (grid_in kind.now) board.old }
     ensures { Done (grid_in kind.now) 1 board.old (check_at v) board.new }
@@ -242,17 +222,26 @@ pub fn check(board: &mut Arrays, kind: &[u8; 1024], v: usize)
     if v == 512 {
         return;
     }
+    check_pad(board, kind, v);
+}
+
+// The pad check of a pad, where the decision goes on: its edges to pads whose ends are of another clue become none, and then the pad's own
+// edges may tell what the last of them is.
+#[cycle(deciding)]
+fn check_pad(board: &mut Arrays, kind: &[u8; 1024], v: usize)
+    requires { (v < pads (grid_in kind.now)) × (board.old.count < 2048) × Kinds kind.now × Ready (grid_in kind.now) board.old }
+    ensures { Done (grid_in kind.now) 1 board.old (check_at v) board.new }
+{
     let w = boardparts::width(kind);
     let code = boardparts::end_code(&board.ends, v);
-    let mut side = boardparts::first_side(board, w, v);
-    while side < 4 {
+    let first = boardparts::first_side(board, w, v);
+    for side in first..4 {
         let there = boardparts::slot_around(w, v, side);
         let past = boardparts::past_around(w, v, side);
         let slot = boardparts::slot_apart(board, code, there, past);
-        let before = board.count;
-        decide_none(board, kind, slot);
-        board.count = boardparts::count_after(slot, before, board.count);
-        side += 1;
+        if slot != 0 {
+            decide_none(board, kind, slot);
+        }
     }
     if ENDED <= board.count {
         return;
@@ -274,28 +263,17 @@ pub fn check(board: &mut Arrays, kind: &[u8; 1024], v: usize)
     decide_line_down(board, kind, pad);
 }
 
-// The edge to the right of a pad becomes a line or none.
-pub fn decide_right(board: &mut Arrays, kind: &[u8; 1024], v: usize, line: bool)
-    requires { (v < 256) × Kinds kind.now × Ready (grid_in kind.now) board.old × (on_board (grid_in kind.now) (right v) ≡ true) }
-    ensures { Decided (grid_in kind.now) board.old
-        (right v) (line_or_none line) board.new }
+// The edge in a direction from a pad becomes a line or none.
+pub fn decide(board: &mut Arrays, kind: &[u8; 1024], direction: Direction, v: usize, line: bool)
+    requires { (v < 256) × Kinds kind.now × Ready (grid_in kind.now) board.old × (on_board (grid_in kind.now) (edge_to direction v) ≡ true) }
+    ensures { Decided (grid_in kind.now) board.old (edge_to direction v) (line_or_none line) board.new }
 {
-    if line {
-        decide_line_right(board, kind, v);
+    if !line {
+        decide_none(board, kind, direction.slot(v));
         return;
     }
-    decide_none(board, kind, 32 + 2 * v);
-}
-
-// The edge downward from a pad becomes a line or none.
-pub fn decide_down(board: &mut Arrays, kind: &[u8; 1024], v: usize, line: bool)
-    requires { (v < 256) × Kinds kind.now × Ready (grid_in kind.now) board.old × (on_board (grid_in kind.now) (down v) ≡ true) }
-    ensures { Decided (grid_in kind.now) board.old
-        (down v) (line_or_none line) board.new }
-{
-    if line {
-        decide_line_down(board, kind, v);
-        return;
+    match direction {
+        Direction::Right => decide_line_right(board, kind, v),
+        Direction::Down => decide_line_down(board, kind, v),
     }
-    decide_none(board, kind, 33 + 2 * v);
 }

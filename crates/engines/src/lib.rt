@@ -8,57 +8,34 @@ ghost use Rattle.std.specs.Prelude.{◌≡◌, true, ◌↔◌, ◌+◌, ◌*◌
 ghost use Rattle.rules.specs.Grid.{places};
 ghost use Rattle.engines.specs.Equal.{SameCounts, SameBytes, Equal, Compares};
 ghost use Rattle.engines.specs.Kinds.{more_codes, codes_before, Kinds, Next, cell_of_kind, cells_of};
-ghost use Rattle.engines.specs.Sums.{sum, one_if, with_grid};
+ghost use Rattle.engines.specs.Sums.{with_grid};
 
 use solver::Solved;
 use walking::Walked;
 
 // Where the count of visited boards, or of tried codes, stops an engine: never.
-const LIMIT: u64 = 18446744073709551615;
-
-// The largest number that a sum can hold.
-const LARGEST: u64 = 18446744073709551615;
+const LIMIT: u64 = u64::MAX;
 
 // Whether two answers say the same: both complete, and number, index, layouts and fewest lines alike.
 fn same_counts(walked: Walked, solved: Solved) -> bool
     ensures { (result ≡ true) ↔ SameCounts walked solved }
 {
-    if walked.outcome != 0 {
-        return false;
-    }
-    if solved.outcome != 0 {
-        return false;
-    }
-    if walked.number != solved.number {
-        return false;
-    }
-    if walked.index != solved.index {
-        return false;
-    }
-    if walked.layouts != solved.layouts {
-        return false;
-    }
-    walked.fewest == solved.fewest
+    walked.outcome == 0
+        && solved.outcome == 0
+        && walked.number == solved.number
+        && walked.index == solved.index
+        && walked.layouts == solved.layouts
+        && walked.fewest == solved.fewest
 }
 
 // Whether two buffers have so many bytes, and these are the same.
 fn same_bytes(first: &[u8], second: &[u8], count: usize) -> bool
     ensures { (result ≡ true) ↔ SameBytes count first.now second.now }
 {
-    if first.len() < count {
+    if first.len() < count || second.len() < count {
         return false;
     }
-    if second.len() < count {
-        return false;
-    }
-    let mut i = 0;
-    while i < count {
-        if first[i] != second[i] {
-            return false;
-        }
-        i += 1;
-    }
-    true
+    first[..count] == second[..count]
 }
 
 // The bytes of a record.
@@ -133,13 +110,7 @@ pub fn compare(height: usize, width: usize, cells: &[i64]) -> Compared
 fn more_codes(codes: u8, kind: u8) -> u8
     ensures { result ≡ more_codes codes kind }
 {
-    if kind < 2 {
-        return codes;
-    }
-    if codes < kind - 1 {
-        return kind - 1;
-    }
-    codes
+    codes.max(kind.saturating_sub(1))
 }
 
 // How many codes stand at the pads before this one.
@@ -148,10 +119,8 @@ fn codes_before(kinds: &[u8], pad: usize) -> u8
     ensures { result ≡ codes_before kinds.now pad }
 {
     let mut codes: u8 = 0;
-    let mut i = 0;
-    while i < pad {
-        codes = more_codes(codes, kinds[i]);
-        i += 1;
+    for kind in &kinds[..pad] {
+        codes = more_codes(codes, *kind);
     }
     codes
 }
@@ -161,9 +130,7 @@ pub fn next_grid(kinds: &mut [u8]) -> bool
     requires { Kinds kinds.old × (length kinds.old ≤ 9) }
     ensures { Next kinds.old result kinds.new }
 {
-    let mut pad = kinds.len();
-    while pad > 0 {
-        pad -= 1;
+    for pad in (0..kinds.len()).rev() {
         if kinds[pad] < 2 + codes_before(kinds, pad) {
             kinds[pad] += 1;
             return true;
@@ -174,16 +141,14 @@ pub fn next_grid(kinds: &mut [u8]) -> bool
 }
 
 // The cell of a kind: 0 is blank, 1 is a hole, 2 + c is code c.
-fn cell_of_kind(kind: u8) -> i64
+pub fn cell_of_kind(kind: u8) -> i64
     ensures { result ≡ cell_of_kind kind }
 {
-    if kind == 0 {
-        return -1;
+    match kind {
+        0 => -1,
+        1 => -2,
+        _ => i64::from(kind - 2),
     }
-    if kind == 1 {
-        return -2;
-    }
-    (kind - 2) as i64
 }
 
 // The cells of the kinds.
@@ -191,11 +156,8 @@ fn put_cells(kinds: &[u8], cells: &mut [i64])
     requires { length cells.old ≡ length kinds.now }
     ensures { cells.new ≡ cells_of kinds.now }
 {
-    let mut i = 0;
-    while i < kinds.len() {
-        let cell = cell_of_kind(kinds[i]);
-        cells[i] = cell;
-        i += 1;
+    for (pad, kind) in kinds.iter().enumerate() {
+        cells[pad] = cell_of_kind(*kind);
     }
 }
 
@@ -239,28 +201,15 @@ impl Sums {
     };
 }
 
-// A sum, or the largest number where it is above that.
-fn plus(a: u64, b: u64) -> u64
-    ensures { result ≡ sum a b }
-{
-    if b <= LARGEST - a { a + b } else { LARGEST }
-}
-
-fn one_if(test: bool) -> u64
-    ensures { result ≡ one_if test }
-{
-    if test { 1 } else { 0 }
-}
-
-// The sums with one grid more.
+// The sums with one grid more; a sum stops at the largest number.
 pub fn counted(sums: Sums, compared: Compared) -> Sums
     ensures { result ≡ with_grid sums compared }
 {
     Sums {
-        grids: plus(sums.grids, 1),
-        equal: plus(sums.equal, one_if(compared.equal)),
-        layouts: plus(sums.layouts, compared.layouts as u64),
-        visited: plus(sums.visited, compared.visited),
-        tried: plus(sums.tried, compared.tried),
+        grids: sums.grids.saturating_add(1),
+        equal: sums.equal.saturating_add(u64::from(compared.equal)),
+        layouts: sums.layouts.saturating_add(compared.layouts as u64),
+        visited: sums.visited.saturating_add(compared.visited),
+        tried: sums.tried.saturating_add(compared.tried),
     }
 }

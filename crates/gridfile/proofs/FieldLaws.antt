@@ -9,20 +9,30 @@ use native.Mathlib.Numerals.{add-one}
 use native.Mathlib.Omega.{arith}
 use lib.ListN.{length, get_or, drop, drop_of_length-le, get_or-eq_default}
 use lib.Seq.{drop-cons}
-use lib.Dec.{ltb}
+use lib.Dec.{eqb, ltb}
 use borrow.Author.Tests.{ltb-true, ltb-false, lt-ltb, le-ltb, ne_eqb, eq-eqb, not-true, not-false}
 use Rattle.rules.specs.Grid.{largest_code}
 use Rattle.rules.specs.Tests.{conflict}
 use Rattle.model.specs.Bounds.{most_digits}
 use Rattle.model.specs.GridFile.{is_digit, is_comma, is_line_end, is_hole_sign, disallowed_number, is_zero_alone}
+use Rattle.std.specs.Prelude.{Ok, Err, if◌then◌else◌}
 use Rattle.reading.specs.FieldSteps.{digit_bounds}
-use Rattle.gridfile.specs.Fields.{ended_field, field_from, field_at, hole_from, row_field_at}
-use Rattle.gridfile.specs.declared.Field.TheVariants.{Value, Refused}
+use Rattle.gridfile.specs.Fields.{fault_number, disallowed, ended_field, field_from, field_at, hole_from, row_field_at}
+use Rattle.gridfile.specs.declared.Fault.TheVariants.{StrayByte, EleventhDigit, LargeCode, FileEnd, ByteAfterDigit, LeadingZero}
 
 -- ## The end of a field
 
+-- the documents' number of a disallowed byte
+pub disallowed_is : (digits : ℕ) → fault_number (disallowed digits) ≡ disallowed_number digits
+unfolding disallowed disallowed_number
+disallowed_is digits = go (eqb digits 0)
+  where
+    go : (first : Bool) → fault_number (if first then StrayByte else ByteAfterDigit) ≡ (if first then 1 else 13)
+    go true = refl
+    go false = refl
+
 module _ (byte digits value at : ℕ) where
-  pub neither : (byte ≡ 44 → ⊥) → (byte ≡ 10 → ⊥) → Refused (disallowed_number digits) ≡ ended_field byte digits value at
+  pub neither : (byte ≡ 44 → ⊥) → (byte ≡ 10 → ⊥) → Err (disallowed digits) ≡ ended_field byte digits value at
   unfolding ended_field is_comma is_line_end
   neither c l = simp (ne_eqb _ _ c, ne_eqb _ _ l)
 
@@ -31,11 +41,11 @@ module _ (byte digits value at : ℕ) where
   separates (inl e) = simp (eq-eqb _ _ e)
   separates (inr e) = rw e
 
-  pub too_large : (byte ≡ 44) ⊎ (byte ≡ 10) → largest_code < value → Refused 3 ≡ ended_field byte digits value at
+  pub too_large : (byte ≡ 44) ⊎ (byte ≡ 10) → largest_code < value → Err LargeCode ≡ ended_field byte digits value at
   unfolding ended_field
   too_large s h = simp (separates s, lt-ltb _ _ h)
 
-  pub sound_value : (byte ≡ 44) ⊎ (byte ≡ 10) → value ≤ largest_code → Value value at ≡ ended_field byte digits value at
+  pub sound_value : (byte ≡ 44) ⊎ (byte ≡ 10) → value ≤ largest_code → Ok (record { value = value; end = at }) ≡ ended_field byte digits value at
   unfolding ended_field
   sound_value s h = simp (separates s, le-ltb _ _ h)
 
@@ -46,11 +56,11 @@ module _ (bytes : List ℕ) (at digits value : ℕ) where
   unfolding field_from
   field_stops h d = simp (drop-cons bytes at 0 h, d)
 
-  pub field_led_by_0 : at < length bytes → is_digit (get_or bytes at 0) ≡ true → is_zero_alone digits value ≡ true → field_from (drop at bytes) at digits value ≡ Refused 15
+  pub field_led_by_0 : at < length bytes → is_digit (get_or bytes at 0) ≡ true → is_zero_alone digits value ≡ true → field_from (drop at bytes) at digits value ≡ Err LeadingZero
   unfolding field_from
   field_led_by_0 h d z = simp (drop-cons bytes at 0 h, d, z)
 
-  pub field_too_long : at < length bytes → is_digit (get_or bytes at 0) ≡ true → is_zero_alone digits value ≡ false → digits ≡ 10 → field_from (drop at bytes) at digits value ≡ Refused 2
+  pub field_too_long : at < length bytes → is_digit (get_or bytes at 0) ≡ true → is_zero_alone digits value ≡ false → digits ≡ 10 → field_from (drop at bytes) at digits value ≡ Err EleventhDigit
   unfolding field_from most_digits
   field_too_long h d z e = simp (drop-cons bytes at 0 h, d, z, eq-eqb _ _ e)
 
@@ -58,7 +68,7 @@ module _ (bytes : List ℕ) (at digits value : ℕ) where
   unfolding field_from most_digits
   field_goes_on h d z e = rw (drop-cons bytes at 0 h, d, z, ne_eqb _ _ e, add-one at) refl
 
-  pub field_unended : length bytes ≤ at → field_from (drop at bytes) at digits value ≡ Refused 6
+  pub field_unended : length bytes ≤ at → field_from (drop at bytes) at digits value ≡ Err FileEnd
   unfolding field_from
   field_unended h = simp (drop_of_length-le bytes h)
 
@@ -78,7 +88,7 @@ module _ (bytes : List ℕ) (from : ℕ) where
         go true t = ltb-true _ _ t
         go false t = conflict sign (no_sign_past (ltb-false _ _ t))
 
-    pub hole_unended : from + 1 ≡ length bytes → row_field_at bytes from ≡ Refused 6
+    pub hole_unended : from + 1 ≡ length bytes → row_field_at bytes from ≡ Err FileEnd
     unfolding row_field_at hole_from
     hole_unended e = let all : length bytes ≤ from + 1 = omega arith in simp (sign, drop_of_length-le bytes all)
 

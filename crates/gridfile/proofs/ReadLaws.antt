@@ -18,18 +18,19 @@ use Rattle.model.specs.Bounds.{most_digits}
 use Rattle.model.specs.GridFile as model
 use Rattle.model.specs.GridFile.{Standing, is_digit, is_comma, is_line_end, is_hole_sign, begins_hole, is_allowed, disallowed_number, is_zero_alone, in_header, is_complete, declined_reading, declined, read_from, no_cells}
 use Rattle.reading.specs.FieldSteps.{Part, some_digits, hole_alone, field_start, in_field, field_ending, drop_next, place_inside, byte_there, byte_refused, end_early, still_open, refusal_15, refusal_2, refusal_disallowed, refusal_3, digit_read, hole_read, row_open, header_open}
-use Rattle.gridfile.specs.Fields.{ended_field, field_from, field_at, hole_from, row_field_at, field_number, part_of}
+use Rattle.gridfile.specs.Fields.{fault_number, disallowed, ended_field, field_from, field_at, hole_from, row_field_at, part_of}
 use Rattle.gridfile.specs.declared.Field.{Field}
-use Rattle.gridfile.specs.declared.Field.TheVariants.{Value, Refused}
+use Rattle.gridfile.specs.declared.Fault.{Fault}
+use Rattle.std.specs.Prelude.{Result, Ok, Err}
 use Rattle.gridfile.proofs.FieldLaws.{sign_inside}
 
 -- ## Inside a field
 
 -- what a field's answer makes of the reading: a refusal, or the reading from the byte that ended the field; `hole` says whether the
 -- sign of a hole begins it
-unfoldable pub field_read : Standing → List ℕ → ℕ → Bool → Field → model.Reading
-field_read s bytes from hole (Value value end) = read_from (in_field s (part_of hole (end - from) value)) (drop end bytes)
-field_read s bytes from hole (Refused number) = declined_reading number s.line s.field
+unfoldable pub field_read : Standing → List ℕ → ℕ → Bool → Result Field Fault → model.Reading
+field_read s bytes from hole (Ok found) = read_from (in_field s (part_of hole (found.end - from) found.value)) (drop found.end bytes)
+field_read s bytes from hole (Err fault) = declined_reading (fault_number fault) s.line s.field
 
 module _ (s : Standing) (open_yet : is_complete s ≡ false) (bytes : List ℕ) (from : ℕ) where
   -- at a byte that does not go on with the field: it ends the field, or is disallowed
@@ -41,11 +42,11 @@ module _ (s : Standing) (open_yet : is_complete s ≡ false) (bytes : List ℕ) 
     unfolding declined in_field
     three c v = byte_refused here byte rest (refusal_3 s open_yet byte part c v)
 
-    one_or_thirteen : is_allowed here byte ≡ false → read_from here (byte ∷ rest) ≡ declined_reading (disallowed_number part.digits) s.line s.field
-    unfolding disallowed_number declined in_field
+    one_or_thirteen : is_allowed here byte ≡ false → read_from here (byte ∷ rest) ≡ declined_reading (fault_number (disallowed part.digits)) s.line s.field
+    unfolding disallowed disallowed_number declined in_field
     one_or_thirteen a = go (eqb part.digits 0) refl
       where
-        go : (first : Bool) → eqb part.digits 0 ≡ first → read_from here (byte ∷ rest) ≡ declined_reading (disallowed_number part.digits) s.line s.field
+        go : (first : Bool) → eqb part.digits 0 ≡ first → read_from here (byte ∷ rest) ≡ declined_reading (fault_number (disallowed part.digits)) s.line s.field
         go true f = byte_refused here byte rest {number = 0} (refusal_disallowed s open_yet byte part a ∙ simp f) ∙ simp f
         go false f = byte_refused here byte rest {number = 12} (refusal_disallowed s open_yet byte part a ∙ simp f) ∙ simp f
 
@@ -97,23 +98,27 @@ module _ (s : Standing) (open_yet : is_complete s ≡ false) (bytes : List ℕ) 
 
 -- ## A field that gave a value
 
-pub record Ended (bytes : List ℕ) (at value end : ℕ) : Type 0 where
-  pub reached : at ≤ end
-  pub inside : end < length bytes
-  pub sound : value ≤ largest_code
-  pub parted : (is_comma (get_or bytes end 0) ≡ true) ⊎ (is_line_end (get_or bytes end 0) ≡ true)
+pub record Ended (bytes : List ℕ) (at : ℕ) (found : Field) : Type 0 where
+  pub reached : at ≤ found.end
+  pub inside : found.end < length bytes
+  pub sound : found.value ≤ largest_code
+  pub parted : (is_comma (get_or bytes found.end 0) ≡ true) ⊎ (is_line_end (get_or bytes found.end 0) ≡ true)
 
-different : {number value at : ℕ} {A : Type 0} → Refused number ≡ Value value at → A
+different : {fault : Fault} {found : Field} {A : Type 0} → Err fault ≡ Ok found → A
 different h = let z : ◌≡◌ {A = ℕ} 0 1 = cc in absurd (omega arith)
 
-ended_inside : (bytes : List ℕ) (byte : ℕ) (rest : List ℕ) (at digits value v end : ℕ) → drop at bytes ≡ byte ∷ rest → ended_field byte digits value at ≡ Value v end → Ended bytes at v end
+ended_inside : (bytes : List ℕ) (byte : ℕ) (rest : List ℕ) (at digits value : ℕ) (found : Field) → drop at bytes ≡ byte ∷ rest → ended_field byte digits value at ≡ Ok found → Ended bytes at found
 unfolding ended_field
-ended_inside bytes byte rest at digits value v end e h = go (is_comma byte) (is_line_end byte) (ltb largest_code value) refl refl refl
+ended_inside bytes byte rest at digits value found e h = go (is_comma byte) (is_line_end byte) (ltb largest_code value) refl refl refl
   where
-    same : Value value at ≡ Value v end → ltb largest_code value ≡ false → (is_comma byte ≡ true) ⊎ (is_line_end byte ≡ true) → Ended bytes at v end
+    made : Result Field Fault
+    made = Ok (record { value = value; end = at })
+
+    same : made ≡ Ok found → ltb largest_code value ≡ false → (is_comma byte ≡ true) ⊎ (is_line_end byte ≡ true) → Ended bytes at found
     same k big t =
-        let sv : value ≡ v = cc in
-        let se : at ≡ end = cc in
+        let is : record { value = value; end = at } ≡ found = cc in
+        let sv : value ≡ found.value = ap (λ (f : Field). f.value) is in
+        let se : at ≡ found.end = ap (λ (f : Field). f.end) is in
         record {
           reached = omega arith;
           inside = omega (arith, place_inside bytes byte rest at e);
@@ -121,61 +126,57 @@ ended_inside bytes byte rest at digits value v end e h = go (is_comma byte) (is_
           parted = rw (← se, byte_there bytes byte rest at e) t;
         }
 
-    go : (c l big : Bool) → is_comma byte ≡ c → is_line_end byte ≡ l → ltb largest_code value ≡ big → Ended bytes at v end
+    go : (c l big : Bool) → is_comma byte ≡ c → is_line_end byte ≡ l → ltb largest_code value ≡ big → Ended bytes at found
     go false false big p q r = different (simp (p, q) at h)
     go true l true p q r = different (simp (p, r) at h)
     go true l false p q r = same (simp (p, r) at h) r (inl p)
     go false true true p q r = different (simp (p, q, r) at h)
     go false true false p q r = same (simp (p, q, r) at h) r (inr q)
 
-value_inside : (bytes rest : List ℕ) (at digits value v end : ℕ) → drop at bytes ≡ rest → field_from rest at digits value ≡ Value v end → Ended bytes at v end
+value_inside : (bytes rest : List ℕ) (at digits value : ℕ) (found : Field) → drop at bytes ≡ rest → field_from rest at digits value ≡ Ok found → Ended bytes at found
 unfolding field_from
-value_inside bytes [] at digits value v end e h = different h
-value_inside bytes (byte ∷ rest) at digits value v end e h = go (is_digit byte) (is_zero_alone digits value) (eqb digits most_digits) refl refl refl (value_inside bytes rest (at + 1) (digits + 1) (value * 10 + (byte - 48)) v end (drop_next bytes byte rest at e))
+value_inside bytes [] at digits value found e h = different h
+value_inside bytes (byte ∷ rest) at digits value found e h = go (is_digit byte) (is_zero_alone digits value) (eqb digits most_digits) refl refl refl (value_inside bytes rest (at + 1) (digits + 1) (value * 10 + (byte - 48)) found (drop_next bytes byte rest at e))
   where
-    go : (d z m : Bool) → is_digit byte ≡ d → is_zero_alone digits value ≡ z → eqb digits most_digits ≡ m → (field_from rest (at + 1) (digits + 1) (value * 10 + (byte - 48)) ≡ Value v end → Ended bytes (at + 1) v end) → Ended bytes at v end
-    go false z m p k q again = ended_inside bytes byte rest at digits value v end e (simp p at h)
+    go : (d z m : Bool) → is_digit byte ≡ d → is_zero_alone digits value ≡ z → eqb digits most_digits ≡ m → (field_from rest (at + 1) (digits + 1) (value * 10 + (byte - 48)) ≡ Ok found → Ended bytes (at + 1) found) → Ended bytes at found
+    go false z m p k q again = ended_inside bytes byte rest at digits value found e (simp p at h)
     go true true m p k q again = different (simp (p, k) at h)
     go true false true p k q again = different (simp (p, k, q) at h)
-    go true false false p k q again = let r : Ended bytes (at + 1) v end = again (simp (p, k, q) at h) in record { reached = omega (arith, r.reached); inside = r.inside; sound = r.sound; parted = r.parted }
+    go true false false p k q again = let r : Ended bytes (at + 1) found = again (simp (p, k, q) at h) in record { reached = omega (arith, r.reached); inside = r.inside; sound = r.sound; parted = r.parted }
 
-pub value_ended : (bytes : List ℕ) (from value end : ℕ) → field_at bytes from ≡ Value value end → Ended bytes from value end
+pub value_ended : (bytes : List ℕ) (from : ℕ) (found : Field) → field_at bytes from ≡ Ok found → Ended bytes from found
 unfolding field_at
-value_ended bytes from value end h = value_inside bytes (drop from bytes) from 0 0 value end refl h
+value_ended bytes from found h = value_inside bytes (drop from bytes) from 0 0 found refl h
 
-hole_inside : (bytes rest : List ℕ) (at v end : ℕ) → drop at bytes ≡ rest → hole_from rest at ≡ Value v end → Ended bytes at v end
+hole_inside : (bytes rest : List ℕ) (at : ℕ) (found : Field) → drop at bytes ≡ rest → hole_from rest at ≡ Ok found → Ended bytes at found
 unfolding hole_from
-hole_inside bytes [] at v end e h = different h
-hole_inside bytes (byte ∷ rest) at v end e h = ended_inside bytes byte rest at 0 0 v end e h
+hole_inside bytes [] at found e h = different h
+hole_inside bytes (byte ∷ rest) at found e h = ended_inside bytes byte rest at 0 0 found e h
 
-pub row_value_ended : (bytes : List ℕ) (from value end : ℕ) → row_field_at bytes from ≡ Value value end → Ended bytes from value end
+pub row_value_ended : (bytes : List ℕ) (from : ℕ) (found : Field) → row_field_at bytes from ≡ Ok found → Ended bytes from found
 unfolding row_field_at
-row_value_ended bytes from value end h = go (is_hole_sign (get_or bytes from 0)) refl
+row_value_ended bytes from found h = go (is_hole_sign (get_or bytes from 0)) refl
   where
-    go : (sign : Bool) → is_hole_sign (get_or bytes from 0) ≡ sign → Ended bytes from value end
-    go false t = value_ended bytes from value end (simp t at h)
-    go true t = let r : Ended bytes (from + 1) value end = hole_inside bytes (drop (from + 1) bytes) (from + 1) value end refl (simp t at h) in record { reached = omega (arith, r.reached); inside = r.inside; sound = r.sound; parted = r.parted }
+    go : (sign : Bool) → is_hole_sign (get_or bytes from 0) ≡ sign → Ended bytes from found
+    go false t = value_ended bytes from found (simp t at h)
+    go true t = let r : Ended bytes (from + 1) found = hole_inside bytes (drop (from + 1) bytes) (from + 1) found refl (simp t at h) in record { reached = omega (arith, r.reached); inside = r.inside; sound = r.sound; parted = r.parted }
 
 -- the byte that ended a field, in front of the rest of the file
-module _ (bytes : List ℕ) (at value end : ℕ) (ended : Ended bytes at value end) where
-  pub ending_byte : (byte : ℕ) → get_or bytes end 0 ≡ byte → drop end bytes ≡ byte ∷ drop (end + 1) bytes
-  ending_byte byte e = drop-cons bytes end 0 ended.inside ∙ rw (e, add-one) refl
+module _ (bytes : List ℕ) (at : ℕ) (found : Field) (ended : Ended bytes at found) where
+  pub ending_byte : (byte : ℕ) → get_or bytes found.end 0 ≡ byte → drop found.end bytes ≡ byte ∷ drop (found.end + 1) bytes
+  ending_byte byte e = drop-cons bytes found.end 0 ended.inside ∙ rw (e, add-one) refl
 
   -- which is a comma where it is no line end
-  pub comma_there : (get_or bytes end 0 ≡ 10 → ⊥) → get_or bytes end 0 ≡ 44
+  pub comma_there : (get_or bytes found.end 0 ≡ 10 → ⊥) → get_or bytes found.end 0 ≡ 44
   unfolding is_comma is_line_end
   comma_there n = ⊎_elim (λ c. eqb-true _ _ c) (λ l. absurd (n (eqb-true _ _ l))) ended.parted
-
--- the number of a field that is refused
-pub refused_number : {field : Field} {number n : ℕ} → number ≡ field_number field → field ≡ Refused n → field ≡ Refused number
-refused_number e f = f ∙ sym (ap Refused (e ∙ ap field_number f))
 
 -- ## A field from its first byte on
 
 -- what its answer makes of the reading, and what is known where it gave a value
-pub record FieldRead (line field height width : ℕ) (cells : List ℤ) (bytes : List ℕ) (from : ℕ) (hole : Bool) (found : Field) : Type 0 where
-  pub same : read_from (field_start line field height width cells) (drop from bytes) ≡ field_read (field_start line field height width cells) bytes from hole found
-  pub ended : (value end : ℕ) → found ≡ Value value end → Ended bytes from value end
+pub record FieldRead (line field height width : ℕ) (cells : List ℤ) (bytes : List ℕ) (from : ℕ) (hole : Bool) (read : Result Field Fault) : Type 0 where
+  pub same : read_from (field_start line field height width cells) (drop from bytes) ≡ field_read (field_start line field height width cells) bytes from hole read
+  pub ended : (found : Field) → read ≡ Ok found → Ended bytes from found
 
 -- a field of digits: in the header, and in a row where no sign of a hole begins it
 digits_read : (line field height width : ℕ) (cells : List ℤ) (bytes : List ℕ) (from : ℕ) → is_complete (field_start line field height width cells) ≡ false → is_hole_sign (get_or bytes from 0) && not (eqb line 1) ≡ false → FieldRead line field height width cells bytes from false (field_at bytes from)
@@ -210,13 +211,13 @@ module _ (line field height width : ℕ) (cells : List ℤ) (in_rows : 2 ≤ lin
       go true t = rw (t, row_field_at) (sign_read t)
 
 -- what follows for the reading from the field's first byte on
-module _ {line field height width : ℕ} {cells : List ℤ} {bytes : List ℕ} {from : ℕ} {hole : Bool} {found : Field} (r : FieldRead line field height width cells bytes from hole found) where
-  pub by_refusal : (number : ℕ) → found ≡ Refused number → declined_reading number line field ≡ read_from (field_start line field height width cells) (drop from bytes)
+module _ {line field height width : ℕ} {cells : List ℤ} {bytes : List ℕ} {from : ℕ} {hole : Bool} {read : Result Field Fault} (r : FieldRead line field height width cells bytes from hole read) where
+  pub by_refusal : (fault : Fault) → read ≡ Err fault → declined_reading (fault_number fault) line field ≡ read_from (field_start line field height width cells) (drop from bytes)
   unfolding field_read field_start
-  by_refusal number e = sym (r.same ∙ ap (field_read (field_start line field height width cells) bytes from hole) e)
+  by_refusal fault e = sym (r.same ∙ ap (field_read (field_start line field height width cells) bytes from hole) e)
 
-  pub by_ending : (value end : ℕ) → found ≡ Value value end → (byte : ℕ) → get_or bytes end 0 ≡ byte → {answer : model.Reading} → read_from (field_ending line field height width cells (part_of hole (end - from) value)) (byte ∷ drop (end + 1) bytes) ≡ answer → answer ≡ read_from (field_start line field height width cells) (drop from bytes)
+  pub by_ending : (found : Field) → read ≡ Ok found → (byte : ℕ) → get_or bytes found.end 0 ≡ byte → {answer : model.Reading} → read_from (field_ending line field height width cells (part_of hole (found.end - from) found.value)) (byte ∷ drop (found.end + 1) bytes) ≡ answer → answer ≡ read_from (field_start line field height width cells) (drop from bytes)
   unfolding field_read
-  by_ending value end e byte b a =
+  by_ending found e byte b a =
       sym (r.same ∙ ap (field_read (field_start line field height width cells) bytes from hole) e
-      ∙ ap (read_from (field_ending line field height width cells (part_of hole (end - from) value))) (ending_byte bytes from value end (r.ended value end e) byte b) ∙ a)
+      ∙ ap (read_from (field_ending line field height width cells (part_of hole (found.end - from) found.value))) (ending_byte bytes from found (r.ended found e) byte b) ∙ a)

@@ -15,8 +15,10 @@ use Rattle.model.specs.RefusalLaws.{size_of_test}
 use Rattle.model.specs.GridFile as model
 use Rattle.model.specs.GridFile.{is_hole_sign, is_complete, in_header, refusal, accepted, declined_reading, declined, read_from, no_cells}
 use Rattle.reading.specs.FieldSteps.{Part, field_start, field_ending, cell_of, byte_refused, end_complete, row_too_short, row_ends, row_too_long, row_goes_on}
-use Rattle.gridfile.specs.Fields.{row_field_at, part_of}
-use Rattle.gridfile.specs.declared.Field.TheVariants.{Value, Refused}
+use Rattle.gridfile.specs.Fields.{fault_number, row_field_at, part_of}
+use Rattle.gridfile.specs.declared.Field.{Field}
+use Rattle.gridfile.specs.declared.Fault.{Fault}
+use Rattle.std.specs.Prelude.{Ok, Err}
 use Rattle.gridfile.proofs.ReadLaws.{Ended, comma_there, FieldRead, row_read, by_refusal, by_ending}
 
 -- the next field of a row is at `line` and `field`, its pad's cell at `index`, its first byte at `at`; reading on from there
@@ -47,8 +49,8 @@ module _ (bytes : List ℕ) (from height width : ℕ) (cells : List ℤ) (index 
   here = row_read line field height width cells r.in_rows left bytes at
 
   -- a field that is refused
-  pub row_refused : (number : ℕ) → row_field_at bytes at ≡ Refused number → declined_reading number line field ≡ read_from (field_start 2 1 height width no_cells) (drop from bytes)
-  row_refused number e = by_refusal here number e ∙ r.same
+  pub row_refused : (fault : Fault) → row_field_at bytes at ≡ Err fault → declined_reading (fault_number fault) line field ≡ read_from (field_start 2 1 height width no_cells) (drop from bytes)
+  row_refused fault e = by_refusal here fault e ∙ r.same
 
   pub index_inside : is_size height ≡ true → is_size width ≡ true → index < 256
   index_inside h w = omega (arith, r.counted, r.first, r.last, up_to_here, all)
@@ -59,32 +61,32 @@ module _ (bytes : List ℕ) (from height width : ℕ) (cells : List ℤ) (index 
       up_to_here : suc (line - 2) * width ≤ height * width
       up_to_here = mul-le-mul (omega (arith, r.in_rows, left)) (omega arith)
 
-  module _ (value end : ℕ) (e : row_field_at bytes at ≡ Value value end) where
-    ended : Ended bytes at value end
-    ended = here.ended value end e
+  module _ (found : Field) (e : row_field_at bytes at ≡ Ok found) where
+    ended : Ended bytes at found
+    ended = here.ended found e
 
     -- the field, as its cell is stored
     abbrev part : Part
-    part = part_of (is_hole_sign (get_or bytes at 0)) (end - at) value
+    part = part_of (is_hole_sign (get_or bytes at 0)) (found.end - at) found.value
 
     small : part.value ≤ largest_code
     small = go (is_hole_sign (get_or bytes at 0))
       where
-        go : (sign : Bool) → (part_of sign (end - at) value).value ≤ largest_code
+        go : (sign : Bool) → (part_of sign (found.end - at) found.value).value ≤ largest_code
         go true = omega arith
         go false = ended.sound
 
-    by_byte : (byte : ℕ) → get_or bytes end 0 ≡ byte → {answer : model.Reading} → read_from (field_ending line field height width cells part) (byte ∷ drop (end + 1) bytes) ≡ answer → answer ≡ read_from (field_start 2 1 height width no_cells) (drop from bytes)
-    by_byte byte b a = by_ending here value end e byte b a ∙ r.same
+    by_byte : (byte : ℕ) → get_or bytes found.end 0 ≡ byte → {answer : model.Reading} → read_from (field_ending line field height width cells part) (byte ∷ drop (found.end + 1) bytes) ≡ answer → answer ≡ read_from (field_start 2 1 height width no_cells) (drop from bytes)
+    by_byte byte b a = by_ending here found e byte b a ∙ r.same
 
-    pub too_short : get_or bytes end 0 ≡ 10 → field < width → declined_reading 4 line field ≡ read_from (field_start 2 1 height width no_cells) (drop from bytes)
-    too_short b h = by_byte 10 b (row_too_short line field height width cells r.in_rows left part (drop (end + 1) bytes) small h)
+    pub too_short : get_or bytes found.end 0 ≡ 10 → field < width → declined_reading 4 line field ≡ read_from (field_start 2 1 height width no_cells) (drop from bytes)
+    too_short b h = by_byte 10 b (row_too_short line field height width cells r.in_rows left part (drop (found.end + 1) bytes) small h)
 
-    pub too_long : (get_or bytes end 0 ≡ 10 → ⊥) → field ≡ width → declined_reading 4 line field ≡ read_from (field_start 2 1 height width no_cells) (drop from bytes)
-    too_long b h = by_byte 44 (comma_there bytes at value end ended b) (row_too_long line field height width cells r.in_rows left part (drop (end + 1) bytes) small h)
+    pub too_long : (get_or bytes found.end 0 ≡ 10 → ⊥) → field ≡ width → declined_reading 4 line field ≡ read_from (field_start 2 1 height width no_cells) (drop from bytes)
+    too_long b h = by_byte 44 (comma_there bytes at found ended b) (row_too_long line field height width cells r.in_rows left part (drop (found.end + 1) bytes) small h)
 
     module _ (stored : List ℤ) (s : stored ≡ set cells index (cell_of part)) where
-      pub next_row : get_or bytes end 0 ≡ 10 → width ≤ field → Reached bytes from height width stored (index + 1) (end + 1) (line + 1) 1
+      pub next_row : get_or bytes found.end 0 ≡ 10 → width ≤ field → Reached bytes from height width stored (index + 1) (found.end + 1) (line + 1) 1
       next_row b h =
           record {
             in_rows = omega (arith, r.in_rows);
@@ -93,13 +95,13 @@ module _ (bytes : List ℕ) (from height width : ℕ) (cells : List ℤ) (index 
             last = omega (arith, r.first, r.last);
             counted = omega (arith, r.counted, r.last, r.first, ap (λ (n : ℕ). n * width) row_more);
             inside = omega (arith, ended.inside);
-            same = rw (s, r.counted) (by_byte 10 b (row_ends line field height width cells r.in_rows left part (drop (end + 1) bytes) small h));
+            same = rw (s, r.counted) (by_byte 10 b (row_ends line field height width cells r.in_rows left part (drop (found.end + 1) bytes) small h));
           }
         where
           row_more : line + 1 - 2 ≡ suc (line - 2)
           row_more = omega (arith, r.in_rows)
 
-      pub next_field : (get_or bytes end 0 ≡ 10 → ⊥) → (field ≡ width → ⊥) → Reached bytes from height width stored (index + 1) (end + 1) line (field + 1)
+      pub next_field : (get_or bytes found.end 0 ≡ 10 → ⊥) → (field ≡ width → ⊥) → Reached bytes from height width stored (index + 1) (found.end + 1) line (field + 1)
       next_field b h =
           record {
             in_rows = r.in_rows;
@@ -108,7 +110,7 @@ module _ (bytes : List ℕ) (from height width : ℕ) (cells : List ℤ) (index 
             last = omega (arith, r.last, h);
             counted = omega (arith, r.counted, r.first);
             inside = omega (arith, ended.inside);
-            same = rw (s, r.counted) (by_byte 44 (comma_there bytes at value end ended b) (row_goes_on line field height width cells r.in_rows left part (drop (end + 1) bytes) small h));
+            same = rw (s, r.counted) (by_byte 44 (comma_there bytes at found ended b) (row_goes_on line field height width cells r.in_rows left part (drop (found.end + 1) bytes) small h));
           }
 
 -- after the last row

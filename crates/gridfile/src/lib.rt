@@ -7,11 +7,11 @@
 ghost use Rattle.std.specs.Prelude.{◌≡◌, true, ◌+◌, ◌-◌, ◌*◌, ◌≤◌, ◌<◌, length, get_or, drop, set};
 ghost use Rattle.rules.specs.Grid.{largest_code};
 ghost use Rattle.model.specs.Bounds.{is_size};
-ghost use Rattle.model.specs.GridFile.{is_digit, is_hole_sign, disallowed_number, is_zero_alone, no_cells, declined_reading, read_from, read};
+ghost use Rattle.model.specs.GridFile.{is_digit, is_hole_sign, is_zero_alone, no_cells, declined_reading, read_from, read};
 ghost use Rattle.model.specs.Writing.{cell_text, rows_text, grid_text, write};
 ghost use Rattle.text.specs.Put.{Put};
 ghost use Rattle.reading.specs.FieldSteps.{field_start, cell_of};
-ghost use Rattle.gridfile.specs.Fields.{field_at, row_field_at, ended_field, field_number, part_of};
+ghost use Rattle.gridfile.specs.Fields.{fault_number, disallowed, field_at, row_field_at, ended_field, part_of};
 ghost use Rattle.gridfile.specs.Answers.{reading_says, writing_says};
 
 // The bytes that part fields and end lines, the sign of a hole, and the most digits of a field.
@@ -49,11 +49,53 @@ pub struct Writing {
     pub length: usize,
 }
 
-// What a field gives: its value and the place of the byte that ended it, or the number of its refusal.
-#[derive(Drop)]
-enum Field {
-    Value(usize, usize),
-    Refused(u8),
+// Why a file, or a slice of packed decimal, is declined.
+#[derive(Clone, Copy)]
+pub enum Fault {
+    // A disallowed byte where a field begins.
+    StrayByte,
+    // A field has more digits than the largest code.
+    EleventhDigit,
+    // A code is larger than the largest.
+    LargeCode,
+    // A line has too few fields, or too many.
+    FieldCount,
+    // H or W is out of bounds.
+    BadSize,
+    // The file ends too early, or goes on after its last row.
+    FileEnd,
+    // A disallowed byte after a digit of its field.
+    ByteAfterDigit,
+    // A digit after a field's leading 0.
+    LeadingZero,
+    // A half byte of packed decimal that is no digit.
+    HalfByte,
+}
+
+impl Fault {
+    // The number by which a caller is told of it.
+    pub fn number(self) -> u8
+        ensures { result ≡ fault_number self }
+    {
+        match self {
+            Fault::StrayByte => 1,
+            Fault::EleventhDigit => 2,
+            Fault::LargeCode => 3,
+            Fault::FieldCount => 4,
+            Fault::BadSize => 5,
+            Fault::FileEnd => 6,
+            Fault::ByteAfterDigit => 13,
+            Fault::LeadingZero => 15,
+            Fault::HalfByte => 17,
+        }
+    }
+}
+
+// A field that was read: its value, and the place of the byte that ended it.
+#[derive(Clone, Copy)]
+struct Field {
+    value: usize,
+    end: usize,
 }
 
 pub fn is_digit(byte: u8) -> bool
@@ -62,14 +104,14 @@ pub fn is_digit(byte: u8) -> bool
     ZERO <= byte && byte <= NINE
 }
 
-// The number of a disallowed byte in a field that has so many digits before it: 1 at the field's start, 13 after a digit.
-fn disallowed_number(digits: usize) -> u8
-    ensures { result ≡ disallowed_number digits }
+// What a disallowed byte is in a field that has so many digits before it.
+fn disallowed(digits: usize) -> Fault
+    ensures { result ≡ disallowed digits }
 {
     if digits == 0 {
-        return 1;
+        return Fault::StrayByte;
     }
-    13
+    Fault::ByteAfterDigit
 }
 
 // Whether a field of so many digits with this value is `0` alone, after which no digit may come.
@@ -87,45 +129,41 @@ fn is_hole(bytes: &[u8], at: usize) -> bool
 }
 
 // A field that ends, or should end, at a byte, after some digits with a value.
-fn ended_field(byte: u8, digits: usize, value: usize, at: usize) -> Field
+fn ended_field(byte: u8, digits: usize, value: usize, at: usize) -> Result<Field, Fault>
     ensures { result ≡ ended_field byte digits value at }
 {
-    if byte != COMMA {
-        if byte != LINE_END {
-            return Field::Refused(disallowed_number(digits));
-        }
+    if byte != COMMA && byte != LINE_END {
+        return Err(disallowed(digits));
     }
     if value > grid::LARGEST_CODE as usize {
-        return Field::Refused(3);
+        return Err(Fault::LargeCode);
     }
-    Field::Value(value, at)
+    Ok(Field { value, end: at })
 }
 
 // The field of digits that begins at a place.
-fn field_at(bytes: &[u8], from: usize) -> Field
+fn field_at(bytes: &[u8], from: usize) -> Result<Field, Fault>
     ensures { result ≡ field_at bytes.now from }
 {
-    let mut at = from;
     let mut value: usize = 0;
-    while at < bytes.len() {
+    for at in from..bytes.len() {
         let byte = bytes[at];
         if !is_digit(byte) {
             return ended_field(byte, at - from, value, at);
         }
         if is_zero_alone(at - from, value) {
-            return Field::Refused(15);
+            return Err(Fault::LeadingZero);
         }
         if at - from == MOST_DIGITS {
-            return Field::Refused(2);
+            return Err(Fault::EleventhDigit);
         }
-        value = value * 10 + (byte - ZERO) as usize;
-        at += 1;
+        value = value * 10 + usize::from(byte - ZERO);
     }
-    Field::Refused(6)
+    Err(Fault::FileEnd)
 }
 
 // The field of a row that begins at a place: a hole's sign alone, which has the value 0, or digits.
-fn row_field_at(bytes: &[u8], from: usize) -> Field
+fn row_field_at(bytes: &[u8], from: usize) -> Result<Field, Fault>
     ensures { result ≡ row_field_at bytes.now from }
 {
     if !is_hole(bytes, from) {
@@ -133,19 +171,9 @@ fn row_field_at(bytes: &[u8], from: usize) -> Field
     }
     let at = from + 1;
     if at == bytes.len() {
-        return Field::Refused(6);
+        return Err(Fault::FileEnd);
     }
     ended_field(bytes[at], 0, 0, at)
-}
-
-// The number of a field's refusal, 0 for a value.
-fn field_number(field: Field) -> u8
-    ensures { result ≡ field_number field }
-{
-    match field {
-        Field::Value(_, _) => 0,
-        Field::Refused(number) => number,
-    }
 }
 
 // 256 blank cells.
@@ -194,9 +222,9 @@ fn read_rows(bytes: &[u8], from: usize, height: usize, width: usize) -> Reading
     let mut line = 2;
     let mut field = 1;
     while line < height + 2 {
-        let found = row_field_at(bytes, at);
-        let Field::Value(value, end) = found else {
-            return declined(field_number(found), line, field);
+        let Field { value, end } = match row_field_at(bytes, at) {
+            Ok(found) => found,
+            Err(fault) => return declined(fault.number(), line, field),
         };
         store_cell(&mut cells, index, is_hole(bytes, at), end - at, value);
         index += 1;
@@ -231,18 +259,20 @@ fn read_rows(bytes: &[u8], from: usize, height: usize, width: usize) -> Reading
 pub fn read(bytes: &[u8]) -> Reading
     ensures { reading_says result ≡ read bytes.now }
 {
-    let first = field_at(bytes, 0);
-    let Field::Value(height, comma) = first else {
-        return declined(field_number(first), 1, 1);
+    let first = match field_at(bytes, 0) {
+        Ok(found) => found,
+        Err(fault) => return declined(fault.number(), 1, 1),
     };
-    if bytes[comma] == LINE_END {
+    let height = first.value;
+    if bytes[first.end] == LINE_END {
         return declined(4, 1, 1);
     }
-    let second = field_at(bytes, comma + 1);
-    let Field::Value(width, end) = second else {
-        return declined(field_number(second), 1, 2);
+    let second = match field_at(bytes, first.end + 1) {
+        Ok(found) => found,
+        Err(fault) => return declined(fault.number(), 1, 2),
     };
-    if bytes[end] != LINE_END {
+    let width = second.value;
+    if bytes[second.end] != LINE_END {
         return declined(4, 1, 2);
     }
     if !grid::is_size(height) {
@@ -251,7 +281,7 @@ pub fn read(bytes: &[u8]) -> Reading
     if !grid::is_size(width) {
         return declined(5, 1, 2);
     }
-    read_rows(bytes, end + 1, height, width)
+    read_rows(bytes, second.end + 1, height, width)
 }
 
 // The field of a pad from a place on: nothing for a blank one, the sign of a hole, or the code; the place after it.
@@ -275,10 +305,8 @@ fn put_rows(out: &mut [u8], at: usize, width: usize, cells: &[i64]) -> usize
 {
     let mut next = at;
     let mut field = 1;
-    let mut index = 0;
-    while index < cells.len() {
-        next = put_cell(out, next, cells[index]);
-        index += 1;
+    for &cell in cells {
+        next = put_cell(out, next, cell);
         if field == width {
             next = text::put_byte(out, next, LINE_END);
             field = 1;

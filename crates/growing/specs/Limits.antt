@@ -1,19 +1,17 @@
 -- The limits of the runs: the first is that of `routes`, each next one is four times as large, and none is larger than the last, which is reached in the end.
 -- And what a text says, as the model's limit (RoutesTo.antt there).
-use Rattle.std.specs.Prelude.{ℕ, ◌*◌, ◌≤◌, ◌<◌, ◌≡◌, refl}
+use Rattle.std.specs.Prelude.{Option, Some, None, ℕ, ◌*◌, ◌≤◌, ◌<◌, ◌≡◌, refl}
 use Rattle.std.proofs.Common.{arith, le-leb}
 use Rattle.std.proofs.Math.Decide.{dec_le}
 use Rattle.std.proofs.lemmas.Bool.{lt-leb}
 use Rattle.model.specs.Runs.{least}
 use Rattle.model.specs.RoutesTo as model
 use Rattle.model.specs.Routes.{routes_limit}
-use Rattle.growing.specs.declared.Limit.{Limit}
-use Rattle.growing.specs.declared.Limit.TheVariants.{Boards, NoLimit}
 
 -- what a text says
-abbrev pub says : Limit → model.Limit
-says (Boards limit) = model.boards limit
-says NoLimit = model.no_limit
+abbrev pub says : Option ℕ → model.Limit
+says (Some limit) = model.boards limit
+says None = model.no_limit
 
 -- ## The limits of the runs
 

@@ -1,5 +1,5 @@
 // The list of a file's wirings by a search that is run again and again, with limits that grow up to the one that is asked for, so that a long search
-// shows that it is alive: after each run `head` says on standard error how many boards it has visited and how many layouts it has found. Its
+// shows that it is alive: after each run `head` says, where it is told to, how many boards it has visited and how many layouts it has found. Its
 // contract is that of `listing::head` with the last limit: the runs before that one cannot be seen (specs/Limits.antt; crate `listing`,
 // specs/HeadAgain.antt). And how the limit is read from an argument. specs/Whole.antt says what a program prints with these.
 #![tactic(auto)]
@@ -11,15 +11,10 @@ ghost use Rattle.growing.specs.Limits.{says, first_limit, next_limit};
 
 use listing::Heading;
 
-// The number of standard error.
-const STDERR_FILENO: i32 = 2;
-
 const ZERO: u8 = 48;
 
-// The digits of the largest limit, and that limit.
+// The digits of the largest limit.
 const MOST_DIGITS: usize = 20;
-
-const LARGEST_LIMIT: u64 = 18446744073709551615;
 
 // The limit of the first run, which is that of `routes`, and how many times as large each next one is.
 const FIRST_LIMIT: u64 = 1000000;
@@ -29,38 +24,22 @@ const TIMES: u64 = 4;
 // The outcome of a run that stopped at its limit.
 const SPENT: u8 = 1;
 
-// What a text says: a limit of visited boards, or none.
-#[derive(Clone, Copy)]
-pub enum Limit {
-    Boards(u64),
-    NoLimit,
-}
-
-// The limit that a text says, in 1 to 20 digits.
-pub fn limit_of(text: &[u8]) -> Limit
+// The limit of visited boards that a text says, in 1 to 20 digits.
+pub fn limit_of(text: &[u8]) -> Option<u64>
     ensures { says result ≡ limit_of text.now }
 {
-    if text.len() == 0 {
-        return Limit::NoLimit;
-    }
-    if text.len() > MOST_DIGITS {
-        return Limit::NoLimit;
+    if text.is_empty() || text.len() > MOST_DIGITS {
+        return None;
     }
     let mut value: u64 = 0;
-    let mut at = 0;
-    while at < text.len() {
-        let byte = text[at];
-        if !gridfile::is_digit(byte) {
-            return Limit::NoLimit;
+    for byte in text {
+        if !gridfile::is_digit(*byte) {
+            return None;
         }
-        let digit = (byte - ZERO) as u64;
-        if value > (LARGEST_LIMIT - digit) / 10 {
-            return Limit::NoLimit;
-        }
-        value = value * 10 + digit;
-        at += 1;
+        let digit = u64::from(*byte - ZERO);
+        value = value.checked_mul(10)?.checked_add(digit)?;
     }
-    Limit::Boards(value)
+    Some(value)
 }
 
 // The line for an argument that is no limit.
@@ -74,51 +53,43 @@ pub fn limit_line() -> [u8; 97]
 fn first_limit(limit: u64) -> u64
     ensures { result ≡ first_limit limit }
 {
-    if FIRST_LIMIT <= limit {
-        return FIRST_LIMIT;
-    }
-    limit
+    FIRST_LIMIT.min(limit)
 }
 
 // The limit of the run after one that was spent.
 fn next_limit(reached: u64, limit: u64) -> u64
     ensures { result ≡ next_limit reached limit }
 {
-    if reached <= limit / TIMES {
-        return reached * TIMES;
-    }
-    limit
+    reached.saturating_mul(TIMES).min(limit)
 }
 
-// Says how far a run has come.
-fn print_progress(visited: u64, layouts: u64) {
+// Says how far a run has come. What cannot be written is passed over.
+fn print_progress(progress: &impl Print, visited: u64, layouts: u64) {
     let text = printed::progress_line(visited, layouts);
-    let bytes = text.bytes;
-    let length = text.length;
-    io::write_all(STDERR_FILENO, &bytes[..length]);
+    let _ = progress.write_all(&text.bytes[..text.length]);
 }
 
 // One run, of which it is said how far it has come; nothing is said of a refused file.
-fn run(file: &[u8], limit: u64, buffer: &mut [u8]) -> Heading
+fn run(progress: &impl Print, file: &[u8], limit: u64, buffer: &mut [u8]) -> Heading
     ensures { Headed limit file.now buffer.old result buffer.new }
 {
     let head = listing::head(file, limit, buffer);
     if head.number == 0 {
-        print_progress(head.visited, head.layouts as u64);
+        print_progress(progress, head.visited, head.layouts as u64);
     }
     head
 }
 
 // Reads the file, searches its grid into the buffer with growing limits, and gives the head of the text. It ends with a run that is not spent, since
 // a higher limit changes nothing then, or with the limit that is asked for.
-pub fn head(file: &[u8], limit: u64, buffer: &mut [u8]) -> Heading
+pub fn head(progress: &impl Print, file: &[u8], limit: u64, buffer: &mut [u8]) -> Heading
     ensures { Headed limit file.now buffer.old result buffer.new }
 {
     let mut reached = first_limit(limit);
-    let mut head = run(file, reached, buffer);
+    let mut head = run(progress, file, reached, buffer);
     while head.outcome == SPENT && reached < limit {
         reached = next_limit(reached, limit);
-        head = run(file, reached, buffer);
+        head = run(progress, file, reached, buffer);
     }
     head
 }

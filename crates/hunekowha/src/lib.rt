@@ -39,9 +39,9 @@ fn put_reading(reading: Reading, answer: &mut [u64], cells: &mut [i64]) -> usize
         reading.height as u64,
         reading.width as u64,
     ];
-    lend::put_numbers(answer, 0, &numbers);
+    lend::put(answer, 0, &numbers);
     let read_cells = reading.cells;
-    lend::put_signed(cells, 0, &read_cells);
+    lend::put(cells, 0, &read_cells);
     5
 }
 
@@ -85,7 +85,7 @@ pub extern "C" fn hunekowha_write(
         writing.index as u64,
         writing.length as u64,
     ];
-    lend::put_numbers(answer, 0, &numbers);
+    lend::put(answer, 0, &numbers);
     3
 }
 
@@ -106,7 +106,7 @@ pub extern "C" fn hunekowha_record(
     }
     let length = records::record_at(height, width, count, k, buffer).len();
     let numbers = [(k * length) as u64, length as u64];
-    lend::put_numbers(answer, 0, &numbers);
+    lend::put(answer, 0, &numbers);
     2
 }
 
@@ -131,7 +131,7 @@ pub extern "C" fn hunekowha_judge(
         judged.verdict as u64,
         judged.lines as u64,
     ];
-    lend::put_numbers(answer, 0, &numbers);
+    lend::put(answer, 0, &numbers);
     4
 }
 
@@ -159,23 +159,17 @@ fn called(
     requires { IsBoard board }
     ensures { (B : model.Board) → Held board B → Says result (called (record { height = height; width = width; cells = cells.now }) B kind row column state) }
 {
-    if kind == 1 {
-        return board.decide_edge(row, column, edge_of(state));
-    }
-    if kind == 2 {
-        return board.get_edge(row, column);
-    }
-    if kind == 3 {
-        return board.add_checkpoint();
-    }
-    if kind == 4 {
-        return Answer {
+    match kind {
+        1 => board.decide_edge(row, column, edge_of(state)),
+        2 => board.get_edge(row, column),
+        3 => board.add_checkpoint(),
+        4 => Answer {
             number: 0,
             answer: 0,
             board: board.undo(),
-        };
+        },
+        _ => Board::new(height, width, cells),
     }
-    Board::new(height, width, cells)
 }
 
 // The numbers of a block of a board.
@@ -205,7 +199,7 @@ fn put_block(answer: &mut [i64], place: usize, made: Answer)
     let head = [made.number, made.answer as u8, flag as u8];
     lend::put_bytes(answer, place, &head);
     lend::put_bytes(answer, place + 3, &edges[..places]);
-    lend::put_signed(answer, place + 3 + places, &ends[..height * width]);
+    lend::put(answer, place + 3 + places, &ends[..height * width]);
 }
 
 // Makes the calls of a list on a fresh board, and writes their blocks one behind the other.
@@ -223,8 +217,7 @@ fn put_blocks(
     ensures { answer.new ≡ paste answer.old 0 (all_blocks (record { height = height; width = width; cells = cells.now }) calls.now) (length (all_blocks (record { height = height; width = width; cells = cells.now }) calls.now)) }
 {
     let mut board = fresh;
-    let mut i = 0;
-    while i < count {
+    for i in 0..count {
         let at = 4 * i;
         let made = called(
             board,
@@ -238,7 +231,6 @@ fn put_blocks(
         );
         put_block(answer, i * size, made);
         board = made.board;
-        i += 1;
     }
 }
 
@@ -277,7 +269,7 @@ fn put_solved(answer: &mut [u64], solved: Solved)
         solved.visited,
         solved.fewest as u64,
     ];
-    lend::put_numbers(answer, 0, &numbers);
+    lend::put(answer, 0, &numbers);
 }
 
 // Lists the layouts of a grid into the buffer, and writes six numbers.

@@ -5,29 +5,24 @@
 
 ghost use Rattle.std.specs.Prelude.{◌≤◌, length};
 
-// The number of standard input.
-const STDIN_FILENO: i32 = 0;
+use std::os::fd::AsRawFd;
 
-// The number of standard output.
-const STDOUT_FILENO: i32 = 1;
-
-// The text for a file of at most 4,096 bytes, and codes.
-fn print_judged(file: &[u8], digits: &[u8])
+// The text for a file of at most 4,096 bytes, and codes. What cannot be written is passed over, here as below.
+fn print_judged(rt: &impl Print, file: &[u8], digits: &[u8])
     requires { (length file.now ≤ 4096) × (length digits.now ≤ 4096) }
 {
     let text = hearing::judged(file, digits);
-    let bytes = text.bytes;
-    let length = text.length;
-    io::write_all(STDOUT_FILENO, &bytes[..length]);
+    let _ = rt.write_all(&text.bytes[..text.length]);
 }
 
 // Reads standard input, and prints the text for it and the codes.
-fn judge_input(digits: &[u8])
+fn judge_input(rt: &HostRuntime, digits: &[u8])
     requires { length digits.now ≤ 4096 }
 {
     let mut input = io::buffer();
-    let n = io::read_full(STDIN_FILENO, &mut input);
-    print_judged(&input[..n], digits);
+    // By the kit's io: std fills an array only by read_exact, which fails where the input ends before it.
+    let n = io::read_full(rt.stdin().as_raw_fd(), &mut input);
+    print_judged(rt, &input[..n], digits);
 }
 
 // With one argument beside the program's own name it judges; else it says how it is called. An argument that is longer than the buffer is
@@ -35,9 +30,8 @@ fn judge_input(digits: &[u8])
 fn main(rt: HostRuntime) {
     let mut argument = io::buffer();
     let Some(m) = arguments::only_argument(&rt, &mut argument) else {
-        let usage = hearing::usage();
-        io::write_all(STDOUT_FILENO, &usage);
+        let _ = rt.write_all(&hearing::usage());
         return;
     };
-    judge_input(&argument[..m]);
+    judge_input(&rt, &argument[..m]);
 }

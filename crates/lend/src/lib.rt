@@ -5,28 +5,12 @@
 ghost use Rattle.std.specs.Prelude.{◌≡◌, map, ◌+◌, ◌≤◌, length, pos};
 ghost use Rattle.std.proofs.Math.Seq.{paste};
 
-// Unsigned numbers.
-pub fn put_numbers(target: &mut [u64], place: usize, numbers: &[u64])
+// Numbers of one type: unsigned ones, or ones with a sign.
+pub fn put<N: Copy>(target: &mut [N], place: usize, numbers: &[N])
     requires { place + length numbers.now ≤ length target.old }
     ensures { target.new ≡ paste target.old place numbers.now (length numbers.now) }
 {
-    let mut i = 0;
-    while i < numbers.len() {
-        target[place + i] = numbers[i];
-        i += 1;
-    }
-}
-
-// Numbers with a sign: cells, or ends.
-pub fn put_signed(target: &mut [i64], place: usize, numbers: &[i64])
-    requires { place + length numbers.now ≤ length target.old }
-    ensures { target.new ≡ paste target.old place numbers.now (length numbers.now) }
-{
-    let mut i = 0;
-    while i < numbers.len() {
-        target[place + i] = numbers[i];
-        i += 1;
-    }
+    target[place..place + numbers.len()].copy_from_slice(numbers);
 }
 
 // Bytes, as numbers with a sign.
@@ -34,9 +18,7 @@ pub fn put_bytes(target: &mut [i64], place: usize, bytes: &[u8])
     requires { place + length bytes.now ≤ length target.old }
     ensures { target.new ≡ paste target.old place (map pos bytes.now) (length bytes.now) }
 {
-    let mut i = 0;
-    while i < bytes.len() {
-        target[place + i] = bytes[i] as i64;
-        i += 1;
+    for (i, byte) in bytes.iter().enumerate() {
+        target[place + i] = i64::from(*byte);
     }
 }

@@ -1,6 +1,6 @@
 -- Record k of a buffer: what its line is where there is one. And for records that were put into a buffer one after the other, each as long
 -- as the field has places, the lines there are the lines of the records. It rests on Listing.antt and the model's HasRecord.antt.
-use Rattle.std.specs.Prelude.{ℕ, zero, suc, ◌+◌, ◌*◌, ◌-◌, ◌≤◌, ◌<◌, ◌≡◌, Bool, length}
+use Rattle.std.specs.Prelude.{ℕ, zero, suc, ◌+◌, ◌*◌, ◌≤◌, ◌<◌, ◌≡◌, Bool, length}
 use Rattle.std.proofs.Math.Path.{refl, ap}
 use Rattle.std.proofs.Common.{sym, ◌∙◌, arith, length-drop, length-take-le}
 use Rattle.std.proofs.Math.Bool.{true, false}

@@ -1,7 +1,7 @@
 -- A SEARCH THAT IS RUN AGAIN with a higher limit, into the buffer that the run before it left: head and buffer are then those of one run with that
 -- limit into the buffer as it was at first (`headed_again`). And a run that is not spent has the head and the buffer of any higher limit
 -- (`headed_last`). Both rest on what a second run keeps of the first (runs' TwoRuns.antt).
-use Prim.Native.Nat.{ℕ, zero, suc, ◌+◌, ◌*◌, ◌≤◌}
+use Prim.Native.Nat.{ℕ, zero, suc, ◌*◌, ◌≤◌}
 use Rattle.std.specs.Prelude.{◌≡◌, List, [], ◌++◌, take, drop}
 use Rattle.std.proofs.Math.Path.{refl}
 use Rattle.std.proofs.Common.{ap, ◌∙◌, arith, length-append, length-drop, drop-drop}

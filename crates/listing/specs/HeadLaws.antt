@@ -1,7 +1,7 @@
 -- The head of the text, from what the reader and the search answer: `refused_head` for a refused file, `accepted_head` for an accepted one.
 -- They rest on the laws of the reader and on the contract of `solve`.
 use Prim.Native.Nat.{ℕ, zero, suc, ◌*◌}
-use Rattle.std.specs.Prelude.{◌≡◌, Bool, true, false, List, [], ◌∷◌, length, take, ℤ}
+use Rattle.std.specs.Prelude.{◌≡◌, Bool, true, false, List, [], ◌∷◌, take, ℤ}
 use Rattle.std.proofs.Math.Path.{refl, sym, ap}
 use Rattle.std.proofs.Common.{◌∙◌}
 use Rattle.model.specs.Refusals.{grid_refusal}

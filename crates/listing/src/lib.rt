@@ -1,15 +1,13 @@
 // The list of a file's wirings as `routes` prints it, in parts that a program writes one after the other: the head, which is the line of a refused
 // file or the summary line, and the line of each layout. specs/Listing.antt says each part, specs/Whole.antt that together they are the text of
 // the crate `model`, and specs/HeadAgain.antt what a search that is run again leaves. The answer buffer is lent: `head` leaves the records in
-// it, and `line` reads them there; `print_lines` writes the lines.
+// it, and `line` reads them there; `print_list` writes the head and the lines.
 #![tactic(auto)]
 
+ghost use Rattle.std.specs.Prelude.{◌≤◌};
 ghost use Rattle.listing.specs.Listing.{Refused, Headed, Lined};
 
 use printed::LayoutLine;
-
-// The number of standard output.
-const STDOUT_FILENO: i32 = 1;
 
 // The head of the text; the file's number, and H and W, 0 where it is refused; and what was found, nothing where it is refused.
 #[derive(Clone, Copy)]
@@ -88,19 +86,30 @@ pub fn line(buffer: &[u8], height: usize, width: usize, layouts: usize, k: usize
     printed::layout_line(height, width, k as u64 + 1, layout)
 }
 
-// Writes the line of layout k.
-fn print_line(buffer: &[u8], height: usize, width: usize, layouts: usize, k: usize) {
+// Writes the line of layout k. What cannot be written is passed over, here as below.
+fn print_line(
+    rt: &impl Print,
+    buffer: &[u8],
+    height: usize,
+    width: usize,
+    layouts: usize,
+    k: usize,
+) {
     let text = line(buffer, height, width, layouts, k);
-    let bytes = text.bytes;
-    let length = text.length;
-    io::write_all(STDOUT_FILENO, &bytes[..length]);
+    let _ = rt.write_all(&text.bytes[..text.length]);
 }
 
 // Writes the lines of the layouts, in order.
-pub fn print_lines(buffer: &[u8], height: usize, width: usize, layouts: usize) {
-    let mut k = 0;
-    while k < layouts {
-        print_line(buffer, height, width, layouts, k);
-        k += 1;
+fn print_lines(rt: &impl Print, buffer: &[u8], height: usize, width: usize, layouts: usize) {
+    for k in 0..layouts {
+        print_line(rt, buffer, height, width, layouts, k);
     }
+}
+
+// Writes the whole text: the head, and the lines of the layouts that the search left in the buffer.
+pub fn print_list(rt: &impl Print, head: Heading, buffer: &[u8])
+    requires { head.length ≤ 67 }
+{
+    let _ = rt.write_all(&head.bytes[..head.length]);
+    print_lines(rt, buffer, head.height, head.width, head.layouts);
 }

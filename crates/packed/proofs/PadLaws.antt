@@ -1,7 +1,8 @@
 -- Laws of one pad: what each of its bytes does, and what its digits give once all have been passed. Assumes nothing.
 use Rattle.std.specs.Prelude.{if◌then◌else◌}
 use mathlib.Core.Path.{◌≡◌, refl, sym, ap, ◌∙◌}
-use mathlib.Core.Bool.{true, false}
+use mathlib.Core.Bool.{Bool, true, false, ◌&&◌}
+use Rattle.std.specs.List.{list_all}
 use mathlib.Core.List.{List, [], ◌∷◌}
 use Prim.Native.Nat.{ℕ, ◌+◌, ◌*◌, ◌/◌, ◌%◌, ◌^◌, ◌≤◌, ◌<◌}
 use native.Mathlib.Nat.{pow-le-pow_right}
@@ -10,26 +11,18 @@ use native.Mathlib.Omega.{arith}
 use lib.ListN.{length, get_or, drop, drop_of_length-le}
 use lib.Seq.{drop-cons}
 use lib.IntN.{pos, negsuc}
-use lib.Dec.{ltb}
-use borrow.Author.Tests.{lt-ltb, le-ltb, ne_eqb, eq-eqb}
+use lib.Dec.{eqb, ltb}
+use borrow.Author.Tests.{lt-ltb, le-ltb}
 use Rattle.rules.specs.Grid.{largest_code}
 use Rattle.model.specs.GridFile.{blank}
 use Rattle.model.specs.Packed.{PackedPad, cell, refused, half_bytes, all_FF, some_above_9, digits_value, packed_pad}
 
 -- ## A blank pad
 
-module _ (five : List ℕ) (i : ℕ) (inside : i < length five) where
-  pub blank_byte : get_or five i 0 ≡ 255 → all_FF (drop i five) ≡ all_FF (drop (i + 1) five)
-  unfolding all_FF
-  blank_byte e = rw (drop-cons five i 0 inside, eq-eqb _ _ e, add-one i) refl
-
-  pub other_byte : (get_or five i 0 ≡ 255 → ⊥) → all_FF (drop i five) ≡ false
-  unfolding all_FF
-  other_byte n = rw (drop-cons five i 0 inside, ne_eqb _ _ n) refl
-
-pub all_passed : (five : List ℕ) (i : ℕ) → length five ≤ i → all_FF (drop i five) ≡ true
+pub all_are_FF : (five : List ℕ) → list_all (λ (byte : ℕ). eqb byte 255) five ≡ all_FF five
 unfolding all_FF
-all_passed five i h = rw (drop_of_length-le five h) refl
+all_are_FF [] = refl
+all_are_FF (byte ∷ five) = ap (λ (rest : Bool). eqb byte 255 && rest) (all_are_FF five)
 
 pub blank_pad : (five : List ℕ) → all_FF five ≡ true → cell (negsuc 0) ≡ packed_pad five
 unfolding packed_pad blank

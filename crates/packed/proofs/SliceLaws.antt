@@ -17,9 +17,6 @@ use Rattle.model.specs.Bounds.{is_size}
 use Rattle.model.specs.RefusalLaws.{size_of_test}
 use Rattle.model.specs.GridFile.{Reading, blank, no_cells, declined_reading}
 use Rattle.model.specs.Packed.{cell, refused, packed_pad, declined_pad, read_pads, read_sized, read_packed}
-use Rattle.packed.specs.declared.Pad.{Pad}
-use Rattle.packed.specs.declared.Pad.TheVariants.{Cell, Refused}
-use Rattle.packed.specs.Pads.{pad_says, pad_number}
 use Rattle.reading.specs.PadSteps.{two_at_least, height_refused, width_refused, too_short, too_long, whole, pad_read, pad_refused}
 use Rattle.reading.specs.PackedPads.{Packable, packable}
 
@@ -37,20 +34,13 @@ module _ (from : ℕ) (bytes : List ℕ) where
 
 -- ## What a pad's answer tells
 
-module _ {found : Pad} (five : List ℕ) (says : pad_says found ≡ packed_pad five) where
-  pub told_refused : {number n : ℕ} → number ≡ pad_number found → found ≡ Refused n → packed_pad five ≡ refused number
-  told_refused k e = sym says ∙ ap pad_says e ∙ ap refused (sym (k ∙ ap pad_number e))
-
-  pub told_cell : {z : ℤ} → found ≡ Cell z → packed_pad five ≡ cell z
-  told_cell e = sym says ∙ ap pad_says e
-
-  -- the cell fits the array's numbers
-  pub cell_back : {z : ℤ} → found ≡ Cell z → to_z w64 (of_z w64 z) ≡ z
-  cell_back {z} e = to_z-of_z w64 z (go (packable five z (told_cell e)))
-    where
-      go : Packable z → SFits w64 z
-      go (inl k) = rw k (record { sfits = omega arith })
-      go (inr (code, k, below)) = rw k (record { sfits = omega arith })
+-- the cell of a pad fits the array's numbers
+pub cell_back : (five : List ℕ) {z : ℤ} → packed_pad five ≡ cell z → to_z w64 (of_z w64 z) ≡ z
+cell_back five {z} e = to_z-of_z w64 z (go (packable five z e))
+  where
+    go : Packable z → SFits w64 z
+    go (inl k) = rw k (record { sfits = omega arith })
+    go (inr (code, k, below)) = rw k (record { sfits = omega arith })
 
 -- ## The loop over the pads
 

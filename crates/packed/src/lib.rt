@@ -3,84 +3,51 @@
 // `read_packed` of the crate `model`, specs/Packed.antt there.
 #![tactic(auto)]
 
-ghost use Rattle.std.specs.Prelude.{◌≡◌, true, [], ◌+◌, ◌*◌, ◌≤◌, length, drop};
+ghost use Rattle.std.specs.Prelude.{◌≡◌, ◌==◌, true, [], ◌+◌, ◌*◌, ◌≤◌, length, drop};
+ghost use Rattle.std.specs.List.{list_all};
 ghost use Rattle.model.specs.Bounds.{is_size};
-ghost use Rattle.model.specs.Packed.{all_FF, packed_pad, declined_pad, read_pads, read_packed};
+ghost use Rattle.model.specs.Packed.{packed_pad, declined_pad, read_pads, read_packed};
 ghost use Rattle.gridfile.specs.Answers.{reading_says};
-ghost use Rattle.packed.specs.Pads.{pad_says, pad_number};
+ghost use Rattle.packed.specs.Pads.{pad_says};
 
-use gridfile::Reading;
+use gridfile::{Fault, Reading};
 
 // A pad has ten digits, two to a byte; a blank one has this byte five times.
 const PAD_BYTES: usize = 5;
 
 const BLANK_BYTE: u8 = 255;
 
-// What a pad gives: its cell, or the number of its refusal.
-#[derive(Drop)]
-enum Pad {
-    Cell(i64),
-    Refused(u8),
-}
-
-// A byte as a plain number.
-fn wide(byte: u8) -> usize
-    ensures { result ≡ byte }
-{
-    byte as usize
-}
-
 // Whether every byte is that of a blank pad.
 fn all_blank(five: &[u8]) -> bool
-    ensures { result ≡ all_FF five.now }
+    ensures { result ≡ list_all (λ byte. byte == 255) five.now }
 {
-    let mut i = 0;
-    while i < five.len() {
-        if five[i] != BLANK_BYTE {
-            return false;
-        }
-        i += 1;
-    }
-    true
+    five.iter().all(|byte| *byte == BLANK_BYTE)
 }
 
 // What the five bytes of a pad give: of each byte the high half is the first digit.
-fn pad_of(five: &[u8]) -> Pad
+fn pad_of(five: &[u8]) -> Result<i64, Fault>
     requires { length five.now ≤ 5 }
     ensures { pad_says result ≡ packed_pad five.now }
 {
     if all_blank(five) {
-        return Pad::Cell(grid::BLANK);
+        return Ok(grid::BLANK);
     }
     let mut value: usize = 0;
-    let mut i = 0;
-    while i < five.len() {
-        let byte = wide(five[i]);
+    for &byte in five {
         let high = byte / 16;
         let low = byte % 16;
         if high > 9 {
-            return Pad::Refused(17);
+            return Err(Fault::HalfByte);
         }
         if low > 9 {
-            return Pad::Refused(17);
+            return Err(Fault::HalfByte);
         }
-        value = (value * 10 + high) * 10 + low;
-        i += 1;
+        value = (value * 10 + usize::from(high)) * 10 + usize::from(low);
     }
     if value > grid::LARGEST_CODE as usize {
-        return Pad::Refused(3);
+        return Err(Fault::LargeCode);
     }
-    Pad::Cell(value as i64)
-}
-
-// The number of a pad's refusal, 0 for a cell.
-fn pad_number(pad: Pad) -> u8
-    ensures { result ≡ pad_number pad }
-{
-    match pad {
-        Pad::Cell(_) => 0,
-        Pad::Refused(number) => number,
-    }
+    Ok(value as i64)
 }
 
 // A refusal at a pad: the rows begin with line 2, and fields are counted from 1.
@@ -97,17 +64,12 @@ fn read_pads(bytes: &[u8], height: usize, width: usize) -> Reading
     ensures { reading_says result ≡ read_pads height width (height * width) [] (drop 2 bytes.now) }
 {
     let mut cells = gridfile::no_cells();
-    let pads = height * width;
-    let mut index = 0;
-    while index < pads {
+    for index in 0..height * width {
         let from = 2 + index * PAD_BYTES;
-        let end = from + PAD_BYTES;
-        let found = pad_of(&bytes[from..end]);
-        let Pad::Cell(cell) = found else {
-            return declined_pad(pad_number(found), width, index);
-        };
-        cells[index] = cell;
-        index += 1;
+        match pad_of(&bytes[from..from + PAD_BYTES]) {
+            Ok(cell) => cells[index] = cell,
+            Err(fault) => return declined_pad(fault.number(), width, index),
+        }
     }
     Reading {
         number: 0,
@@ -126,8 +88,8 @@ pub fn read_packed(bytes: &[u8]) -> Reading
     if bytes.len() < 2 {
         return gridfile::declined(6, 1, 1);
     }
-    let height = wide(bytes[0]);
-    let width = wide(bytes[1]);
+    let height = usize::from(bytes[0]);
+    let width = usize::from(bytes[1]);
     if !grid::is_size(height) {
         return gridfile::declined(5, 1, 1);
     }

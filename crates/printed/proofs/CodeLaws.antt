@@ -2,20 +2,19 @@
 use Rattle.std.specs.Prelude.{if◌then◌else◌}
 use mathlib.Core.Path.{◌≡◌, refl, ap, ◌∙◌}
 use mathlib.Core.Bool.{Bool, true, false}
-use mathlib.Core.List.{List, [], ◌∷◌, ◌++◌}
+use mathlib.Core.List.{List, [], ◌∷◌, ◌++◌, append_assoc}
 use Prim.Native.Nat.{ℕ, zero, suc, ◌+◌, ◌*◌, ◌-◌, ◌/◌, ◌%◌, ◌≤◌, ◌<◌}
-use native.Mathlib.Nat.{mul-le-mul, add-zero, zero-add, add-suc}
+use native.Mathlib.Nat.{mul-le-mul, add-zero, zero-add}
 use native.Mathlib.Numerals.{add-one}
 use native.Mathlib.Omega.{arith}
-use lib.ListN.{length, get_or, set}
+use lib.ListN.{length, get_or, take, length-append}
+use lib.Seq.{length-take-le}
 use lib.Dec.{eqb, ltb}
 use borrow.Author.Tests.{lt-ltb, le-ltb}
 use Rattle.model.specs.Bounds.{is_size}
 use Rattle.model.specs.RefusalLaws.{size_of_test}
 use Rattle.model.specs.Decimal.{digit_byte}
 use Rattle.model.specs.Printed.{line_at, right_line, down_line, code_of_pad, code_digits_from, code_digits}
-use Rattle.text.specs.Put.{Put}
-use Rattle.text.specs.PutLaws.{put_both, put_one, put_same}
 
 -- ## A place of a record
 
@@ -85,16 +84,20 @@ module _ (height width : ℕ) (h : is_size height ≡ true) (w : is_size width �
   pub all_pads : height * width ≤ 256
   all_pads = mul-le-mul (size_of_test height h).1 (size_of_test width w).1
 
--- ## The loop of `put_codes`
+-- ## The loop of `push_codes`
 
-module _ (height width : ℕ) (layout first out : List ℕ) (at index : ℕ) (p : Put first out at (code_digits_from height width layout index 0) (at + index)) where
-  pub code_put : (code : ℕ) → code ≡ code_of_pad height width layout (index / width) (index % width) → Put first (set out (at + index) (48 + code)) at (code_digits_from height width layout (index + 1) 0) (at + (index + 1))
+-- the codes that are put
+pub codes_taken : (height width : ℕ) (codes : List ℕ) → is_size height ≡ true → is_size width ≡ true → length codes ≡ 256 → length (take (height * width) codes) ≡ height * width
+codes_taken height width codes h w long = length-take-le _ _ (omega (arith, all_pads height width h w))
+
+module _ (height width : ℕ) (layout first line : List ℕ) (index : ℕ) (p : line ≡ first ++ code_digits_from height width layout index 0) where
+  pub pushed_so_far : length line ≡ length first + index
+  pushed_so_far = rw (p, length-append, codes_length height width layout index 0) refl
+
+  pub code_pushed : (code : ℕ) {after : List ℕ} → code ≡ code_of_pad height width layout (index / width) (index % width) → after ≡ line ++ ((48 + code) ∷ []) → after ≡ first ++ code_digits_from height width layout (index + 1) 0
   unfolding digit_byte
-  code_put code e = rw (add-one index, code_after height width layout index 0, zero-add, ← e, add-suc, ← (add-one (at + index))) (put_both p (put_one out (at + index) (48 + code)))
+  code_pushed code e q = rw (q, p, add-one index, code_after height width layout index 0, zero-add, ← e) (append_assoc first _ _)
 
-  pub all_put : index ≤ height * width → height * width ≤ index → Put first out at (code_digits height width layout) (at + index)
+  pub all_pushed : index ≡ height * width → line ≡ first ++ code_digits height width layout
   unfolding code_digits
-  all_put a b = put_same (ap (λ (n : ℕ). code_digits_from height width layout n 0) there) p
-    where
-      there : index ≡ height * width
-      there = omega arith
+  all_pushed there = rw there at p

@@ -20,9 +20,10 @@ use Rattle.rules.proofs.RecordLaws.{edge_number_in_field, edge_at_number, number
 use Rattle.model.specs.Bounds.{is_size}
 use Rattle.model.specs.RefusalLaws.{size_of_test}
 use Rattle.model.specs.Printed.{line_at, right_line, down_line, code_of_pad}
-use Rattle.grid.specs.PadsAt.{pads_of, place_of, IfEdge, edge_beside, edge_above, edge_nowhere, told_place}
+use Rattle.grid.specs.PadsAt.{pads_of, place_of, edge_of, IfEdge, told_place}
 use Rattle.grid.specs.declared.Pads.{Pads}
-use Rattle.grid.specs.declared.Pads.TheVariants.{Beside, Above, NoEdge}
+use Rattle.grid.specs.declared.Pads.TheVariants.{Beside, Above}
+use Rattle.std.specs.Prelude.{Option, Some, None}
 use Rattle.printed.specs.Written.{zeros}
 use Rattle.printed.specs.Coded.{line_place, line_added, CodesOf}
 use Rattle.printed.proofs.CodeLaws.{right_there, no_right, down_there, no_down, code_at_most_3, all_pads}
@@ -181,32 +182,28 @@ module _ (height width : ℕ) (wide : 2 ≤ width) (layout : List ℕ) (i : ℕ)
 -- ## The line at a place, by the tests that the code makes
 
 module _ (width : ℕ) (layout : List ℕ) (i : ℕ) where
-  pub past_the_end : length layout ≤ i → NoEdge ≡ pads_of width (line_place width layout i)
+  pub past_the_end : length layout ≤ i → None ≡ pads_of width (line_place width layout i)
   unfolding line_place pads_of
   past_the_end past = rw (get_or-eq_default layout 0 past, line_place) refl
 
-  pub no_line : (get_or layout i 0 ≡ 1 → ⊥) → NoEdge ≡ pads_of width (line_place width layout i)
+  pub no_line : (get_or layout i 0 ≡ 1 → ⊥) → None ≡ pads_of width (line_place width layout i)
   unfolding line_place pads_of
   no_line other = rw (ne_eqb (get_or layout i 0) 1 other, line_place) refl
 
-  pub a_line : get_or layout i 0 ≡ 1 → {there : Pads} → there ≡ pads_of width (place_at width (i / field_side width) (i % field_side width)) → there ≡ pads_of width (line_place width layout i)
+  pub a_line : get_or layout i 0 ≡ 1 → {there : Option Pads} → there ≡ pads_of width (place_at width (i / field_side width) (i % field_side width)) → there ≡ pads_of width (line_place width layout i)
   unfolding line_place
   a_line is are = are ∙ rw (eq-eqb (get_or layout i 0) 1 is, line_place) refl
 
 -- ## A line added to the code of its first pad
 
 module _ (pads : Pads) (codes : List ℕ) where
-  pub beside_added : {a b : ℕ} → pads ≡ Beside a b → set codes a (get_or codes a 0 + 1) ≡ line_added (place_of pads) codes
-  unfolding line_added
-  beside_added are = rw (edge_beside pads are) refl
+  pub beside_added : {a b : ℕ} → pads ≡ Beside a b → set codes a (get_or codes a 0 + 1) ≡ line_added (edge (edge_of pads)) codes
+  unfolding line_added edge_of
+  beside_added are = rw are refl
 
-  pub above_added : {a b : ℕ} → pads ≡ Above a b → set codes a (get_or codes a 0 + 2) ≡ line_added (place_of pads) codes
-  unfolding line_added
-  above_added are = rw (edge_above pads are) refl
-
-  pub nothing_added : pads ≡ NoEdge → codes ≡ line_added (place_of pads) codes
-  unfolding line_added
-  nothing_added none = rw (edge_nowhere pads none) refl
+  pub above_added : {a b : ℕ} → pads ≡ Above a b → set codes a (get_or codes a 0 + 2) ≡ line_added (edge (edge_of pads)) codes
+  unfolding line_added edge_of
+  above_added are = rw are refl
 
 -- ## The loop of `codes_of`
 
@@ -220,9 +217,9 @@ module _ (height width : ℕ) (h : is_size height ≡ true) (w : is_size width �
       let row : i / field_side width < field_side height = (div-lt_iff_lt-mul side).1 inside in
       omega (arith, (size_of_test height h).1)
 
-  pub first_small : (i : ℕ) → i < places height width → {there : Pads} → there ≡ pads_of width (line_place width layout i) → IfEdge (place_of there) (λ e. first e < 256)
-  first_small i inside are e is =
-      omega (arith, line_inside height width wide layout i inside e (sym (told_place width (line_place width layout i) are) ∙ is), all_pads height width h w)
+  pub first_small : (i : ℕ) → i < places height width → {pads : Pads} → Some pads ≡ pads_of width (line_place width layout i) → first (edge_of pads) < 256
+  unfolding place_of
+  first_small i inside {pads} are = omega (arith, line_inside height width wide layout i inside (edge_of pads) (sym (told_place width (line_place width layout i) are)), all_pads height width h w)
 
   pub none_added : {codes : List ℕ} → codes ≡ zeros 256 → CodesOf height width (take 0 layout) codes
   unfolding code_of_pad right_line down_line line_at
@@ -243,8 +240,8 @@ module _ (height width : ℕ) (h : is_size height ≡ true) (w : is_size width �
       either false true = refl
       either false false = refl
 
-  pub one_added : (i : ℕ) {codes after : List ℕ} → i < places height width → CodesOf height width (take i layout) codes
-      → {there : Pads} → there ≡ pads_of width (line_place width layout i) → after ≡ line_added (place_of there) codes → CodesOf height width (take (i + 1) layout) after
+  one_added : (i : ℕ) {codes after : List ℕ} → i < places height width → CodesOf height width (take i layout) codes
+      → {there : Option Pads} → there ≡ pads_of width (line_place width layout i) → after ≡ line_added (place_of there) codes → CodesOf height width (take (i + 1) layout) after
   one_added i {codes} inside so_far are is = rw (is, told_place width (line_place width layout i) are) (record {
     each = λ v below. grown v ∙ rw (so_far.each v below) (sym (code_grows height width wide layout i inside v below));
     are = record { small = small; long = same_long (line_place width layout i) codes ∙ so_far.are.long };
@@ -263,6 +260,17 @@ module _ (height width : ℕ) (h : is_size height ≡ true) (w : is_size width �
             let d = here_other (down v) (line_place width layout i) (λ there. past (line_inside height width wide layout i inside (down v) there)) in
             omega (arith, grown v, so_far.are.small v)
       ]
+
+  -- the line of these pads is added, or there is none
+  pub line_taken : (i : ℕ) {codes after : List ℕ} → i < places height width → CodesOf height width (take i layout) codes
+      → {pads : Pads} → Some pads ≡ pads_of width (line_place width layout i) → after ≡ line_added (edge (edge_of pads)) codes → CodesOf height width (take (i + 1) layout) after
+  unfolding place_of
+  line_taken i inside so_far are is = one_added i inside so_far are is
+
+  pub no_line_taken : (i : ℕ) {codes : List ℕ} → i < places height width → CodesOf height width (take i layout) codes
+      → None ≡ pads_of width (line_place width layout i) → CodesOf height width (take (i + 1) layout) codes
+  unfolding place_of line_added
+  no_line_taken i inside so_far are = one_added i inside so_far are refl
 
   pub all_added : (i : ℕ) {codes : List ℕ} → i ≡ places height width → CodesOf height width (take i layout) codes → CodesOf height width layout codes
   unfolding code_of_pad

@@ -2,8 +2,9 @@
 use mathlib.Core.Path.{◌≡◌}
 use mathlib.Core.Bool.{true, false}
 use mathlib.Core.List.{List, [], ◌∷◌, ◌++◌, append_assoc}
-use Prim.Native.Nat.{ℕ, ◌*◌, ◌≤◌}
-use lib.ListN.{length}
+use Prim.Native.Nat.{ℕ, ◌+◌, ◌*◌, ◌≤◌}
+use native.Mathlib.Omega.{arith}
+use lib.ListN.{length, length-append}
 use Rattle.model.specs.Bounds.{is_size}
 use Rattle.model.specs.Text.{bytes, comma, line_end}
 use Rattle.rules.specs.Record.{record_lines}
@@ -43,3 +44,11 @@ module _ (height width number : ℕ) (layout : List ℕ) where
   pub no_width : is_size height ≡ true → is_size width ≡ false → layout_text height width number layout ≡ []
   unfolding layout_text
   no_width h w = simp (h, w)
+
+-- ## How long a line is that is made part by part
+
+pub none_yet : {line : List ℕ} → line ≡ [] → length line ≤ 0
+none_yet e = rw e (omega arith)
+
+pub longer : {line : List ℕ} (before part : List ℕ) (most more : ℕ) → line ≡ before ++ part → length before ≤ most → length part ≤ more → length line ≤ most + more
+longer before part most more e b p = rw (e, length-append) (omega arith)

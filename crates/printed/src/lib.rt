@@ -1,19 +1,19 @@
 // Writing what `routes` prints: the line that begins it, which is the summary line or the line of a refused file, and a layout's line; and what
-// `routes_to` says of a run; each into an array that the longest such line fits. What the lines say is in the crate `model`,
+// `routes_to` says of a run; each as a line of an array that the longest such line fits. What the lines say is in the crate `model`,
 // specs/Printed.antt and specs/RoutesTo.antt there.
 #![tactic(auto)]
 
-ghost use Rattle.std.specs.Prelude.{◌≡◌, true, ◌+◌, ◌*◌, ◌-◌, ◌/◌, ◌≤◌, ◌<◌, length};
-ghost use Rattle.rules.specs.Grid.{first, field_side};
+ghost use Rattle.std.specs.Prelude.{◌≡◌, true, ◌++◌, ◌+◌, ◌*◌, ◌-◌, ◌/◌, ◌≤◌, ◌<◌, length};
+ghost use Rattle.rules.specs.Grid.{first, edge, field_side};
 ghost use Rattle.model.specs.Bounds.{is_size};
 ghost use Rattle.model.specs.Printed.{code_digits, summary_line, refusal_line};
 ghost use Rattle.model.specs.RoutesTo.{progress_line};
-ghost use Rattle.grid.specs.PadsAt.{pads_of, place_of, IfEdge};
-ghost use Rattle.text.specs.Put.{Put};
+ghost use Rattle.grid.specs.PadsAt.{pads_of, edge_of};
 ghost use Rattle.printed.specs.Coded.{line_place, line_added, Codes, CodesOf};
-ghost use Rattle.printed.specs.Written.{zeros, Written, layout_text};
+ghost use Rattle.printed.specs.Written.{layout_text};
 
 use grid::{Edge, Pads};
+use text::Line;
 
 const ZERO: u8 = 48;
 
@@ -23,38 +23,30 @@ const LINE_END: u8 = 10;
 
 // The line that begins a printed text, or is all of it. The summary line is the longest: three numbers of up to 20 digits and one of up to 3,
 // each with the byte after it.
-#[derive(Clone, Copy)]
-pub struct HeadLine {
-    pub bytes: [u8; 67],
-    pub length: usize,
-}
+pub type HeadLine = Line<67>;
 
 // Two numbers of up to 20 digits, 256 codes, and the bytes after them.
-#[derive(Clone, Copy)]
-pub struct LayoutLine {
-    pub bytes: [u8; 299],
-    pub length: usize,
-}
+pub type LayoutLine = Line<299>;
 
 // The pads of the line at a place of a layout, by the place's number; none where there is no line.
-fn line_at(layout: &[u8], width: usize, i: usize) -> Pads
+fn line_at(layout: &[u8], width: usize, i: usize) -> Option<Pads>
     requires { (is_size width ≡ true) × (i / field_side width < 31) }
     ensures { result ≡ pads_of width (line_place width layout.now i) }
 {
     if layout.len() <= i {
-        return Pads::NoEdge;
+        return None;
     }
     if layout[i] == Edge::LINE.0 {
         let side = 2 * width - 1;
         return grid::pads_at(width, i / side, i % side);
     }
-    Pads::NoEdge
+    None
 }
 
 // Adds a line to the code of its first pad: 1 for a line to the right, 2 for one downward.
 fn add_line(codes: &mut [u8; 256], pads: Pads)
-    requires { IfEdge (place_of pads) (λ e. first e < 256) × Codes codes.old }
-    ensures { codes.new ≡ line_added (place_of pads) codes.old }
+    requires { (first (edge_of pads) < 256) × Codes codes.old }
+    ensures { codes.new ≡ line_added (edge (edge_of pads)) codes.old }
 {
     match pads {
         Pads::Beside(first, _) => {
@@ -63,14 +55,7 @@ fn add_line(codes: &mut [u8; 256], pads: Pads)
         Pads::Above(first, _) => {
             codes[first] += 2;
         }
-        Pads::NoEdge => {}
     }
-}
-
-fn no_codes() -> [u8; 256]
-    ensures { result ≡ zeros 256 }
-{
-    [0; 256]
 }
 
 // The codes of the pads by their indexes, right + 2 * down: each line of the layout is added to the code of its first pad.
@@ -79,79 +64,73 @@ fn codes_of(height: usize, width: usize, layout: &[u8]) -> [u8; 256]
     ensures { CodesOf height width layout.now result }
 {
     let places = (2 * height - 1) * (2 * width - 1);
-    let mut codes = no_codes();
-    let mut i = 0;
-    while i < places {
-        add_line(&mut codes, line_at(layout, width, i));
-        i += 1;
+    let mut codes = [0; 256];
+    for i in 0..places {
+        if let Some(pads) = line_at(layout, width, i) {
+            add_line(&mut codes, pads);
+        }
     }
     codes
 }
 
-// The codes of the pads in index order, one digit each, from a place on; the place after them.
-fn put_codes(out: &mut [u8], at: usize, height: usize, width: usize, layout: &[u8]) -> usize
-    requires { (is_size height ≡ true) × (is_size width ≡ true) × (at + height * width ≤ length out.old) }
-    ensures { Put out.old out.new at (code_digits height width layout.now) result }
+// The codes of the pads in index order, one digit each, behind what the line holds.
+fn push_codes(line: &mut LayoutLine, height: usize, width: usize, layout: &[u8])
+    requires { (is_size height ≡ true) × (is_size width ≡ true) × (length line.old + height * width ≤ 299) }
+    ensures { line.new ≡ line.old ++ code_digits height width layout.now }
 {
     let codes = codes_of(height, width, layout);
-    let mut index = 0;
-    while index < height * width {
-        out[at + index] = ZERO + codes[index];
-        index += 1;
+    for &code in &codes[..height * width] {
+        line.push_byte(ZERO + code);
     }
-    at + index
 }
 
 // Layouts, visited, fewest, outcome.
 pub fn summary_line(layouts: u64, visited: u64, fewest: u64, outcome: u8) -> HeadLine
-    ensures { Written 67 (summary_line layouts visited fewest outcome) result.bytes result.length }
+    ensures { result ≡ summary_line layouts visited fewest outcome }
 {
-    let mut bytes = [0; 67];
-    let first = text::put_field(&mut bytes, 0, layouts, COMMA);
-    let second = text::put_field(&mut bytes, first, visited, COMMA);
-    let third = text::put_field(&mut bytes, second, fewest, COMMA);
-    let length = text::put_field(&mut bytes, third, outcome as u64, LINE_END);
-    HeadLine { bytes, length }
+    let mut line = Line::new();
+    line.push_field(layouts, COMMA);
+    line.push_field(visited, COMMA);
+    line.push_field(fewest, COMMA);
+    line.push_field(u64::from(outcome), LINE_END);
+    line
 }
 
 // The word, number, line, field.
 pub fn refusal_line(number: u8, line: u64, field: u64) -> HeadLine
-    ensures { Written 67 (refusal_line number line field) result.bytes result.length }
+    ensures { result ≡ refusal_line number line field }
 {
-    let mut bytes = [0; 67];
-    let first = text::put_word(&mut bytes, 0, b"refused,");
-    let second = text::put_field(&mut bytes, first, number as u64, COMMA);
-    let third = text::put_field(&mut bytes, second, line, COMMA);
-    let length = text::put_field(&mut bytes, third, field, LINE_END);
-    HeadLine { bytes, length }
+    let mut head = Line::new();
+    head.push_word(b"refused,");
+    head.push_field(u64::from(number), COMMA);
+    head.push_field(line, COMMA);
+    head.push_field(field, LINE_END);
+    head
 }
 
 // What is said of a run: the boards that it has visited, and the layouts found.
 pub fn progress_line(visited: u64, layouts: u64) -> HeadLine
-    ensures { Written 67 (progress_line visited layouts) result.bytes result.length }
+    ensures { result ≡ progress_line visited layouts }
 {
-    let mut bytes = [0; 67];
-    let first = text::put_word(&mut bytes, 0, b"visited ");
-    let second = text::put_decimal(&mut bytes, first, visited);
-    let third = text::put_word(&mut bytes, second, b" boards, layouts ");
-    let length = text::put_field(&mut bytes, third, layouts, LINE_END);
-    HeadLine { bytes, length }
+    let mut line = Line::new();
+    line.push_word(b"visited ");
+    line.push_decimal(visited);
+    line.push_word(b" boards, layouts ");
+    line.push_field(layouts, LINE_END);
+    line
 }
 
 // A layout's number from 1, its lines, its codes; nothing where H or W is out of bounds.
 pub fn layout_line(height: usize, width: usize, number: u64, layout: &[u8]) -> LayoutLine
-    ensures { Written 299 (layout_text height width number layout.now) result.bytes result.length }
+    ensures { result ≡ layout_text height width number layout.now }
 {
-    let mut bytes = [0; 299];
-    if !grid::is_size(height) {
-        return LayoutLine { bytes, length: 0 };
+    let mut line = Line::new();
+    if !grid::is_size(height) || !grid::is_size(width) {
+        return line;
     }
-    if !grid::is_size(width) {
-        return LayoutLine { bytes, length: 0 };
-    }
-    let first = text::put_field(&mut bytes, 0, number, COMMA);
-    let second = text::put_field(&mut bytes, first, records::lines(layout) as u64, COMMA);
-    let third = put_codes(&mut bytes, second, height, width, layout);
-    let length = text::put_byte(&mut bytes, third, LINE_END);
-    LayoutLine { bytes, length }
+    line.push_field(number, COMMA);
+    line.push_field(records::lines(layout) as u64, COMMA);
+    push_codes(&mut line, height, width, layout);
+    line.push_byte(LINE_END);
+    line
 }

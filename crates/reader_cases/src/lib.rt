@@ -4,14 +4,11 @@
 // the pads among them.
 #![tactic(auto)]
 
-ghost use Rattle.std.specs.Prelude.{◌≤◌, ◌<◌, length};
+ghost use Rattle.std.specs.Prelude.{IfSome, ◌<◌, length};
 ghost use Rattle.reading.specs.ReadingLaws.{SoundReading};
 ghost use Rattle.gridfile.specs.Answers.{reading_says};
 
 use gridfile::Reading;
-
-// The number of standard output.
-const STDOUT_FILENO: i32 = 1;
 
 // Which reader is asked: that of grid files, or that of packed decimal.
 #[derive(Clone, Copy)]
@@ -20,35 +17,25 @@ pub enum Reader {
     Packed,
 }
 
-fn wide(byte: u8) -> usize
-    ensures { result < 256 }
-{
-    byte as usize
-}
-
-fn print_refusal(number: u8, line: usize, field: usize) {
+// The line of a refused slice. What cannot be written is passed over, here as below.
+fn print_refusal(rt: &impl Print, number: u8, line: usize, field: usize) {
     let text = printed::refusal_line(number, line as u64, field as u64);
-    let bytes = text.bytes;
-    let length = text.length;
-    io::write_all(STDOUT_FILENO, &bytes[..length]);
+    let _ = rt.write_all(&text.bytes[..text.length]);
 }
 
 // The grid of an accepted slice, as it is written back.
-fn print_grid(height: usize, width: usize, cells: &[i64]) {
+fn print_grid(rt: &impl Print, height: usize, width: usize, cells: &[i64]) {
     let mut text = [0; gridfile::LONGEST_TEXT];
     let writing = gridfile::write(height, width, cells, &mut text);
-    let length = writing.length;
-    io::write_all(STDOUT_FILENO, &text[..length]);
+    let _ = rt.write_all(&text[..writing.length]);
 }
 
 // A line for each cell past the pads that is not blank.
-fn print_past(cells: &[i64], pads: usize) {
-    let mut index = pads;
-    while index < cells.len() {
-        if cells[index] != grid::BLANK {
-            io::write_all(STDOUT_FILENO, b"past\n");
+fn print_past(rt: &impl Print, cells: &[i64], pads: usize) {
+    for cell in cells.iter().skip(pads) {
+        if *cell != grid::BLANK {
+            let _ = println!(rt; "past");
         }
-        index += 1;
     }
 }
 
@@ -62,40 +49,31 @@ fn ask(bytes: &[u8], reader: Reader) -> Reading
     }
 }
 
-fn print_answer(bytes: &[u8], reader: Reader) {
+fn print_answer(rt: &impl Print, bytes: &[u8], reader: Reader) {
     let reading = ask(bytes, reader);
     if reading.number != 0 {
-        print_refusal(reading.number, reading.line, reading.field);
+        print_refusal(rt, reading.number, reading.line, reading.field);
         return;
     }
     let cells = reading.cells;
     let pads = reading.height * reading.width;
-    print_grid(reading.height, reading.width, &cells[..pads]);
-    print_past(&cells, pads);
+    print_grid(rt, reading.height, reading.width, &cells[..pads]);
+    print_past(rt, &cells, pads);
 }
 
-// The case at a place; the place after it, or the end where the input stops short.
-fn run_case(input: &[u8], at: usize, reader: Reader) -> usize
-    requires { at < length input.now }
-    ensures { (at < result) × (result ≤ length input.now) }
+// The first case of an input and what comes after it; none where the input stops short.
+fn split_case(input: &[u8]) -> Option<(&[u8], &[u8])>
+    ensures { IfSome result (λ (case, rest). length rest.now < length input.now) }
 {
-    if input.len() - at < 2 {
-        return input.len();
-    }
-    let long = wide(input[at]) * 256 + wide(input[at + 1]);
-    let start = at + 2;
-    if input.len() - start < long {
-        return input.len();
-    }
-    let end = start + long;
-    print_answer(&input[start..end], reader);
-    end
+    let (long, rest) = input.split_first_chunk::<2>()?;
+    rest.split_at_checked(usize::from(u16::from_be_bytes(*long)))
 }
 
 // Every case of the input, in order.
-pub fn run_all(input: &[u8], reader: Reader) {
-    let mut at = 0;
-    while at < input.len() {
-        at = run_case(input, at, reader);
+pub fn run_all(rt: &impl Print, input: &[u8], reader: Reader) {
+    let mut rest = input;
+    while let Some((case, after)) = split_case(rest) {
+        print_answer(rt, case, reader);
+        rest = after;
     }
 }

@@ -1,14 +1,16 @@
--- Laws of records: their length, whether record k is there, their lines counted from the end, and the shorter of two.
+-- Laws of records: their length, whether record k is there, their lines, and the shorter of two.
 -- Assumes nothing.
-use mathlib.Core.Path.{◌≡◌, refl, sym, ap, ◌∙◌}
-use mathlib.Core.Bool.{Bool, true, false}
-use mathlib.Core.List.{List, [], ◌∷◌}
+use mathlib.Core.Path.{◌≡◌, refl, sym, ◌∙◌}
+use mathlib.Core.Bool.{Bool, true, false, cond}
+use mathlib.Core.List.{List, []}
 use Prim.Native.Nat.{ℕ, suc, ◌+◌, ◌*◌, ◌-◌, ◌/◌, ◌≤◌, ◌<◌}
 use native.Mathlib.Nat.{mul-le-mul_right, le-div_iff_mul-le, lt-div-mul-add, add-sub_cancel_left}
 use native.Mathlib.Omega.{arith}
-use lib.ListN.{length, get_or, take, drop}
-use lib.Seq.{drop-cons, drop-length}
-use lib.Dec.{ltb, leb}
+use lib.ListN.{length, take, drop}
+use lib.Dec.{eqb, ltb, leb}
+use Rattle.std.specs.Prelude.{count_by}
+use Rattle.std.proofs.lemmas.List.Recursion.{is_count_by}
+use Rattle.rules.specs.Drawing.{num}
 use borrow.Author.Tests.{ltb-true, ltb-false, lt-ltb, le-ltb, le-leb, lt-leb, eq-eqb, ne_eqb}
 use Rattle.model.specs.Bounds.{is_size}
 use Rattle.model.specs.RefusalLaws.{size_of_test}
@@ -72,32 +74,15 @@ module _ (height width count k : ℕ) (buffer : List ℕ) where
   unfolding record_at
   that_part e long l = simp (e, ← l, add-sub_cancel_left)
 
--- ## Lines, counted from the end
+-- ## Lines
 
-module _ (layout : List ℕ) (i : ℕ) (some : 0 < i) (inside : i ≤ length layout) where
-  last_byte : drop (i - 1) layout ≡ get_or layout (i - 1) 0 ∷ drop i layout
-  last_byte = drop-cons layout (i - 1) 0 (omega arith) ∙ ap (λ (n : ℕ). get_or layout (i - 1) 0 ∷ drop n layout) back
-    where
-      back : suc (i - 1) ≡ i
-      back = omega arith
-
-  pub one_more : get_or layout (i - 1) 0 ≡ 1 → record_lines (drop i layout) + 1 ≡ record_lines (drop (i - 1) layout)
-  unfolding record_lines
-  one_more e = rw (last_byte, eq-eqb _ _ e) (omega arith)
-
-  pub no_more : (get_or layout (i - 1) 0 ≡ 1 → ⊥) → record_lines (drop i layout) ≡ record_lines (drop (i - 1) layout)
-  unfolding record_lines
-  no_more e = rw (last_byte, ne_eqb _ _ e) (omega arith)
-
-pub none_counted : (layout : List ℕ) → 0 ≡ record_lines (drop (length layout) layout)
+pub lines_counted : (layout : List ℕ) → record_lines layout ≡ count_by (λ (byte : ℕ). eqb byte 1) layout
 unfolding record_lines
-none_counted layout = rw drop-length refl
-
-pub all_counted : (layout : List ℕ) (i : ℕ) → i ≤ 0 → record_lines (drop i layout) ≡ record_lines layout
-all_counted layout i h = ap (λ (n : ℕ). record_lines (drop n layout)) at_first
+lines_counted = is_count_by record_lines (λ (byte : ℕ). eqb byte 1) refl (λ byte layout. go (eqb byte 1) (record_lines layout))
   where
-    at_first : i ≡ 0
-    at_first = omega arith
+    go : (line : Bool) (n : ℕ) → num line + n ≡ cond line (1 + n) n
+    go true n = refl
+    go false n = omega arith
 
 -- ## The shorter of two
 

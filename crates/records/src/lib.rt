@@ -50,15 +50,7 @@ pub fn record_at(height: usize, width: usize, count: usize, k: usize, buffer: &[
 pub fn lines(layout: &[u8]) -> usize
     ensures { result ≡ record_lines layout.now }
 {
-    let mut found: usize = 0;
-    let mut i = layout.len();
-    while 0 < i {
-        i -= 1;
-        if layout[i] == Edge::LINE.0 {
-            found += 1;
-        }
-    }
-    found
+    layout.iter().filter(|byte| **byte == Edge::LINE.0).count()
 }
 
 // The one of two records with fewer lines, on a tie the first; an empty part if the lengths differ or are 0.

@@ -6,29 +6,23 @@
 ghost use Rattle.std.specs.Prelude.{◌≡◌, ◌≤◌, length};
 ghost use Rattle.model.specs.Routes.{routes_limit, routes_room};
 
-// The number of standard input.
-const STDIN_FILENO: i32 = 0;
-
-// The number of standard output.
-const STDOUT_FILENO: i32 = 1;
+use std::os::fd::AsRawFd;
 
 // The limit of visited boards.
 const LIMIT: u64 = 1000000;
 
 // The whole text for a file of at most 4,096 bytes, with an answer buffer of 61,504 bytes lent: the head, then the lines.
-fn print_list(file: &[u8], limit: u64, buffer: &mut [u8])
+fn print_list(rt: &impl Print, file: &[u8], limit: u64, buffer: &mut [u8])
     requires { (length file.now ≤ 4096) × (limit ≡ routes_limit) × (length buffer.old ≡ routes_room) }
 {
     let head = listing::head(file, limit, buffer);
-    let bytes = head.bytes;
-    let length = head.length;
-    io::write_all(STDOUT_FILENO, &bytes[..length]);
-    listing::print_lines(buffer, head.height, head.width, head.layouts);
+    listing::print_list(rt, head, buffer);
 }
 
-fn main() {
+fn main(rt: HostRuntime) {
     let mut input = io::buffer();
-    let n = io::read_full(STDIN_FILENO, &mut input);
+    // By the kit's io: std fills an array only by read_exact, which fails where the input ends before it.
+    let n = io::read_full(rt.stdin().as_raw_fd(), &mut input);
     let mut buffer = [0u8; 61504];
-    print_list(&input[..n], LIMIT, &mut buffer);
+    print_list(&rt, &input[..n], LIMIT, &mut buffer);
 }

@@ -8,56 +8,47 @@
 ghost use Rattle.std.specs.Prelude.{◌≡◌, ◌≤◌, length};
 ghost use Rattle.model.specs.RoutesTo.{routes_to_room};
 
-use growing::Limit;
-
-// The number of standard input.
-const STDIN_FILENO: i32 = 0;
-
-// The number of standard output.
-const STDOUT_FILENO: i32 = 1;
+use std::os::fd::AsRawFd;
 
 // The whole text for a file of at most 4,096 bytes, with an answer buffer of 3,936,256 bytes lent: the head, then the lines.
-fn print_list(file: &[u8], limit: u64, buffer: &mut [u8])
+fn print_list(rt: &HostRuntime, file: &[u8], limit: u64, buffer: &mut [u8])
     requires { (length file.now ≤ 4096) × (length buffer.old ≡ routes_to_room) }
 {
-    let head = growing::head(file, limit, buffer);
-    let bytes = head.bytes;
-    let length = head.length;
-    io::write_all(STDOUT_FILENO, &bytes[..length]);
-    listing::print_lines(buffer, head.height, head.width, head.layouts);
+    let head = growing::head(&rt.stderr(), file, limit, buffer);
+    listing::print_list(rt, head, buffer);
 }
 
 // The same, and lends that buffer.
-fn list_file(file: &[u8], limit: u64)
+fn list_file(rt: &HostRuntime, file: &[u8], limit: u64)
     requires { length file.now ≤ 4096 }
 {
     let mut buffer = [0u8; 3936256];
-    print_list(file, limit, &mut buffer);
+    print_list(rt, file, limit, &mut buffer);
 }
 
 // Reads standard input, and prints the text for it.
-fn list_input(limit: u64) {
+fn list_input(rt: &HostRuntime, limit: u64) {
     let mut input = io::buffer();
-    let n = io::read_full(STDIN_FILENO, &mut input);
-    list_file(&input[..n], limit);
+    // By the kit's io: std fills an array only by read_exact, which fails where the input ends before it.
+    let n = io::read_full(rt.stdin().as_raw_fd(), &mut input);
+    list_file(rt, &input[..n], limit);
 }
 
 // Prints that the argument is no limit.
-fn refuse() {
-    let line = growing::limit_line();
-    io::write_all(STDOUT_FILENO, &line);
+fn refuse(rt: &impl Print) {
+    let _ = rt.write_all(&growing::limit_line());
 }
 
 // With one argument beside the program's own name that is a limit it lists; an argument that is longer than the buffer is handed over as empty.
 fn main(rt: HostRuntime) {
     let mut argument = io::buffer();
     let Some(m) = arguments::only_argument(&rt, &mut argument) else {
-        refuse();
+        refuse(&rt);
         return;
     };
-    let Limit::Boards(limit) = growing::limit_of(&argument[..m]) else {
-        refuse();
+    let Some(limit) = growing::limit_of(&argument[..m]) else {
+        refuse(&rt);
         return;
     };
-    list_input(limit);
+    list_input(&rt, limit);
 }

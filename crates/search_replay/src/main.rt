@@ -3,7 +3,8 @@
 // only that this program is safe and ends.
 #![tactic(auto)]
 
-use stream::{byte_at, cells_at, later, number_at, taken_bytes};
+use std::os::fd::AsRawFd;
+use stream::{byte_at, cells_at, later, number_at, replay_all, taken_bytes};
 
 // No stream is longer.
 const LONGEST: usize = 65536;
@@ -14,56 +15,58 @@ const LARGEST_ROOM: usize = 61504;
 // The byte that fills the room before a run.
 const FILL: u8 = 7;
 
-fn fill(room: &mut [u8]) {
-    let mut i = 0;
-    while i < room.len() {
-        room[i] = FILL;
-        i += 1;
-    }
-}
-
-// A number and the byte after it.
-fn print(number: u64, after: u8) {
-    io::print_decimal(1, number);
-    io::write_all(1, &[after]);
-}
-
 // One run: the grid's number, outcome, layouts, visited, fewest, and the checksum of the whole room.
-fn print_run(grid: u64, height: usize, width: usize, cells: &[i64], limit: u64, room: &mut [u8]) {
-    fill(room);
+fn print_run(
+    rt: &impl Print,
+    grid: u64,
+    height: usize,
+    width: usize,
+    cells: &[i64],
+    limit: u64,
+    room: &mut [u8],
+) {
+    room.fill(FILL);
     let solved = solver::solve(height, width, cells, limit, room);
-    print(grid, b',');
-    print(solved.outcome as u64, b',');
-    print(solved.layouts as u64, b',');
-    print(solved.visited, b',');
-    print(solved.fewest as u64, b',');
-    print(taken_bytes(1, room), b'\n');
+    let outcome = solved.outcome;
+    let layouts = solved.layouts;
+    let visited = solved.visited;
+    let fewest = solved.fewest;
+    let sum = taken_bytes(1, room);
+    let _ = println!(rt; "{grid},{outcome},{layouts},{visited},{fewest},{sum}");
 }
 
 // One run of the stream: the limit in eight bytes, the room in four.
-fn run_at(stream: &[u8], place: usize, grid: u64, height: usize, width: usize, cells: &[i64]) {
+fn run_at(
+    rt: &impl Print,
+    stream: &[u8],
+    place: usize,
+    grid: u64,
+    height: usize,
+    width: usize,
+    cells: &[i64],
+) {
     let limit = number_at(stream, place, 8);
     let bytes = number_at(stream, later(place, 8), 4) as usize;
     let mut buffer = io::large_buffer();
     if bytes <= LARGEST_ROOM {
-        print_run(grid, height, width, cells, limit, &mut buffer[..bytes]);
+        print_run(rt, grid, height, width, cells, limit, &mut buffer[..bytes]);
     }
 }
 
 // All runs of one grid; the place after them.
-fn runs_at(stream: &[u8], place: usize, grid: u64) -> usize {
-    let height = byte_at(stream, place) as usize;
-    let width = byte_at(stream, later(place, 1)) as usize;
+fn runs_at(rt: &impl Print, stream: &[u8], place: usize, grid: u64) -> usize {
+    let height = usize::from(byte_at(stream, place));
+    let width = usize::from(byte_at(stream, later(place, 1)));
     let count = height * width;
     if count > 256 {
         return LONGEST;
     }
     let cells = cells_at(stream, later(place, 2), count);
     let runs = later(place, 2 + count);
-    let total = byte_at(stream, runs) as usize;
-    let mut run = 0;
-    while run < total {
+    let total = usize::from(byte_at(stream, runs));
+    for run in 0..total {
         run_at(
+            rt,
             stream,
             later(runs, 1 + 12 * run),
             grid,
@@ -71,19 +74,14 @@ fn runs_at(stream: &[u8], place: usize, grid: u64) -> usize {
             width,
             &cells[..count],
         );
-        run += 1;
     }
     later(runs, 1 + 12 * total)
 }
 
-fn main() {
+fn main(rt: HostRuntime) {
     let mut buffer = io::large_buffer();
-    let length = io::read_full(0, &mut buffer);
+    // By the kit's io: std fills an array only by read_exact, which fails where the input ends before it.
+    let length = io::read_full(rt.stdin().as_raw_fd(), &mut buffer);
     let stream = &buffer[..length];
-    let mut place = 0;
-    let mut grid = 1;
-    while grid < 100000 && place < length {
-        place = runs_at(stream, place, grid);
-        grid += 1;
-    }
+    replay_all(length, |place, grid| runs_at(&rt, stream, place, grid));
 }

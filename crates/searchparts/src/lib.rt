@@ -8,10 +8,11 @@ ghost use Rattle.rules.specs.Drawing.{num};
 ghost use Rattle.model.specs.Runs.{layout};
 ghost use Rattle.boardview.specs.View.{grid_in, Kinds, has_bit, clue_bit};
 ghost use Rattle.boardview.specs.ShownRecord.{edges_only, record_shown};
-ghost use Rattle.runs.specs.Layouts.{Added};
+ghost use Rattle.tally.specs.Counts.{AddedTo};
 ghost use Rattle.searchview.specs.Shown.{EdgesReady, is_tried, last_row, NextPad};
 
 use grid::Edge;
+use tally::{Stop, Tally};
 
 // The bytes of an edge's states, as the edge type names them.
 const UNDECIDED: u8 = Edge::UNDECIDED.0;
@@ -65,14 +66,12 @@ pub fn next_pad(edges: &[u8; 1024], last: usize, from: usize) -> usize
     requires { (from ≤ last) × (last ≤ 256) × (length edges.now ≡ 1024) }
     ensures { NextPad edges.now last from result }
 {
-    let mut v = from;
-    while v < last {
+    for v in from..last {
         if edges[32 + 2 * v] == UNDECIDED {
             return v;
         }
-        v += 1;
     }
-    v
+    last
 }
 
 // A layout is complete: its record is put into the buffer and counted, or the buffer is full.
@@ -80,22 +79,15 @@ pub fn add_layout(
     edges: &[u8; 1024],
     kind: &[u8; 1024],
     buffer: &mut [u8],
-    layouts: &mut usize,
-    fewest: &mut usize,
-) -> u8
+    tally: &mut Tally,
+) -> Result<(), Stop>
     requires { Kinds kind.now × EdgesReady (grid_in kind.now) edges.now
-        × (layouts.old * places (grid_in kind.now).height (grid_in kind.now).width ≤ length buffer.old) }
-    ensures { Added (places (grid_in kind.now).height (grid_in kind.now).width) (layout (record_shown (grid_in kind.now) edges.now) ∷ [])
-        layouts.old fewest.old buffer.old
-        result layouts.new fewest.new buffer.new }
+        × (tally.old.layouts * places (grid_in kind.now).height (grid_in kind.now).width ≤ length buffer.old) }
+    ensures { AddedTo (places (grid_in kind.now).height (grid_in kind.now).width) (layout (record_shown (grid_in kind.now) edges.now) ∷ [])
+        tally.old buffer.old result tally.new buffer.new }
 {
-    let size = boardrecord::record_size(kind);
-    let at = *layouts * size;
-    if buffer.len() - at < size {
-        return 2;
-    }
+    let at = tally.place(boardrecord::record_size(kind), buffer.len())?;
     let lines = boardrecord::put_record(edges, kind, buffer, at);
-    *fewest = tally::least(*fewest, lines);
-    *layouts += 1;
-    0
+    tally.add(lines);
+    Ok(())
 }

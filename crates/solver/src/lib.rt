@@ -7,14 +7,16 @@
 ghost use Rattle.std.specs.Prelude.{◌≡◌, List, ℕ, ◌-◌, ◌%◌, ◌≤◌, ◌<◌, ℤ};
 ghost use Rattle.rules.specs.Grid.{right, down, Accepted};
 ghost use Rattle.boardview.specs.View.{grid_in};
-ghost use Rattle.searchview.specs.Searched.{reached, Begun, Above, Entered, Attempted, Backtracked};
+ghost use Rattle.searchview.specs.Searched.{Begun, Above, Entered, Attempted, Backtracked};
 ghost use Rattle.tally.specs.Counts as counts;
 ghost use Rattle.tally.specs.Empty.{empty};
+ghost use Rattle.solver.specs.Answers.{so_far};
 ghost use Rattle.solver.specs.Answers as answers;
 
-use boardparts::FLAGGED;
+use boardparts::{Direction, FLAGGED};
 use boardview::Arrays;
-use tally::Tally;
+use grid::Refusal;
+use tally::{Solved, Stop, Tally};
 
 // One m at a pad: tried where clue + lines is 0 or 2; decide right, decide down, go on if the flag is clear, undo.
 #[cycle(attempt_backtrack)]
@@ -23,33 +25,31 @@ fn attempt(
     kind: &[u8; 1024],
     limit: u64,
     buffer: &mut [u8],
-    visited: &mut u64,
-    layouts: &mut usize,
-    fewest: &mut usize,
+    tally: &mut Tally,
     v: usize,
     right: bool,
     down: bool,
-) -> u8
-    requires { Begun kind.now board.old (reached kind.now 0 visited.old layouts.old fewest.old buffer.old) × Above (grid_in kind.now) v }
+) -> Result<(), Stop>
+    requires { Begun kind.now board.old (so_far kind.now (Ok tt) tally.old buffer.old) × Above (grid_in kind.now) v }
     ensures { Attempted (grid_in kind.now) limit v right down
-        board.old (reached kind.now 0 visited.old layouts.old fewest.old buffer.old)
-        board.new (reached kind.now result visited.new layouts.new fewest.new buffer.new) × (board.new.count ≡ board.old.count) }
+        board.old (so_far kind.now (Ok tt) tally.old buffer.old)
+        board.new (so_far kind.now result tally.new buffer.new) × (board.new.count ≡ board.old.count) }
 {
     if !searchparts::tried(&board.edges, kind, v, right, down) {
-        return 0;
+        return Ok(());
     }
     let before = board.count;
-    decision::decide_right(board, kind, v, right);
-    decision::decide_down(board, kind, v, down);
+    decision::decide(board, kind, Direction::Right, v, right);
+    decision::decide(board, kind, Direction::Down, v, down);
     if board.count < FLAGGED {
         let last = searchparts::first_of_last_row(kind);
         let next = searchparts::next_pad(&board.edges, last, v + 1);
-        let outcome = backtrack(board, kind, limit, buffer, visited, layouts, fewest, next);
+        let outcome = backtrack(board, kind, limit, buffer, tally, next);
         boardundo::undo(board, kind, before);
         return outcome;
     }
     boardundo::undo(board, kind, before);
-    0
+    Ok(())
 }
 
 // The search from a pad on: spent where the next entry would pass the limit; a layout in the last row; else m = 0 to 3.
@@ -59,150 +59,71 @@ fn backtrack(
     kind: &[u8; 1024],
     limit: u64,
     buffer: &mut [u8],
-    visited: &mut u64,
-    layouts: &mut usize,
-    fewest: &mut usize,
+    tally: &mut Tally,
     v: usize,
-) -> u8
-    requires { Begun kind.now board.old (reached kind.now 0 visited.old layouts.old fewest.old buffer.old) × Entered (grid_in kind.now) v }
+) -> Result<(), Stop>
+    requires { Begun kind.now board.old (so_far kind.now (Ok tt) tally.old buffer.old) × Entered (grid_in kind.now) v }
     ensures { Backtracked (grid_in kind.now) limit v
-        board.old (reached kind.now 0 visited.old layouts.old fewest.old buffer.old)
-        board.new (reached kind.now result visited.new layouts.new fewest.new buffer.new) × (board.new.count ≡ board.old.count) }
+        board.old (so_far kind.now (Ok tt) tally.old buffer.old)
+        board.new (so_far kind.now result tally.new buffer.new) × (board.new.count ≡ board.old.count) }
 {
-    if *visited >= limit {
-        return 1;
+    if tally.visited >= limit {
+        return Err(Stop::Spent);
     }
-    *visited += 1;
+    tally.visited += 1;
     if v >= searchparts::first_of_last_row(kind) {
-        return searchparts::add_layout(&board.edges, kind, buffer, layouts, fewest);
+        return searchparts::add_layout(&board.edges, kind, buffer, tally);
     }
     for m in 0..4usize {
-        let outcome = attempt(
-            board,
-            kind,
-            limit,
-            buffer,
-            visited,
-            layouts,
-            fewest,
-            v,
-            m % 2 == 1,
-            m / 2 == 1,
-        );
-        if outcome != 0 {
-            return outcome;
-        }
+        attempt(board, kind, limit, buffer, tally, v, m % 2 == 1, m / 2 == 1)?;
     }
-    0
+    Ok(())
 }
 
-// What `solve` answers: the grid's refusal with its index, and the counts.
-#[derive(Clone, Copy)]
-pub struct Solved {
-    pub number: u8,
-    pub index: usize,
-    pub outcome: u8,
-    pub layouts: usize,
-    pub visited: u64,
-    pub fewest: usize,
-}
-
-// What is answered where nothing was searched.
-pub fn declined(number: u8, index: usize) -> Solved
-    ensures { result ≡ answers.declined number index }
-{
-    Solved {
-        number,
-        index,
-        outcome: 0,
-        layouts: 0,
-        visited: 0,
-        fewest: 481,
-    }
-}
-
-// Searches a whole grid and counts on from the tally: nothing where the fresh board has its flag set, else from the first pad with its
-// right edge undecided, or in the last row.
+// Searches a whole grid and counts on in the tally: nothing where the fresh board has its flag set, else from the first pad with its right
+// edge undecided, or in the last row.
 fn search_from(
-    tally: Tally,
-    cells: &[i64],
-    buffer: &mut [u8],
-    height: usize,
-    width: usize,
-    limit: u64,
-) -> Tally
-    requires { counts.Ready height width cells.now tally buffer.old }
-    ensures { answers.Counted height width cells.now limit tally buffer.old result buffer.new }
-{
-    let fresh = boardfresh::fresh_board(height, width, cells);
-    let mut board = fresh.board;
-    let kind = fresh.kind;
-    if FLAGGED <= board.count {
-        return tally;
-    }
-    let first = searchparts::next_pad(&board.edges, searchparts::first_of_last_row(&kind), 0);
-    let mut visited = tally.visited;
-    let mut layouts = tally.layouts;
-    let mut fewest = tally.fewest;
-    let outcome = backtrack(
-        &mut board,
-        &kind,
-        limit,
-        buffer,
-        &mut visited,
-        &mut layouts,
-        &mut fewest,
-        first,
-    );
-    Tally {
-        outcome,
-        visited,
-        layouts,
-        fewest,
-    }
-}
-
-// The same with the tally lent: the boards visited are counted up in it.
-fn search_lent(
     tally: &mut Tally,
     cells: &[i64],
     buffer: &mut [u8],
     height: usize,
     width: usize,
     limit: u64,
-)
+) -> Result<(), Stop>
     requires { counts.Ready height width cells.now tally.old buffer.old }
-    ensures { answers.Counted height width cells.now limit tally.old buffer.old tally.new buffer.new }
+    ensures { answers.Counted height width cells.now limit tally.old buffer.old (record { outcome = result; tally = tally.new }) buffer.new }
 {
-    *tally = search_from(*tally, cells, buffer, height, width, limit);
+    let fresh = boardfresh::fresh_board(height, width, cells);
+    let mut board = fresh.board;
+    let kind = fresh.kind;
+    if FLAGGED <= board.count {
+        return Ok(());
+    }
+    let last = searchparts::first_of_last_row(&kind);
+    let first = searchparts::next_pad(&board.edges, last, 0);
+    backtrack(&mut board, &kind, limit, buffer, tally, first)
 }
 
 // Searches a whole grid with a tally of its own, which is lent down the search and handed back.
-fn search(cells: &[i64], buffer: &mut [u8], height: usize, width: usize, limit: u64) -> Tally
+fn search(cells: &[i64], buffer: &mut [u8], height: usize, width: usize, limit: u64) -> Solved
     requires { Accepted height width cells.now }
     ensures { answers.Counted height width cells.now limit empty buffer.old result buffer.new }
 {
     let mut tally = Tally::EMPTY;
-    search_lent(&mut tally, cells, buffer, height, width, limit);
-    tally
+    let outcome = search_from(&mut tally, cells, buffer, height, width, limit);
+    Solved { outcome, tally }
 }
 
 // Lists the wirings of a grid into the lent buffer.
-pub fn solve(height: usize, width: usize, cells: &[i64], limit: u64, buffer: &mut [u8]) -> Solved
+pub fn solve(
+    height: usize,
+    width: usize,
+    cells: &[i64],
+    limit: u64,
+    buffer: &mut [u8],
+) -> Result<Solved, Refusal>
     ensures { answers.Solves height width cells.now limit buffer.old result buffer.new }
 {
-    let refusal = grid::grid_refusal(height, width, cells);
-    let number = refusal.number;
-    if number != 0 {
-        return declined(number, refusal.index);
-    }
-    let counted = search(cells, buffer, height, width, limit);
-    Solved {
-        number: 0,
-        index: 0,
-        outcome: counted.outcome,
-        layouts: counted.layouts,
-        visited: counted.visited,
-        fewest: counted.fewest,
-    }
+    grid::grid_refusal(height, width, cells)?;
+    Ok(search(cells, buffer, height, width, limit))
 }

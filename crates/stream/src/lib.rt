@@ -1,67 +1,67 @@
 // The streams of board calls and of grids that were written down once with the Rust's answers; oracle/README.md describes both and the
-// checksum. These functions read them. They are total: past the end of a stream every byte is 0.
+// checksum. These functions read them, and go through one from its start to its end. They are total: past the end of a stream every byte is 0.
 #![tactic(auto)]
 
-ghost use Rattle.std.specs.Prelude.{◌<◌, ◌≡◌, length};
+ghost use Rattle.std.specs.Prelude.{◌≡◌, length};
 
-// Places further on than this are not told apart; no stream is that long.
-const FAR: usize = 1000000000;
+use std::array;
 
 // The place so many bytes further on.
 pub fn later(place: usize, bytes: usize) -> usize {
-    if place > FAR {
-        return FAR;
-    }
-    if bytes > FAR {
-        return FAR;
-    }
-    place + bytes
+    place.saturating_add(bytes)
 }
 
 // The byte at a place, 0 past the end.
 pub fn byte_at(stream: &[u8], place: usize) -> u8 {
-    if place < stream.len() {
-        stream[place]
-    } else {
-        0
-    }
+    stream.get(place).copied().unwrap_or(0)
 }
 
 // A number of so many bytes, at most eight, the highest first.
 pub fn number_at(stream: &[u8], place: usize, bytes: usize) -> u64 {
     let mut value: u64 = 0;
-    let mut i = 0;
-    while i < bytes {
-        value = value % 72057594037927936 * 256 + byte_at(stream, later(place, i)) as u64;
-        i += 1;
+    for i in 0..bytes {
+        value = value % 72057594037927936 * 256 + u64::from(byte_at(stream, later(place, i)));
     }
     value
 }
 
 // The cell that a byte stands for: 0 blank, 1 to 250 the codes from 0 on, 251 to 255 the largest that the Rust can be asked about.
 pub fn cell_of(byte: u8) -> i64 {
-    if byte == 0 {
-        return -1;
+    match byte {
+        0 => -1,
+        1..=250 => i64::from(byte - 1),
+        251..=255 => 2147483391 + i64::from(byte),
     }
-    if byte > 250 {
-        return (2147483391 + byte as usize) as i64;
-    }
-    (byte - 1) as i64
 }
 
 // So many cells from a place on, and blank ones after them.
 pub fn cells_at(stream: &[u8], place: usize, count: usize) -> [i64; 256]
     ensures { 256 ≡ length result }
 {
-    let mut cells = [-1; 256];
-    let mut i = 0;
-    while i < 256 {
+    array::from_fn(|i| {
         if i < count {
-            cells[i] = cell_of(byte_at(stream, later(place, i)));
+            cell_of(byte_at(stream, later(place, i)))
+        } else {
+            -1
         }
-        i += 1;
+    })
+}
+
+// A stream has fewer sequences or grids than this.
+const MOST: u64 = 100000;
+
+// Goes through a stream of so many bytes, from one sequence or grid to the next: `replay` is asked for the one at a place, with its number from 1
+// on, and answers the place after it.
+pub fn replay_all<F: Fn(usize, u64) -> usize>(length: usize, replay: F)
+    requires { F.IsAlwaysCallable replay }
+{
+    let mut place = 0;
+    for number in 1..MOST {
+        if place >= length {
+            break;
+        }
+        place = replay(place, number);
     }
-    cells
 }
 
 // The checksum is below this prime, which is above every end as a number without a sign.
@@ -74,13 +74,9 @@ pub fn taken(sum: u64, number: u64) -> u64 {
 
 // The checksum after so many bytes more.
 pub fn taken_bytes(sum: u64, bytes: &[u8]) -> u64 {
-    let mut after = sum;
-    let mut i = 0;
-    while i < bytes.len() {
-        after = taken(after, bytes[i] as u64);
-        i += 1;
-    }
-    after
+    bytes
+        .iter()
+        .fold(sum, |sum, byte| taken(sum, u64::from(*byte)))
 }
 
 // The number that stands for an end: 2e for an end e that is not negative, 2(-1 - e) + 1 for a negative one.
@@ -93,11 +89,5 @@ fn unsigned(end: i64) -> u64 {
 
 // The checksum after so many ends more, each as a number without a sign.
 pub fn taken_ends(sum: u64, ends: &[i64]) -> u64 {
-    let mut after = sum;
-    let mut i = 0;
-    while i < ends.len() {
-        after = taken(after, unsigned(ends[i]));
-        i += 1;
-    }
-    after
+    ends.iter().fold(sum, |sum, end| taken(sum, unsigned(*end)))
 }

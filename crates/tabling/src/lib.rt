@@ -106,12 +106,10 @@ fn put_digits(out: &mut [u8], row: &[u8]) -> usize
     requires { length row.now ≤ length out.old }
     ensures { Put out.old out.new 0 (map table_digit row.now) result }
 {
-    let mut at = 0;
-    while at < row.len() {
-        out[at] = ZERO + row[at] % 10;
-        at += 1;
+    for (at, byte) in row.iter().enumerate() {
+        out[at] = ZERO + *byte % 10;
     }
-    at
+    row.len()
 }
 
 // The line of row k of the table, from 0; nothing where there is no row k.

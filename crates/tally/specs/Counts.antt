@@ -5,7 +5,7 @@ use Rattle.std.proofs.Common.{ap, ◌∙◌, arith, zero-mul}
 use Rattle.rules.specs.Grid.{Grid, grid_of, places, Accepted}
 use Rattle.model.specs.Runs.{Event, scan, solved}
 use Rattle.runs.specs.Progress.{Progress, advance, Sized, start, result_of, advance_solved}
-use Rattle.runs.specs.Layouts.{progress}
+use Rattle.runs.specs.Layouts.{progress, Added}
 use Rattle.tally.specs.declared.Stop.{Stop}
 use Rattle.tally.specs.declared.Tally.{Tally}
 use Rattle.tally.specs.declared.Solved.{Solved}
@@ -18,6 +18,11 @@ progress_of size outcome t buffer = progress size (outcome_number outcome) t.vis
 
 abbrev pub tally_says : ℕ → ℕ → Solved → List ℕ → Progress
 tally_says height width s buffer = progress_of (places height width) s.outcome s.tally buffer
+
+-- the tally and the buffer after events that are layouts only
+pub record AddedTo (size : ℕ) (events : List Event) (t : Tally) (buffer : List ℕ) (outcome : Result Unit Stop) (t' : Tally) (buffer' : List ℕ) : Type 0 where
+  pub added : Added size events t.layouts t.fewest buffer (outcome_number outcome) t'.layouts t'.fewest buffer'
+  pub none_visited : t'.visited ≡ t.visited
 
 -- when it begins: each layout so far has its record in the buffer
 pub record Ready (height width : ℕ) (cells : List ℤ) (t : Tally) (buffer : List ℕ) : Type 0 where

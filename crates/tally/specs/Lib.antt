@@ -2,3 +2,4 @@
 pub mod Outcomes
 pub mod Empty
 pub mod Counts
+pub mod Answers

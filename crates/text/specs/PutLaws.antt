@@ -1,6 +1,6 @@
 -- Laws of texts that are put into a buffer one after the other. Assumes nothing.
 use Rattle.std.specs.Prelude.{◌≡◌, refl, List, [], ◌∷◌, ◌++◌, ℕ, suc, ◌+◌, ◌≤◌, ◌<◌, length, get_or, take, drop, set}
-use Rattle.std.proofs.Common.{sym, ap, ◌∙◌, add_assoc, add-zero, add-suc, suc-add, zero-add, add-one, arith, length-append, take-suc, take_all}
+use Rattle.std.proofs.Common.{sym, ap, ◌∙◌, add_assoc, add-zero, add-suc, suc-add, zero-add, add-one, arith, length-append, take-suc, take_all, take_at, length-take-le}
 use Rattle.std.proofs.lemmas.List.Edits.{sets, sets-eq}
 use Rattle.std.proofs.Math.Seq.{length-sets}
 use Rattle.text.specs.Put.{Put}
@@ -46,3 +46,13 @@ module _ (first out word : List ℕ) (at i : ℕ) where
 
   pub word_put : length word ≤ i → Put first out at (take i word) (at + i) → Put first out at word (at + i)
   word_put h p = put_same (take_all i word h) p
+
+-- what a buffer holds up to the place after a text that was put behind a first one of so many bytes
+pub put_behind : {before after more : List ℕ} {at next : ℕ} → Put before after at more next → at + length more ≤ length before → take next after ≡ take at before ++ more
+put_behind {before} {after} {more} {at} {next} p room = ap (take next) (p.stored ∙ sets-eq more before at room) ∙ take_at (take at before ++ more) (drop (at + length more) before) next (sym long ∙ sym p.place)
+  where
+    first : length (take at before) ≡ at
+    first = length-take-le at before (omega arith)
+
+    long : at + length more ≡ length (take at before ++ more)
+    long = rw (length-append, first) refl

@@ -2,9 +2,11 @@
 // on where there is room for it, gives back the place after it, and leaves every other byte as it was (specs/Put.antt).
 #![tactic(auto)]
 
-ghost use Rattle.std.specs.Prelude.{[], ◌∷◌, ◌++◌, ◌+◌, ◌≤◌, ◌<◌, length};
+ghost use Rattle.std.specs.Prelude.{◌≡◌, ℕ, List, [], ◌∷◌, ◌++◌, ◌+◌, ◌≤◌, ◌<◌, length, take};
 ghost use Rattle.model.specs.Decimal.{decimal};
 ghost use Rattle.text.specs.Put.{Put};
+
+use std::marker::Model;
 
 const ZERO: u8 = 48;
 
@@ -22,12 +24,9 @@ pub fn put_word(out: &mut [u8], at: usize, word: &[u8]) -> usize
     requires { at + length word.now ≤ length out.old }
     ensures { Put out.old out.new at word.now result }
 {
-    let mut i = 0;
-    while i < word.len() {
-        out[at + i] = word[i];
-        i += 1;
-    }
-    at + i
+    let next = at + word.len();
+    out[at..next].copy_from_slice(word);
+    next
 }
 
 // A number in shortest digits from a place on; the place after it.
@@ -49,4 +48,72 @@ pub fn put_field(out: &mut [u8], at: usize, number: u64, after: u8) -> usize
 {
     let last = put_decimal(out, at, number);
     put_byte(out, last, after)
+}
+
+// A text of at most N bytes, in an array of its own.
+#[derive(Drop)]
+pub struct Line<const N: usize> {
+    bytes: [u8; N],
+    length: usize,
+}
+
+// Clauses see the text.
+impl<const N: usize> Model for Line<N> {
+    ghost Value = { List ℕ };
+
+    ghost view = { λ line. take line.length line.bytes };
+
+    ghost invariant = { λ line. line.length ≤ N };
+}
+
+impl<const N: usize> Line<N> {
+    pub fn new() -> Self
+        ensures { result ≡ [] }
+    {
+        Line {
+            bytes: [0; N],
+            length: 0,
+        }
+    }
+
+    // The text.
+    pub fn as_bytes(&self) -> &[u8]
+        ensures same { result.now ≡ self.now }
+        ensures short { length result.now ≤ N }
+    {
+        &self.bytes[..self.length]
+    }
+
+    // One byte more.
+    pub fn push_byte(&mut self, byte: u8)
+        requires { length self.old < N }
+        ensures { self.new ≡ self.old ++ (byte ∷ []) }
+    {
+        self.length = put_byte(&mut self.bytes, self.length, byte);
+    }
+
+    // A word more.
+    pub fn push_word(&mut self, word: &[u8])
+        requires { length self.old + length word.now ≤ N }
+        ensures { self.new ≡ self.old ++ word.now }
+    {
+        self.length = put_word(&mut self.bytes, self.length, word);
+    }
+
+    // A number more, in shortest digits.
+    pub fn push_decimal(&mut self, number: u64)
+        requires { length self.old + length (decimal number) ≤ N }
+        ensures { self.new ≡ self.old ++ decimal number }
+    {
+        self.length = put_decimal(&mut self.bytes, self.length, number);
+    }
+
+    // A number and the byte after it.
+    pub fn push_field(&mut self, number: u64, after: u8)
+        requires { length self.old + length (decimal number) + 1 ≤ N }
+        ensures { self.new ≡ self.old ++ (decimal number ++ (after ∷ [])) }
+    {
+        self.push_decimal(number);
+        self.push_byte(after);
+    }
 }

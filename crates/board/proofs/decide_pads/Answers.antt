@@ -3,14 +3,14 @@ use Rattle.board.specs.PlaceLaws.{beside_on, beside_decided, above_on, above_dec
 use borrow.Author.Rules.{rules}
 use Rattle.board.proofs.decide_pads.Goals as goal
 
-pub decide_right-requires : goal.decide_right-requires
-decide_right-requires c =
+pub decide-requires : goal.decide-requires
+decide-requires c =
     let start = c in
     let there = beside_on _ start.requires.2.few_pads _ start.requires.0 c.in-Beside.is in
     (there.1, start.requires.1, start.requires.2, there.0)
 
-pub decide_down-requires : goal.decide_down-requires
-decide_down-requires c =
+pub decide-requires-in-Above : goal.decide-requires-in-Above
+decide-requires-in-Above c =
     let start = c in
     let there = above_on _ start.requires.2.few_pads _ start.requires.0 c.in-Above.is in
     (there.1, start.requires.1, start.requires.2, there.0)
@@ -18,12 +18,12 @@ decide_down-requires c =
 pub returns-in-Beside : goal.returns-in-Beside
 returns-in-Beside c =
     let start = c in
-    beside_decided _ start.requires.2.few_pads _ start.requires.0 c.in-Beside.is c.decide_right.ensures
+    beside_decided _ start.requires.2.few_pads _ start.requires.0 c.in-Beside.is c.decide.ensures
 
 pub returns-in-Above : goal.returns-in-Above
 returns-in-Above c =
     let start = c in
-    above_decided _ start.requires.2.few_pads _ start.requires.0 c.in-Above.is c.decide_down.ensures
+    above_decided _ start.requires.2.few_pads _ start.requires.0 c.in-Above.is c.decide-in-Above.ensures
 
 pub returns-in-NoEdge : goal.returns-in-NoEdge
 returns-in-NoEdge c = nothing_decided c.args.pads (search rules) _

@@ -2,26 +2,14 @@
 use mathlib.Core.Path.{ap}
 use native.Mathlib.Omega.{arith}
 use lib.ListN.{length}
-use Rattle.copper.proofs.TableLaws.{none_laid, one_laid, all_laid, record_fits}
+use Rattle.copper.proofs.TableLaws.{one_laid, all_laid, record_fits}
 use Rattle.copper.proofs.overlay_records.Goals as goal
-
-pub loop-k-init : goal.loop-k-init
-loop-k-init c = none_laid _ _ _ _ _
 
 pub overlay-requires : goal.overlay-requires
 overlay-requires c = omega (arith, ap length c.record_at-layout.ensures, record_fits c.args.height c.args.width c.args.layouts c.loop-k.k c.args.buffer.now, c.loop-k.invariant.same_length, c.requires)
 
-pub overflow_add-k : goal.overflow_add-k
-overflow_add-k c = omega arith
-
-pub loop-k-smaller : goal.loop-k-smaller
-loop-k-smaller c = omega arith
-
 pub loop-k-preserved : goal.loop-k-preserved
 loop-k-preserved c = one_laid _ _ _ _ _ c.loop-k-test.true c.loop-k.invariant _ c.record_at-layout.ensures _ c.overlay.ensures
-
-pub shape_of-table : goal.shape_of-table
-shape_of-table c = c.loop-k.invariant.same_length
 
 pub returns : goal.returns
 returns c = all_laid _ _ _ _ _ c.loop-k-test.false c.loop-k.invariant

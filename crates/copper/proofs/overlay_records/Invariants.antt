@@ -1,10 +1,6 @@
 -- `copper::overlay_records` meets its contract: the records before `k` are laid over the table. Assumes nothing.
-use Prim.Native.Nat.{◌-◌}
 use Rattle.copper.proofs.TableLaws.{Laid}
 use Rattle.copper.proofs.overlay_records.Given as goal
 
 abbrev pub invariant-loop-k : goal.invariant-loop-k
 invariant-loop-k l = Laid l.height l.width l.layouts l.buffer l.initial.table l.table l.k
-
-abbrev pub decreases-loop-k : goal.decreases-loop-k
-decreases-loop-k l = l.layouts - l.k

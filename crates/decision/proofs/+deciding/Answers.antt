@@ -2,15 +2,16 @@
 use mathlib.Core.Path.{refl, ap, sym, ◌∙◌}
 use native.Mathlib.Omega.{arith}
 use Rattle.rules.specs.Grid.{right, down}
-use Rattle.rules.specs.Drawing.{on_left, on_right}
-use Rattle.boardview.specs.View.{grid_in, has_bit, going}
-use Rattle.boardview.specs.declared.Arrays.{Arrays}
+use Rattle.boardparts.specs.Sides.{side_of}
+use Rattle.model.specs.PadTests.{on_board}
+use Rattle.boardview.specs.View.{grid_in, has_bit}
 use Rattle.boardview.specs.Stores.{going_count}
 use Rattle.boardview.specs.Steps.{done_then, done_ended, slot_is_on, detour_off, detour_first, detour_both}
 use Rattle.boardview.specs.Items.{recount_decided, corner_off, corner_taken, corner_ends, corner_lines, bar_off, bar_none}
 use Rattle.boardview.specs.Check.{check_nothing, check_ends, check_settles}
-use Rattle.boardview.specs.Cycle.{same_on, none_room, none_high, none_first, none_second, none_is_stored, none_returns, none_raised, none_again, line_again, line_raised, line_room, line_first, line_second, line_is_stored, line_returns, line_end, right_up_left, right_up_right, right_up, right_left, right_right, right_below, right_corner, left_corner, right_bar_on, left_bar_on, right_done, down_left, down_left_below, down_if_left, down_right, down_right_below, down_if_right, down_far_left, down_far_right, picked_small, down_right_corner, down_left_corner, down_left_bar_on, down_right_bar_on, down_done, corner_exists, corner_down, corner_line_right, corner_line_left, corner_not_first, small_pad, past_left, past_up, settle_rests, leave_there, settle_leaves, draw_high, draw_right, draw_down, draw_small, settle_draws_right, settle_draws_down, line_stops, apart_begins, apart_ready, apart_fewer, apart_done, apart_more, past_there}
+use Rattle.boardview.specs.Cycle.{same_on, none_room, none_high, none_first, none_second, none_is_stored, none_returns, none_raised, none_again, line_again, line_raised, line_room, line_first, line_second, line_is_stored, line_returns, line_end, right_up_left, right_up_right, right_up, right_left, right_right, right_below, right_corner, left_corner, right_bar_on, left_bar_on, right_done, down_left, down_left_below, down_if_left, down_right, down_right_below, down_if_right, down_far_left, down_far_right, picked_small, down_right_corner, down_left_corner, down_left_bar_on, down_right_bar_on, down_done, corner_exists, corner_down, corner_line, corner_not_left, small_pad, past_left, past_up, settle_rests, leave_there, settle_leaves, draw_high, draw_right, draw_down, draw_small, settle_draws_right, settle_draws_down, line_stops, apart_begins, apart_ready, apart_fewer, apart_done, apart_takes, apart_skips, past_there}
 use Prim.Native.Nat.{◌+◌, ◌*◌}
+use Rattle.decision.proofs.+deciding.Goals.{check_pad-then-slot-ne0, check_pad-else-slot-ne0}
 use Rattle.decision.proofs.+deciding.Goals as goal
 
 pub bar-returns-then-board-ge-ENDED : goal.bar-returns-then-board-ge-ENDED
@@ -38,225 +39,183 @@ check-returns-then-board-ge-ENDED t c = done_ended (grid_in c.args.kind.now) 1 _
 pub check-returns-then-v-eq512 : goal.check-returns-then-v-eq512
 check-returns-then-v-eq512 t c = check_nothing (grid_in c.args.kind.now) _ c.requires.3 _ c.if-v-eq512.true
 
-pub check-end_code-code-requires : goal.check-end_code-code-requires
-check-end_code-code-requires t c = let start = c in (omega (arith, small_pad start.args.kind.now _ start.requires.2 start.requires.3 start.args.v (start.requires.1 (omega (arith, start.requires.0, c.if-v-eq512.false)))), start.requires.3.ends_long)
-
-pub check-first_side-side-requires : goal.check-first_side-side-requires
-check-first_side-side-requires t c =
-    let start = c in
-    let if2-left = c.if-v-eq512.false in
-    let width-says = c.width-w.ensures in
-    (small_pad start.args.kind.now _ start.requires.2 start.requires.3 start.args.v (start.requires.1 (omega (arith, start.requires.0, if2-left))), (omega (arith, start.requires.2.least_width, width-says)), (omega (arith, start.requires.2.largest_width, width-says)), start.requires.3.ends_long, past_left start.args.kind.now _ start.requires.2 start.requires.3 start.args.v (start.requires.1 (omega (arith, start.requires.0, if2-left))), past_up start.args.kind.now _ start.requires.2 start.requires.3 start.args.v (start.requires.1 (omega (arith, start.requires.0, if2-left))) _ (width-says))
-
-pub check-loop-side-init : goal.check-loop-side-init
-check-loop-side-init t c = let start = c in apart_begins start.args.kind.now _ start.requires.2 start.requires.3 start.args.v (start.requires.1 (omega (arith, start.requires.0, c.if-v-eq512.false))) _ c.width-w.ensures _ c.end_code-code.ensures c.if-board-ge-ENDED.false _ c.first_side-side.ensures
-
-pub check-slot_around-there-requires : goal.check-slot_around-there-requires
-check-slot_around-there-requires t c = let start = c in (small_pad start.args.kind.now _ start.requires.2 start.requires.3 start.args.v (start.requires.1 (omega (arith, start.requires.0, c.if-v-eq512.false))), omega (arith, start.requires.2.largest_width, c.width-w.ensures))
-
-pub check-past_around-past-requires : goal.check-past_around-past-requires
-check-past_around-past-requires t c = let start = c in (small_pad start.args.kind.now _ start.requires.2 start.requires.3 start.args.v (start.requires.1 (omega (arith, start.requires.0, c.if-v-eq512.false))), omega (arith, start.requires.2.largest_width, c.width-w.ensures))
-
-pub check-slot_apart-slot-requires : goal.check-slot_apart-slot-requires
-check-slot_apart-slot-requires t c =
-    let start = c in
-    let slot-around-says = c.slot_around-there.ensures in
-    let if2-left = c.if-v-eq512.false in
-    let width-says = c.width-w.ensures in
-    let end-code-says = c.end_code-code.ensures in
-    let loop-inv = c.loop-side.invariant in
-    (slot-around-says.1, c.past_around-past.ensures.1, (λ z. rw c.past_around-past.ensures.0 (past_there start.args.kind.now _ start.requires.2 start.requires.3 start.args.v (start.requires.1 (omega (arith, start.requires.0, if2-left))) _ (width-says) _ (end-code-says) _ _ (loop-inv) c.loop-side-test.true (rw slot-around-says.0 at z))), (apart_ready start.args.kind.now _ start.requires.2 start.requires.3 start.args.v (start.requires.1 (omega (arith, start.requires.0, if2-left))) _ (width-says) _ (end-code-says) _ _ (loop-inv)).ends_long)
-
-pub check-decide_none-requires : goal.check-decide_none-requires
-check-decide_none-requires t c =
-    let start = c in
-    let if2-left = c.if-v-eq512.false in
-    let width-says = c.width-w.ensures in
-    let end-code-says = c.end_code-code.ensures in
-    let loop-inv = c.loop-side.invariant in
-    (omega (arith, start.decreases, apart_fewer start.args.kind.now _ start.requires.2 start.requires.3 start.args.v (start.requires.1 (omega (arith, start.requires.0, if2-left))) _ (width-says) _ (end-code-says) _ _ (loop-inv)), (c.slot_apart-slot.ensures.1, start.requires.2, apart_ready start.args.kind.now _ start.requires.2 start.requires.3 start.args.v (start.requires.1 (omega (arith, start.requires.0, if2-left))) _ (width-says) _ (end-code-says) _ _ (loop-inv)))
-
-pub check-overflow_add-side : goal.check-overflow_add-side
-check-overflow_add-side t c = omega (arith, c.loop-side-test.true)
-
-pub check-loop-side-smaller : goal.check-loop-side-smaller
-check-loop-side-smaller t c = omega (arith, c.loop-side-test.true)
-
-pub check-loop-side-preserved : goal.check-loop-side-preserved
-check-loop-side-preserved t c = let start = c in apart_more start.args.kind.now _ start.requires.2 start.requires.3 start.args.v (start.requires.1 (omega (arith, start.requires.0, c.if-v-eq512.false))) _ c.width-w.ensures _ c.end_code-code.ensures _ _ c.loop-side.invariant c.loop-side-test.true _ (rw (c.slot_around-there.ensures.0, c.past_around-past.ensures.0) at c.slot_apart-slot.ensures.0) _ c.decide_none.ensures _ c.count_after-board.ensures
-
-pub check-returns-then-board-ge-ENDED-2 : goal.check-returns-then-board-ge-ENDED-2
-check-returns-then-board-ge-ENDED-2 t c =
-    let start = c in
-    let if2-left = c.if-v-eq512.false in
-    check_ends (grid_in start.args.kind.now) _ _ start.args.v (omega (arith, small_pad start.args.kind.now _ start.requires.2 start.requires.3 start.args.v (start.requires.1 (omega (arith, start.requires.0, if2-left))))) c.if-board-ge-ENDED.false (apart_done start.args.kind.now _ start.requires.2 start.requires.3 start.args.v (start.requires.1 (omega (arith, start.requires.0, if2-left))) _ c.width-w.ensures _ c.end_code-code.ensures _ _ c.loop-side.invariant (λ low. absurd (omega (arith, c.loop-side-test.false)))) c.if-board-ge-ENDED-2.true
-
-pub check-action-action-requires : goal.check-action-action-requires
-check-action-action-requires t c =
-    let start = c in
-    let if2-left = c.if-v-eq512.false in
-    let width-says = c.width-w.ensures in
-    (small_pad start.args.kind.now _ start.requires.2 start.requires.3 start.args.v (start.requires.1 (omega (arith, start.requires.0, if2-left))), omega (arith, start.requires.2.largest_width, width-says), (apart_ready start.args.kind.now _ start.requires.2 start.requires.3 start.args.v (start.requires.1 (omega (arith, start.requires.0, if2-left))) _ (width-says) _ c.end_code-code.ensures _ _ c.loop-side.invariant).bytes, start.requires.2)
-
-pub check-rest-board-requires : goal.check-rest-board-requires
-check-rest-board-requires t c = c.if-action-lt2.true
-
-pub check-returns-then-action-lt2 : goal.check-returns-then-action-lt2
-check-returns-then-action-lt2 t c =
-    let start = c in
-    let if2-left = c.if-v-eq512.false in
-    let width-says = c.width-w.ensures in
-    let end-code-says = c.end_code-code.ensures in
-    let loop-inv = c.loop-side.invariant in
-    check_settles (grid_in start.args.kind.now) _ _ start.args.v (omega (arith, small_pad start.args.kind.now _ start.requires.2 start.requires.3 start.args.v (start.requires.1 (omega (arith, start.requires.0, if2-left))))) c.if-board-ge-ENDED.false (apart_done start.args.kind.now _ start.requires.2 start.requires.3 start.args.v (start.requires.1 (omega (arith, start.requires.0, if2-left))) _ (width-says) _ (end-code-says) _ _ (loop-inv) (λ low. absurd (omega (arith, c.loop-side-test.false)))) c.if-board-ge-ENDED-2.false _ (settle_rests start.args.kind.now _ start.requires.2 (apart_ready start.args.kind.now _ start.requires.2 start.requires.3 start.args.v (start.requires.1 (omega (arith, start.requires.0, if2-left))) _ (width-says) _ (end-code-says) _ _ (loop-inv)) start.args.v (start.requires.1 (omega (arith, start.requires.0, if2-left))) _ (width-says) _ c.action-action.ensures.0 c.if-action-lt2.true _ c.rest-board.ensures)
-
-pub check-decide_none-requires-then-action-ge-NONE_THERE : goal.check-decide_none-requires-then-action-ge-NONE_THERE
-check-decide_none-requires-then-action-ge-NONE_THERE t c =
-    let start = c in
-    let if2-left = c.if-v-eq512.false in
-    let width-says = c.width-w.ensures in
-    let end-code-says = c.end_code-code.ensures in
-    let loop-inv = c.loop-side.invariant in
-    ((omega (arith, start.decreases, apart_fewer start.args.kind.now _ start.requires.2 start.requires.3 start.args.v (start.requires.1 (omega (arith, start.requires.0, if2-left))) _ (width-says) _ (end-code-says) _ _ (loop-inv))), (leave_there start.args.kind.now _ start.requires.2 (apart_ready start.args.kind.now _ start.requires.2 start.requires.3 start.args.v (start.requires.1 (omega (arith, start.requires.0, if2-left))) _ (width-says) _ (end-code-says) _ _ (loop-inv)) start.args.v (start.requires.1 (omega (arith, start.requires.0, if2-left))) _ (width-says) _ c.action-action.ensures.0 c.if-action-ge-NONE_THERE.true, start.requires.2, apart_ready start.args.kind.now _ start.requires.2 start.requires.3 start.args.v (start.requires.1 (omega (arith, start.requires.0, if2-left))) _ (width-says) _ (end-code-says) _ _ (loop-inv)))
-
-pub check-returns-then-action-ge-NONE_THERE : goal.check-returns-then-action-ge-NONE_THERE
-check-returns-then-action-ge-NONE_THERE t c =
-    let start = c in
-    let if2-left = c.if-v-eq512.false in
-    let width-says = c.width-w.ensures in
-    let end-code-says = c.end_code-code.ensures in
-    let loop-inv = c.loop-side.invariant in
-    check_settles (grid_in start.args.kind.now) _ _ start.args.v (omega (arith, small_pad start.args.kind.now _ start.requires.2 start.requires.3 start.args.v (start.requires.1 (omega (arith, start.requires.0, if2-left))))) c.if-board-ge-ENDED.false (apart_done start.args.kind.now _ start.requires.2 start.requires.3 start.args.v (start.requires.1 (omega (arith, start.requires.0, if2-left))) _ (width-says) _ (end-code-says) _ _ (loop-inv) (λ low. absurd (omega (arith, c.loop-side-test.false)))) c.if-board-ge-ENDED-2.false _ (settle_leaves start.args.kind.now _ start.requires.2 (apart_ready start.args.kind.now _ start.requires.2 start.requires.3 start.args.v (start.requires.1 (omega (arith, start.requires.0, if2-left))) _ (width-says) _ (end-code-says) _ _ (loop-inv)) start.args.v (start.requires.1 (omega (arith, start.requires.0, if2-left))) _ (width-says) _ c.action-action.ensures.0 c.if-action-ge-NONE_THERE.true _ c.decide_none-then-action-ge-NONE_THERE.ensures)
-
-pub check-overflow_sub-pad : goal.check-overflow_sub-pad
-check-overflow_sub-pad t c =
-    let start = c in
-    let if2-left = c.if-v-eq512.false in
-    let width-says = c.width-w.ensures in
-    omega (arith, draw_high start.args.kind.now _ start.requires.2 (apart_ready start.args.kind.now _ start.requires.2 start.requires.3 start.args.v (start.requires.1 (omega (arith, start.requires.0, if2-left))) _ (width-says) _ c.end_code-code.ensures _ _ c.loop-side.invariant) start.args.v (start.requires.1 (omega (arith, start.requires.0, if2-left))) _ (width-says) _ c.action-action.ensures.0 c.if-action-lt2.false c.if-action-ge-NONE_THERE.false)
-
-pub check-decide_line_right-requires : goal.check-decide_line_right-requires
-check-decide_line_right-requires t c =
-    let start = c in
-    let if2-left = c.if-v-eq512.false in
-    let width-says = c.width-w.ensures in
-    let end-code-says = c.end_code-code.ensures in
-    let loop-inv = c.loop-side.invariant in
-    let action-says = c.action-action.ensures in
-    let if4-left = c.if-action-lt2.false in
-    let if5-left = c.if-action-ge-NONE_THERE.false in
-    ((omega (arith, start.decreases, apart_fewer start.args.kind.now _ start.requires.2 start.requires.3 start.args.v (start.requires.1 (omega (arith, start.requires.0, if2-left))) _ (width-says) _ (end-code-says) _ _ (loop-inv))), (draw_right start.args.kind.now _ start.requires.2 (apart_ready start.args.kind.now _ start.requires.2 start.requires.3 start.args.v (start.requires.1 (omega (arith, start.requires.0, if2-left))) _ (width-says) _ (end-code-says) _ _ (loop-inv)) start.args.v (start.requires.1 (omega (arith, start.requires.0, if2-left))) _ (width-says) _ action-says.0 (if4-left) (if5-left) _ refl c.if-action-eq0.true, draw_small start.args.kind.now _ start.requires.2 (apart_ready start.args.kind.now _ start.requires.2 start.requires.3 start.args.v (start.requires.1 (omega (arith, start.requires.0, if2-left))) _ (width-says) _ (end-code-says) _ _ (loop-inv)) start.args.v (start.requires.1 (omega (arith, start.requires.0, if2-left))) _ (width-says) _ action-says.0 (if4-left) (if5-left) _ refl, start.requires.2, apart_ready start.args.kind.now _ start.requires.2 start.requires.3 start.args.v (start.requires.1 (omega (arith, start.requires.0, if2-left))) _ (width-says) _ (end-code-says) _ _ (loop-inv)))
-
-pub check-returns-then-action-eq0 : goal.check-returns-then-action-eq0
-check-returns-then-action-eq0 t c =
-    let start = c in
-    let if2-left = c.if-v-eq512.false in
-    let width-says = c.width-w.ensures in
-    let end-code-says = c.end_code-code.ensures in
-    let loop-inv = c.loop-side.invariant in
-    check_settles (grid_in start.args.kind.now) _ _ start.args.v (omega (arith, small_pad start.args.kind.now _ start.requires.2 start.requires.3 start.args.v (start.requires.1 (omega (arith, start.requires.0, if2-left))))) c.if-board-ge-ENDED.false (apart_done start.args.kind.now _ start.requires.2 start.requires.3 start.args.v (start.requires.1 (omega (arith, start.requires.0, if2-left))) _ (width-says) _ (end-code-says) _ _ (loop-inv) (λ low. absurd (omega (arith, c.loop-side-test.false)))) c.if-board-ge-ENDED-2.false _ (settle_draws_right start.args.kind.now _ start.requires.2 (apart_ready start.args.kind.now _ start.requires.2 start.requires.3 start.args.v (start.requires.1 (omega (arith, start.requires.0, if2-left))) _ (width-says) _ (end-code-says) _ _ (loop-inv)) start.args.v (start.requires.1 (omega (arith, start.requires.0, if2-left))) _ (width-says) _ c.action-action.ensures.0 c.if-action-lt2.false c.if-action-ge-NONE_THERE.false _ refl c.if-action-eq0.true _ c.decide_line_right.ensures)
-
-pub check-decide_line_down-requires : goal.check-decide_line_down-requires
-check-decide_line_down-requires t c =
-    let start = c in
-    let if2-left = c.if-v-eq512.false in
-    let width-says = c.width-w.ensures in
-    let end-code-says = c.end_code-code.ensures in
-    let loop-inv = c.loop-side.invariant in
-    let action-says = c.action-action.ensures in
-    let if4-left = c.if-action-lt2.false in
-    let if5-left = c.if-action-ge-NONE_THERE.false in
-    ((omega (arith, start.decreases, apart_fewer start.args.kind.now _ start.requires.2 start.requires.3 start.args.v (start.requires.1 (omega (arith, start.requires.0, if2-left))) _ (width-says) _ (end-code-says) _ _ (loop-inv))), (draw_down start.args.kind.now _ start.requires.2 (apart_ready start.args.kind.now _ start.requires.2 start.requires.3 start.args.v (start.requires.1 (omega (arith, start.requires.0, if2-left))) _ (width-says) _ (end-code-says) _ _ (loop-inv)) start.args.v (start.requires.1 (omega (arith, start.requires.0, if2-left))) _ (width-says) _ action-says.0 (if4-left) (if5-left) _ refl c.if-action-eq0.false, draw_small start.args.kind.now _ start.requires.2 (apart_ready start.args.kind.now _ start.requires.2 start.requires.3 start.args.v (start.requires.1 (omega (arith, start.requires.0, if2-left))) _ (width-says) _ (end-code-says) _ _ (loop-inv)) start.args.v (start.requires.1 (omega (arith, start.requires.0, if2-left))) _ (width-says) _ action-says.0 (if4-left) (if5-left) _ refl, start.requires.2, apart_ready start.args.kind.now _ start.requires.2 start.requires.3 start.args.v (start.requires.1 (omega (arith, start.requires.0, if2-left))) _ (width-says) _ (end-code-says) _ _ (loop-inv)))
+pub check-check_pad-requires : goal.check-check_pad-requires
+check-check_pad-requires t c = let start = c in (omega (arith, start.decreases), (start.requires.1 (omega (arith, start.requires.0, c.if-v-eq512.false)), c.if-board-ge-ENDED.false, start.requires.2, start.requires.3))
 
 pub check-returns : goal.check-returns
-check-returns t c =
+check-returns t c = c.check_pad.ensures
+
+pub check_pad-end_code-code-requires : goal.check_pad-end_code-code-requires
+check_pad-end_code-code-requires t c = let start = c in (omega (arith, small_pad start.args.kind.now _ start.requires.2 start.requires.3 start.args.v start.requires.0), start.requires.3.ends_long)
+
+pub check_pad-first_side-first-requires : goal.check_pad-first_side-first-requires
+check_pad-first_side-first-requires t c =
     let start = c in
-    let if2-left = c.if-v-eq512.false in
+    let width-says = c.width-w.ensures in
+    (small_pad start.args.kind.now _ start.requires.2 start.requires.3 start.args.v start.requires.0, (omega (arith, start.requires.2.least_width, width-says)), (omega (arith, start.requires.2.largest_width, width-says)), start.requires.3.ends_long, past_left start.args.kind.now _ start.requires.2 start.requires.3 start.args.v start.requires.0, past_up start.args.kind.now _ start.requires.2 start.requires.3 start.args.v start.requires.0 _ (width-says))
+
+pub check_pad-loop-side-init : goal.check_pad-loop-side-init
+check_pad-loop-side-init t c = let start = c in apart_begins start.args.kind.now _ start.requires.2 start.requires.3 start.args.v start.requires.0 _ c.width-w.ensures _ c.end_code-code.ensures start.requires.1 _ c.first_side-first.ensures
+
+pub check_pad-slot_around-there-requires : goal.check_pad-slot_around-there-requires
+check_pad-slot_around-there-requires t c = let start = c in (small_pad start.args.kind.now _ start.requires.2 start.requires.3 start.args.v start.requires.0, omega (arith, start.requires.2.largest_width, c.width-w.ensures))
+
+pub check_pad-past_around-past-requires : goal.check_pad-past_around-past-requires
+check_pad-past_around-past-requires t c = let start = c in (small_pad start.args.kind.now _ start.requires.2 start.requires.3 start.args.v start.requires.0, omega (arith, start.requires.2.largest_width, c.width-w.ensures))
+
+pub check_pad-slot_apart-slot-requires : goal.check_pad-slot_apart-slot-requires
+check_pad-slot_apart-slot-requires t c =
+    let start = c in
+    let slot-around-says = c.slot_around-there.ensures in
     let width-says = c.width-w.ensures in
     let end-code-says = c.end_code-code.ensures in
     let loop-inv = c.loop-side.invariant in
-    check_settles (grid_in start.args.kind.now) _ _ start.args.v (omega (arith, small_pad start.args.kind.now _ start.requires.2 start.requires.3 start.args.v (start.requires.1 (omega (arith, start.requires.0, if2-left))))) c.if-board-ge-ENDED.false (apart_done start.args.kind.now _ start.requires.2 start.requires.3 start.args.v (start.requires.1 (omega (arith, start.requires.0, if2-left))) _ (width-says) _ (end-code-says) _ _ (loop-inv) (λ low. absurd (omega (arith, c.loop-side-test.false)))) c.if-board-ge-ENDED-2.false _ (settle_draws_down start.args.kind.now _ start.requires.2 (apart_ready start.args.kind.now _ start.requires.2 start.requires.3 start.args.v (start.requires.1 (omega (arith, start.requires.0, if2-left))) _ (width-says) _ (end-code-says) _ _ (loop-inv)) start.args.v (start.requires.1 (omega (arith, start.requires.0, if2-left))) _ (width-says) _ c.action-action.ensures.0 c.if-action-lt2.false c.if-action-ge-NONE_THERE.false _ refl c.if-action-eq0.false _ c.decide_line_down.ensures)
+    (slot-around-says.1, c.past_around-past.ensures.1, (λ z. rw c.past_around-past.ensures.0 (past_there start.args.kind.now _ start.requires.2 start.requires.3 start.args.v start.requires.0 _ (width-says) _ (end-code-says) _ _ (loop-inv) c.loop-side-test.true (rw slot-around-says.0 at z))), (apart_ready start.args.kind.now _ start.requires.2 start.requires.3 start.args.v start.requires.0 _ (width-says) _ (end-code-says) _ _ (loop-inv)).ends_long)
 
-pub corner_left-returns-then-board-ge-ENDED : goal.corner_left-returns-then-board-ge-ENDED
-corner_left-returns-then-board-ge-ENDED t c = done_ended (grid_in c.args.kind.now) 1 _ _ c.requires.4 c.if-board-ge-ENDED.true
+pub check_pad-decide_none-requires : goal.check_pad-decide_none-requires
+check_pad-decide_none-requires t c =
+    let start = c in
+    let width-says = c.width-w.ensures in
+    let end-code-says = c.end_code-code.ensures in
+    let loop-inv = c.loop-side.invariant in
+    (omega (arith, start.decreases, apart_fewer start.args.kind.now _ start.requires.2 start.requires.3 start.args.v start.requires.0 _ (width-says) _ (end-code-says) _ _ (loop-inv)), (c.slot_apart-slot.ensures.1, start.requires.2, apart_ready start.args.kind.now _ start.requires.2 start.requires.3 start.args.v start.requires.0 _ (width-says) _ (end-code-says) _ _ (loop-inv)))
 
-pub corner_left-returns-then-board-a-ne-LINE : goal.corner_left-returns-then-board-a-ne-LINE
-corner_left-returns-then-board-a-ne-LINE t c = let start = c in corner_off start.args.kind.now on_left _ start.requires.4 start.args.q start.args.a start.requires.0 c.if-board-ge-ENDED.false c.if-board-a-ne-LINE.true
+pub check_pad-loop-side-preserved : goal.check_pad-loop-side-preserved
+check_pad-loop-side-preserved t c =
+    let start = c in
+    let said = rw (c.slot_around-there.ensures.0, c.past_around-past.ensures.0) at c.slot_apart-slot.ensures.0 in
+    elim c.if-slot-ne0.branch [
+      | check_pad-then-slot-ne0 w ↦ rw w.board-is (apart_takes start.args.kind.now _ start.requires.2 start.requires.3 start.args.v start.requires.0 _ c.width-w.ensures _ c.end_code-code.ensures _ _ c.loop-side.invariant c.loop-side-test.true _ said w.if-slot-ne0.true _ w.decide_none.ensures)
+      | check_pad-else-slot-ne0 w ↦ rw w.board-is (apart_skips start.args.kind.now _ start.requires.2 start.requires.3 start.args.v start.requires.0 _ c.width-w.ensures _ c.end_code-code.ensures _ _ c.loop-side.invariant c.loop-side-test.true _ said w.if-slot-ne0.false)
+    ]
 
-pub corner_left-has-requires : goal.corner_left-has-requires
-corner_left-has-requires t c = (omega (arith, c.requires.1))
+pub check_pad-returns-then-board-ge-ENDED : goal.check_pad-returns-then-board-ge-ENDED
+check_pad-returns-then-board-ge-ENDED t c =
+    let start = c in
+    check_ends (grid_in start.args.kind.now) _ _ start.args.v (omega (arith, small_pad start.args.kind.now _ start.requires.2 start.requires.3 start.args.v start.requires.0)) start.requires.1 (apart_done start.args.kind.now _ start.requires.2 start.requires.3 start.args.v start.requires.0 _ c.width-w.ensures _ c.end_code-code.ensures _ _ c.loop-side.invariant (λ low. absurd (omega (arith, c.loop-side-test.false)))) c.if-board-ge-ENDED.true
 
-pub corner_left-returns-then-has : goal.corner_left-returns-then-has
-corner_left-returns-then-has t c = let start = c in corner_taken start.args.kind.now on_left _ start.requires.4 start.args.q start.args.a start.requires.0 c.if-board-ge-ENDED.false c.if-board-a-ne-LINE.false start.requires.3 (omega (arith, (start.requires.2 (slot_is_on (grid_in start.args.kind.now) _ start.requires.4 start.args.a start.requires.0 (omega (arith, c.if-board-a-ne-LINE.false)))), start.requires.4.few_pads)) (sym c.has.ensures ∙ c.if-has.true)
+pub check_pad-action-action-requires : goal.check_pad-action-action-requires
+check_pad-action-action-requires t c =
+    let start = c in
+    let width-says = c.width-w.ensures in
+    (small_pad start.args.kind.now _ start.requires.2 start.requires.3 start.args.v start.requires.0, omega (arith, start.requires.2.largest_width, width-says), (apart_ready start.args.kind.now _ start.requires.2 start.requires.3 start.args.v start.requires.0 _ (width-says) _ c.end_code-code.ensures _ _ c.loop-side.invariant).bytes, start.requires.2)
 
-pub corner_left-has-requires-2 : goal.corner_left-has-requires-2
-corner_left-has-requires-2 t c = (omega (arith, c.requires.1))
+pub check_pad-rest-board-requires : goal.check_pad-rest-board-requires
+check_pad-rest-board-requires t c = c.if-action-lt2.true
 
-pub corner_left-overflow_sub-q : goal.corner_left-overflow_sub-q
-corner_left-overflow_sub-q t c = let start = c in omega (arith, corner_not_first start.args.kind.now start.requires.3 start.args.q (start.requires.2 (slot_is_on (grid_in start.args.kind.now) _ start.requires.4 start.args.a start.requires.0 (omega (arith, c.if-board-a-ne-LINE.false)))) _ c.has-2.ensures c.if-has-2.true)
+pub check_pad-returns-then-action-lt2 : goal.check_pad-returns-then-action-lt2
+check_pad-returns-then-action-lt2 t c =
+    let start = c in
+    let width-says = c.width-w.ensures in
+    let end-code-says = c.end_code-code.ensures in
+    let loop-inv = c.loop-side.invariant in
+    check_settles (grid_in start.args.kind.now) _ _ start.args.v (omega (arith, small_pad start.args.kind.now _ start.requires.2 start.requires.3 start.args.v start.requires.0)) start.requires.1 (apart_done start.args.kind.now _ start.requires.2 start.requires.3 start.args.v start.requires.0 _ (width-says) _ (end-code-says) _ _ (loop-inv) (λ low. absurd (omega (arith, c.loop-side-test.false)))) c.if-board-ge-ENDED.false _ (settle_rests start.args.kind.now _ start.requires.2 (apart_ready start.args.kind.now _ start.requires.2 start.requires.3 start.args.v start.requires.0 _ (width-says) _ (end-code-says) _ _ (loop-inv)) start.args.v start.requires.0 _ (width-says) _ c.action-action.ensures.0 c.if-action-lt2.true _ c.rest-board.ensures)
 
-pub corner_left-decide_line_right-requires : goal.corner_left-decide_line_right-requires
-corner_left-decide_line_right-requires t c =
+pub check_pad-decide_none-requires-then-action-ge-NONE_THERE : goal.check_pad-decide_none-requires-then-action-ge-NONE_THERE
+check_pad-decide_none-requires-then-action-ge-NONE_THERE t c =
+    let start = c in
+    let width-says = c.width-w.ensures in
+    let end-code-says = c.end_code-code.ensures in
+    let loop-inv = c.loop-side.invariant in
+    ((omega (arith, start.decreases, apart_fewer start.args.kind.now _ start.requires.2 start.requires.3 start.args.v start.requires.0 _ (width-says) _ (end-code-says) _ _ (loop-inv))), (leave_there start.args.kind.now _ start.requires.2 (apart_ready start.args.kind.now _ start.requires.2 start.requires.3 start.args.v start.requires.0 _ (width-says) _ (end-code-says) _ _ (loop-inv)) start.args.v start.requires.0 _ (width-says) _ c.action-action.ensures.0 c.if-action-ge-NONE_THERE.true, start.requires.2, apart_ready start.args.kind.now _ start.requires.2 start.requires.3 start.args.v start.requires.0 _ (width-says) _ (end-code-says) _ _ (loop-inv)))
+
+pub check_pad-returns-then-action-ge-NONE_THERE : goal.check_pad-returns-then-action-ge-NONE_THERE
+check_pad-returns-then-action-ge-NONE_THERE t c =
+    let start = c in
+    let width-says = c.width-w.ensures in
+    let end-code-says = c.end_code-code.ensures in
+    let loop-inv = c.loop-side.invariant in
+    check_settles (grid_in start.args.kind.now) _ _ start.args.v (omega (arith, small_pad start.args.kind.now _ start.requires.2 start.requires.3 start.args.v start.requires.0)) start.requires.1 (apart_done start.args.kind.now _ start.requires.2 start.requires.3 start.args.v start.requires.0 _ (width-says) _ (end-code-says) _ _ (loop-inv) (λ low. absurd (omega (arith, c.loop-side-test.false)))) c.if-board-ge-ENDED.false _ (settle_leaves start.args.kind.now _ start.requires.2 (apart_ready start.args.kind.now _ start.requires.2 start.requires.3 start.args.v start.requires.0 _ (width-says) _ (end-code-says) _ _ (loop-inv)) start.args.v start.requires.0 _ (width-says) _ c.action-action.ensures.0 c.if-action-ge-NONE_THERE.true _ c.decide_none-then-action-ge-NONE_THERE.ensures)
+
+pub check_pad-overflow_sub-pad : goal.check_pad-overflow_sub-pad
+check_pad-overflow_sub-pad t c =
+    let start = c in
+    let width-says = c.width-w.ensures in
+    omega (arith, draw_high start.args.kind.now _ start.requires.2 (apart_ready start.args.kind.now _ start.requires.2 start.requires.3 start.args.v start.requires.0 _ (width-says) _ c.end_code-code.ensures _ _ c.loop-side.invariant) start.args.v start.requires.0 _ (width-says) _ c.action-action.ensures.0 c.if-action-lt2.false c.if-action-ge-NONE_THERE.false)
+
+pub check_pad-decide_line_right-requires : goal.check_pad-decide_line_right-requires
+check_pad-decide_line_right-requires t c =
+    let start = c in
+    let width-says = c.width-w.ensures in
+    let end-code-says = c.end_code-code.ensures in
+    let loop-inv = c.loop-side.invariant in
+    let action-says = c.action-action.ensures in
+    let if4-left = c.if-action-lt2.false in
+    let if5-left = c.if-action-ge-NONE_THERE.false in
+    ((omega (arith, start.decreases, apart_fewer start.args.kind.now _ start.requires.2 start.requires.3 start.args.v start.requires.0 _ (width-says) _ (end-code-says) _ _ (loop-inv))), (draw_right start.args.kind.now _ start.requires.2 (apart_ready start.args.kind.now _ start.requires.2 start.requires.3 start.args.v start.requires.0 _ (width-says) _ (end-code-says) _ _ (loop-inv)) start.args.v start.requires.0 _ (width-says) _ action-says.0 (if4-left) (if5-left) _ refl c.if-action-eq0.true, draw_small start.args.kind.now _ start.requires.2 (apart_ready start.args.kind.now _ start.requires.2 start.requires.3 start.args.v start.requires.0 _ (width-says) _ (end-code-says) _ _ (loop-inv)) start.args.v start.requires.0 _ (width-says) _ action-says.0 (if4-left) (if5-left) _ refl, start.requires.2, apart_ready start.args.kind.now _ start.requires.2 start.requires.3 start.args.v start.requires.0 _ (width-says) _ (end-code-says) _ _ (loop-inv)))
+
+pub check_pad-returns-then-action-eq0 : goal.check_pad-returns-then-action-eq0
+check_pad-returns-then-action-eq0 t c =
+    let start = c in
+    let width-says = c.width-w.ensures in
+    let end-code-says = c.end_code-code.ensures in
+    let loop-inv = c.loop-side.invariant in
+    check_settles (grid_in start.args.kind.now) _ _ start.args.v (omega (arith, small_pad start.args.kind.now _ start.requires.2 start.requires.3 start.args.v start.requires.0)) start.requires.1 (apart_done start.args.kind.now _ start.requires.2 start.requires.3 start.args.v start.requires.0 _ (width-says) _ (end-code-says) _ _ (loop-inv) (λ low. absurd (omega (arith, c.loop-side-test.false)))) c.if-board-ge-ENDED.false _ (settle_draws_right start.args.kind.now _ start.requires.2 (apart_ready start.args.kind.now _ start.requires.2 start.requires.3 start.args.v start.requires.0 _ (width-says) _ (end-code-says) _ _ (loop-inv)) start.args.v start.requires.0 _ (width-says) _ c.action-action.ensures.0 c.if-action-lt2.false c.if-action-ge-NONE_THERE.false _ refl c.if-action-eq0.true _ c.decide_line_right.ensures)
+
+pub check_pad-decide_line_down-requires : goal.check_pad-decide_line_down-requires
+check_pad-decide_line_down-requires t c =
+    let start = c in
+    let width-says = c.width-w.ensures in
+    let end-code-says = c.end_code-code.ensures in
+    let loop-inv = c.loop-side.invariant in
+    let action-says = c.action-action.ensures in
+    let if4-left = c.if-action-lt2.false in
+    let if5-left = c.if-action-ge-NONE_THERE.false in
+    ((omega (arith, start.decreases, apart_fewer start.args.kind.now _ start.requires.2 start.requires.3 start.args.v start.requires.0 _ (width-says) _ (end-code-says) _ _ (loop-inv))), (draw_down start.args.kind.now _ start.requires.2 (apart_ready start.args.kind.now _ start.requires.2 start.requires.3 start.args.v start.requires.0 _ (width-says) _ (end-code-says) _ _ (loop-inv)) start.args.v start.requires.0 _ (width-says) _ action-says.0 (if4-left) (if5-left) _ refl c.if-action-eq0.false, draw_small start.args.kind.now _ start.requires.2 (apart_ready start.args.kind.now _ start.requires.2 start.requires.3 start.args.v start.requires.0 _ (width-says) _ (end-code-says) _ _ (loop-inv)) start.args.v start.requires.0 _ (width-says) _ action-says.0 (if4-left) (if5-left) _ refl, start.requires.2, apart_ready start.args.kind.now _ start.requires.2 start.requires.3 start.args.v start.requires.0 _ (width-says) _ (end-code-says) _ _ (loop-inv)))
+
+pub check_pad-returns : goal.check_pad-returns
+check_pad-returns t c =
+    let start = c in
+    let width-says = c.width-w.ensures in
+    let end-code-says = c.end_code-code.ensures in
+    let loop-inv = c.loop-side.invariant in
+    check_settles (grid_in start.args.kind.now) _ _ start.args.v (omega (arith, small_pad start.args.kind.now _ start.requires.2 start.requires.3 start.args.v start.requires.0)) start.requires.1 (apart_done start.args.kind.now _ start.requires.2 start.requires.3 start.args.v start.requires.0 _ (width-says) _ (end-code-says) _ _ (loop-inv) (λ low. absurd (omega (arith, c.loop-side-test.false)))) c.if-board-ge-ENDED.false _ (settle_draws_down start.args.kind.now _ start.requires.2 (apart_ready start.args.kind.now _ start.requires.2 start.requires.3 start.args.v start.requires.0 _ (width-says) _ (end-code-says) _ _ (loop-inv)) start.args.v start.requires.0 _ (width-says) _ c.action-action.ensures.0 c.if-action-lt2.false c.if-action-ge-NONE_THERE.false _ refl c.if-action-eq0.false _ c.decide_line_down.ensures)
+
+pub corner-returns-then-board-ge-ENDED : goal.corner-returns-then-board-ge-ENDED
+corner-returns-then-board-ge-ENDED t c = done_ended (grid_in c.args.kind.now) 1 _ _ c.requires.4 c.if-board-ge-ENDED.true
+
+pub corner-returns-then-board-a-ne-LINE : goal.corner-returns-then-board-a-ne-LINE
+corner-returns-then-board-a-ne-LINE t c = let start = c in corner_off start.args.kind.now (side_of start.args.side) _ start.requires.4 start.args.q start.args.a start.requires.0 c.if-board-ge-ENDED.false c.if-board-a-ne-LINE.true
+
+pub corner-has-requires : goal.corner-has-requires
+corner-has-requires t c = (omega (arith, c.requires.1))
+
+pub corner-returns-then-has : goal.corner-returns-then-has
+corner-returns-then-has t c = let start = c in corner_taken start.args.kind.now (side_of start.args.side) _ start.requires.4 start.args.q start.args.a start.requires.0 c.if-board-ge-ENDED.false c.if-board-a-ne-LINE.false start.requires.3 (omega (arith, (start.requires.2 (slot_is_on (grid_in start.args.kind.now) _ start.requires.4 start.args.a start.requires.0 (omega (arith, c.if-board-a-ne-LINE.false)))), start.requires.4.few_pads)) (sym c.has.ensures ∙ c.if-has.true)
+
+pub corner-has-requires-2 : goal.corner-has-requires-2
+corner-has-requires-2 t c = (omega (arith, c.requires.1))
+
+pub corner-first_beside-requires : goal.corner-first_beside-requires
+corner-first_beside-requires t c =
+    let start = c in
+    let inside = start.requires.2 (slot_is_on (grid_in start.args.kind.now) _ start.requires.4 start.args.a start.requires.0 (omega (arith, c.if-board-a-ne-LINE.false))) in
+    corner_not_left start.args.kind.now start.requires.3 start.args.q inside _ (side_of start.args.side) (c.has-2.ensures ∙ ap (has_bit start.args.kind.now start.args.q) c.corner.ensures) c.if-has-2.true
+
+pub corner-decide_line_right-requires : goal.corner-decide_line_right-requires
+corner-decide_line_right-requires t c =
+    let start = c in
+    let inside = start.requires.2 (slot_is_on (grid_in start.args.kind.now) _ start.requires.4 start.args.a start.requires.0 (omega (arith, c.if-board-a-ne-LINE.false))) in
+    let there = corner_line start.args.kind.now start.requires.3 start.args.q inside _ (side_of start.args.side) (c.has-2.ensures ∙ ap (has_bit start.args.kind.now start.args.q) c.corner.ensures) c.if-has-2.true in
+    (omega (arith, start.decreases), (ap (on_board (grid_in start.args.kind.now)) c.first_beside.ensures.0 ∙ there, omega (arith, inside, c.first_beside.ensures.1, start.requires.4.few_pads), start.requires.3, start.requires.4))
+
+pub corner-decide_line_down-requires : goal.corner-decide_line_down-requires
+corner-decide_line_down-requires t c =
     let start = c in
     let if2-left = c.if-board-a-ne-LINE.false in
-    ((omega (arith, start.decreases)), (corner_line_left start.args.kind.now start.requires.3 start.args.q (start.requires.2 (slot_is_on (grid_in start.args.kind.now) _ start.requires.4 start.args.a start.requires.0 (omega (arith, if2-left)))) _ c.has-2.ensures c.if-has-2.true, (omega (arith, (start.requires.2 (slot_is_on (grid_in start.args.kind.now) _ start.requires.4 start.args.a start.requires.0 (omega (arith, if2-left)))), start.requires.4.few_pads)), start.requires.3, start.requires.4))
+    let d = c.decide_line_right.ensures in ((omega (arith, start.decreases, d.fewer)), (corner_down start.args.kind.now start.requires.3 start.args.q (start.requires.2 (slot_is_on (grid_in start.args.kind.now) _ start.requires.4 start.args.a start.requires.0 (omega (arith, if2-left)))) _ (side_of start.args.side) (c.has-2.ensures ∙ ap (has_bit start.args.kind.now start.args.q) c.corner.ensures) c.if-has-2.true, (omega (arith, (start.requires.2 (slot_is_on (grid_in start.args.kind.now) _ start.requires.4 start.args.a start.requires.0 (omega (arith, if2-left)))), start.requires.4.few_pads)), start.requires.3, rw c.go_on-board.ensures (recount_decided d)))
 
-pub corner_left-decide_line_down-requires : goal.corner_left-decide_line_down-requires
-corner_left-decide_line_down-requires t c =
+pub corner-returns-then-has-2 : goal.corner-returns-then-has-2
+corner-returns-then-has-2 t c =
     let start = c in
     let if2-left = c.if-board-a-ne-LINE.false in
-    let d = c.decide_line_right.ensures in ((omega (arith, start.decreases, d.fewer)), (corner_down start.args.kind.now start.requires.3 start.args.q (start.requires.2 (slot_is_on (grid_in start.args.kind.now) _ start.requires.4 start.args.a start.requires.0 (omega (arith, if2-left)))) _ on_left c.has-2.ensures c.if-has-2.true, (omega (arith, (start.requires.2 (slot_is_on (grid_in start.args.kind.now) _ start.requires.4 start.args.a start.requires.0 (omega (arith, if2-left)))), start.requires.4.few_pads)), start.requires.3, rw c.go_on-board.ensures (recount_decided d)))
+    rw c.go_on-board-then-has-2.ensures (corner_lines start.args.kind.now (side_of start.args.side) _ start.requires.4 start.args.q start.args.a start.requires.0 c.if-board-ge-ENDED.false (if2-left) start.requires.3 (omega (arith, (start.requires.2 (slot_is_on (grid_in start.args.kind.now) _ start.requires.4 start.args.a start.requires.0 (omega (arith, if2-left)))), start.requires.4.few_pads)) (sym c.has.ensures ∙ c.if-has.false) (corner_exists start.args.kind.now start.requires.3 start.args.q (start.requires.2 (slot_is_on (grid_in start.args.kind.now) _ start.requires.4 start.args.a start.requires.0 (omega (arith, if2-left)))) _ (side_of start.args.side) (c.has-2.ensures ∙ ap (has_bit start.args.kind.now start.args.q) c.corner.ensures) ∙ c.if-has-2.true) _ _ (rw c.first_beside.ensures.0 at c.decide_line_right.ensures) (rw c.go_on-board.ensures at c.decide_line_down.ensures))
 
-pub corner_left-returns-then-has-2 : goal.corner_left-returns-then-has-2
-corner_left-returns-then-has-2 t c =
+pub corner-returns : goal.corner-returns
+corner-returns t c =
     let start = c in
     let if2-left = c.if-board-a-ne-LINE.false in
-    rw c.go_on-board-then-has-2.ensures (corner_lines start.args.kind.now on_left _ start.requires.4 start.args.q start.args.a start.requires.0 c.if-board-ge-ENDED.false (if2-left) start.requires.3 (omega (arith, (start.requires.2 (slot_is_on (grid_in start.args.kind.now) _ start.requires.4 start.args.a start.requires.0 (omega (arith, if2-left)))), start.requires.4.few_pads)) (sym c.has.ensures ∙ c.if-has.false) (corner_exists start.args.kind.now start.requires.3 start.args.q (start.requires.2 (slot_is_on (grid_in start.args.kind.now) _ start.requires.4 start.args.a start.requires.0 (omega (arith, if2-left)))) _ on_left c.has-2.ensures ∙ c.if-has-2.true) _ _ c.decide_line_right.ensures (rw c.go_on-board.ensures at c.decide_line_down.ensures))
-
-pub corner_left-returns : goal.corner_left-returns
-corner_left-returns t c =
-    let start = c in
-    let if2-left = c.if-board-a-ne-LINE.false in
-    rw c.stop-board.ensures (corner_ends start.args.kind.now on_left _ start.requires.4 start.args.q start.args.a start.requires.0 c.if-board-ge-ENDED.false (if2-left) start.requires.3 (omega (arith, (start.requires.2 (slot_is_on (grid_in start.args.kind.now) _ start.requires.4 start.args.a start.requires.0 (omega (arith, if2-left)))), start.requires.4.few_pads)) (sym c.has.ensures ∙ c.if-has.false) (corner_exists start.args.kind.now start.requires.3 start.args.q (start.requires.2 (slot_is_on (grid_in start.args.kind.now) _ start.requires.4 start.args.a start.requires.0 (omega (arith, if2-left)))) _ on_left c.has-2.ensures ∙ c.if-has-2.false))
-
-pub corner_right-returns-then-board-ge-ENDED : goal.corner_right-returns-then-board-ge-ENDED
-corner_right-returns-then-board-ge-ENDED t c = done_ended (grid_in c.args.kind.now) 1 _ _ c.requires.4 c.if-board-ge-ENDED.true
-
-pub corner_right-returns-then-board-a-ne-LINE : goal.corner_right-returns-then-board-a-ne-LINE
-corner_right-returns-then-board-a-ne-LINE t c = let start = c in corner_off start.args.kind.now on_right _ start.requires.4 start.args.q start.args.a start.requires.0 c.if-board-ge-ENDED.false c.if-board-a-ne-LINE.true
-
-pub corner_right-has-requires : goal.corner_right-has-requires
-corner_right-has-requires t c = (omega (arith, c.requires.1))
-
-pub corner_right-returns-then-has : goal.corner_right-returns-then-has
-corner_right-returns-then-has t c = let start = c in corner_taken start.args.kind.now on_right _ start.requires.4 start.args.q start.args.a start.requires.0 c.if-board-ge-ENDED.false c.if-board-a-ne-LINE.false start.requires.3 (omega (arith, (start.requires.2 (slot_is_on (grid_in start.args.kind.now) _ start.requires.4 start.args.a start.requires.0 (omega (arith, c.if-board-a-ne-LINE.false)))), start.requires.4.few_pads)) (sym c.has.ensures ∙ c.if-has.true)
-
-pub corner_right-has-requires-2 : goal.corner_right-has-requires-2
-corner_right-has-requires-2 t c = (omega (arith, c.requires.1))
-
-pub corner_right-decide_line_right-requires : goal.corner_right-decide_line_right-requires
-corner_right-decide_line_right-requires t c =
-    let start = c in
-    let if2-left = c.if-board-a-ne-LINE.false in
-    ((omega (arith, start.decreases)), (corner_line_right start.args.kind.now start.requires.3 start.args.q (start.requires.2 (slot_is_on (grid_in start.args.kind.now) _ start.requires.4 start.args.a start.requires.0 (omega (arith, if2-left)))) _ c.has-2.ensures c.if-has-2.true, (omega (arith, (start.requires.2 (slot_is_on (grid_in start.args.kind.now) _ start.requires.4 start.args.a start.requires.0 (omega (arith, if2-left)))), start.requires.4.few_pads)), start.requires.3, start.requires.4))
-
-pub corner_right-decide_line_down-requires : goal.corner_right-decide_line_down-requires
-corner_right-decide_line_down-requires t c =
-    let start = c in
-    let if2-left = c.if-board-a-ne-LINE.false in
-    let d = c.decide_line_right.ensures in ((omega (arith, start.decreases, d.fewer)), (corner_down start.args.kind.now start.requires.3 start.args.q (start.requires.2 (slot_is_on (grid_in start.args.kind.now) _ start.requires.4 start.args.a start.requires.0 (omega (arith, if2-left)))) _ on_right c.has-2.ensures c.if-has-2.true, (omega (arith, (start.requires.2 (slot_is_on (grid_in start.args.kind.now) _ start.requires.4 start.args.a start.requires.0 (omega (arith, if2-left)))), start.requires.4.few_pads)), start.requires.3, rw c.go_on-board.ensures (recount_decided d)))
-
-pub corner_right-returns-then-has-2 : goal.corner_right-returns-then-has-2
-corner_right-returns-then-has-2 t c =
-    let start = c in
-    let if2-left = c.if-board-a-ne-LINE.false in
-    rw c.go_on-board-then-has-2.ensures (corner_lines start.args.kind.now on_right _ start.requires.4 start.args.q start.args.a start.requires.0 c.if-board-ge-ENDED.false (if2-left) start.requires.3 (omega (arith, (start.requires.2 (slot_is_on (grid_in start.args.kind.now) _ start.requires.4 start.args.a start.requires.0 (omega (arith, if2-left)))), start.requires.4.few_pads)) (sym c.has.ensures ∙ c.if-has.false) (corner_exists start.args.kind.now start.requires.3 start.args.q (start.requires.2 (slot_is_on (grid_in start.args.kind.now) _ start.requires.4 start.args.a start.requires.0 (omega (arith, if2-left)))) _ on_right c.has-2.ensures ∙ c.if-has-2.true) _ _ c.decide_line_right.ensures (rw c.go_on-board.ensures at c.decide_line_down.ensures))
-
-pub corner_right-returns : goal.corner_right-returns
-corner_right-returns t c =
-    let start = c in
-    let if2-left = c.if-board-a-ne-LINE.false in
-    rw c.stop-board.ensures (corner_ends start.args.kind.now on_right _ start.requires.4 start.args.q start.args.a start.requires.0 c.if-board-ge-ENDED.false (if2-left) start.requires.3 (omega (arith, (start.requires.2 (slot_is_on (grid_in start.args.kind.now) _ start.requires.4 start.args.a start.requires.0 (omega (arith, if2-left)))), start.requires.4.few_pads)) (sym c.has.ensures ∙ c.if-has.false) (corner_exists start.args.kind.now start.requires.3 start.args.q (start.requires.2 (slot_is_on (grid_in start.args.kind.now) _ start.requires.4 start.args.a start.requires.0 (omega (arith, if2-left)))) _ on_right c.has-2.ensures ∙ c.if-has-2.false))
+    rw c.stop-board.ensures (corner_ends start.args.kind.now (side_of start.args.side) _ start.requires.4 start.args.q start.args.a start.requires.0 c.if-board-ge-ENDED.false (if2-left) start.requires.3 (omega (arith, (start.requires.2 (slot_is_on (grid_in start.args.kind.now) _ start.requires.4 start.args.a start.requires.0 (omega (arith, if2-left)))), start.requires.4.few_pads)) (sym c.has.ensures ∙ c.if-has.false) (corner_exists start.args.kind.now start.requires.3 start.args.q (start.requires.2 (slot_is_on (grid_in start.args.kind.now) _ start.requires.4 start.args.a start.requires.0 (omega (arith, if2-left)))) _ (side_of start.args.side) (c.has-2.ensures ∙ ap (has_bit start.args.kind.now start.args.q) c.corner.ensures) ∙ c.if-has-2.false))
 
 pub decide_line_down-overflow_mul-slot : goal.decide_line_down-overflow_mul-slot
 decide_line_down-overflow_mul-slot t c = omega (arith, c.requires.1, c.requires.2.largest_width, c.requires.2.least_width)
@@ -395,33 +354,33 @@ decide_line_down-detour-requires-then-old-eq-UNDECIDED-5 t c =
     let slot-where2-says = c.slot_where-if_right.ensures in
     let st = line_is_stored start.args.kind.now _ (down start.args.v) start.requires.2 start.requires.3 start.requires.0 c.if-old-eq-UNDECIDED.true _ (ap (◌+◌ start.args.v) (width-says)) _ c.begin_line.ensures c.if-board-ge-ENDED.false in ((omega (arith, start.decreases, st.less, c.detour.ensures.fewer, c.detour-then-old-eq-UNDECIDED.ensures.fewer, c.detour-then-old-eq-UNDECIDED-2.ensures.fewer, c.detour-then-old-eq-UNDECIDED-3.ensures.fewer, detour5-says.fewer)), (picked_small start.args.kind.now start.requires.2 start.requires.3.few_pads start.args.v _ (width-says) start.requires.0 (has_bit start.args.kind.now start.args.v 8) _ (35 + 2 * start.args.v) (slot-where2-says) (omega (arith, start.requires.1, start.requires.2.largest_width, width-says)), (omega (arith, start.requires.1, start.requires.2.largest_width, width-says)), (omega (arith, start.requires.1, start.requires.2.largest_width, width-says)), (λ o. (same_on (down_if_right start.args.kind.now start.requires.2 start.requires.3.few_pads start.args.v _ (width-says) start.requires.0 _ (slot-where2-says)) (down_right start.args.kind.now start.requires.2 start.requires.3.few_pads start.args.v _ (width-says) start.requires.0) o, same_on (down_if_right start.args.kind.now start.requires.2 start.requires.3.few_pads start.args.v _ (width-says) start.requires.0 _ (slot-where2-says)) (down_right_below start.args.kind.now start.requires.2 start.requires.3.few_pads start.args.v _ (width-says) start.requires.0) o)), start.requires.2, detour5-says.ready))
 
-pub decide_line_down-corner_left-requires : goal.decide_line_down-corner_left-requires
-decide_line_down-corner_left-requires t c =
+pub decide_line_down-corner-requires : goal.decide_line_down-corner-requires
+decide_line_down-corner-requires t c =
     let start = c in
     let width-says = c.width-w.ensures in
     let detour6-says = c.detour-then-old-eq-UNDECIDED-5.ensures in
     let st = line_is_stored start.args.kind.now _ (down start.args.v) start.requires.2 start.requires.3 start.requires.0 c.if-old-eq-UNDECIDED.true _ (ap (◌+◌ start.args.v) (width-says)) _ c.begin_line.ensures c.if-board-ge-ENDED.false in ((omega (arith, start.decreases, st.less, c.detour.ensures.fewer, c.detour-then-old-eq-UNDECIDED.ensures.fewer, c.detour-then-old-eq-UNDECIDED-2.ensures.fewer, c.detour-then-old-eq-UNDECIDED-3.ensures.fewer, c.detour-then-old-eq-UNDECIDED-4.ensures.fewer, detour6-says.fewer)), ((omega (arith, start.requires.1, start.requires.2.largest_width, width-says)), (omega (arith, start.requires.1, start.requires.2.largest_width, width-says)), (λ o. down_left_corner start.args.kind.now start.requires.2 start.requires.3.few_pads start.args.v _ (width-says) start.requires.0 _ refl), start.requires.2, detour6-says.ready))
 
-pub decide_line_down-corner_right-requires : goal.decide_line_down-corner_right-requires
-decide_line_down-corner_right-requires t c =
+pub decide_line_down-corner-requires-then-old-eq-UNDECIDED : goal.decide_line_down-corner-requires-then-old-eq-UNDECIDED
+decide_line_down-corner-requires-then-old-eq-UNDECIDED t c =
     let start = c in
     let width-says = c.width-w.ensures in
-    let corner-left-says = c.corner_left.ensures in
+    let corner-left-says = c.corner.ensures in
     let st = line_is_stored start.args.kind.now _ (down start.args.v) start.requires.2 start.requires.3 start.requires.0 c.if-old-eq-UNDECIDED.true _ (ap (◌+◌ start.args.v) (width-says)) _ c.begin_line.ensures c.if-board-ge-ENDED.false in ((omega (arith, start.decreases, st.less, c.detour.ensures.fewer, c.detour-then-old-eq-UNDECIDED.ensures.fewer, c.detour-then-old-eq-UNDECIDED-2.ensures.fewer, c.detour-then-old-eq-UNDECIDED-3.ensures.fewer, c.detour-then-old-eq-UNDECIDED-4.ensures.fewer, c.detour-then-old-eq-UNDECIDED-5.ensures.fewer, corner-left-says.fewer)), ((omega (arith, start.requires.1, start.requires.2.largest_width, width-says)), (omega (arith, start.requires.1, start.requires.2.largest_width, width-says)), (λ o. down_right_corner start.args.kind.now start.requires.2 start.requires.3.few_pads start.args.v _ (width-says) start.requires.0 _ refl o), start.requires.2, corner-left-says.ready))
 
 pub decide_line_down-bar-requires : goal.decide_line_down-bar-requires
 decide_line_down-bar-requires t c =
     let start = c in
     let width-says = c.width-w.ensures in
-    let corner-right-says = c.corner_right.ensures in
-    let st = line_is_stored start.args.kind.now _ (down start.args.v) start.requires.2 start.requires.3 start.requires.0 c.if-old-eq-UNDECIDED.true _ (ap (◌+◌ start.args.v) (width-says)) _ c.begin_line.ensures c.if-board-ge-ENDED.false in ((omega (arith, start.decreases, st.less, c.detour.ensures.fewer, c.detour-then-old-eq-UNDECIDED.ensures.fewer, c.detour-then-old-eq-UNDECIDED-2.ensures.fewer, c.detour-then-old-eq-UNDECIDED-3.ensures.fewer, c.detour-then-old-eq-UNDECIDED-4.ensures.fewer, c.detour-then-old-eq-UNDECIDED-5.ensures.fewer, c.corner_left.ensures.fewer, corner-right-says.fewer)), ((omega (arith, start.requires.1, start.requires.2.largest_width, width-says)), (omega (arith, start.requires.1, start.requires.2.largest_width, width-says)), down_left_bar_on start.args.kind.now start.requires.2 start.requires.3.few_pads start.args.v _ (width-says) start.requires.0, start.requires.2, corner-right-says.ready))
+    let corner-right-says = c.corner-then-old-eq-UNDECIDED.ensures in
+    let st = line_is_stored start.args.kind.now _ (down start.args.v) start.requires.2 start.requires.3 start.requires.0 c.if-old-eq-UNDECIDED.true _ (ap (◌+◌ start.args.v) (width-says)) _ c.begin_line.ensures c.if-board-ge-ENDED.false in ((omega (arith, start.decreases, st.less, c.detour.ensures.fewer, c.detour-then-old-eq-UNDECIDED.ensures.fewer, c.detour-then-old-eq-UNDECIDED-2.ensures.fewer, c.detour-then-old-eq-UNDECIDED-3.ensures.fewer, c.detour-then-old-eq-UNDECIDED-4.ensures.fewer, c.detour-then-old-eq-UNDECIDED-5.ensures.fewer, c.corner.ensures.fewer, corner-right-says.fewer)), ((omega (arith, start.requires.1, start.requires.2.largest_width, width-says)), (omega (arith, start.requires.1, start.requires.2.largest_width, width-says)), down_left_bar_on start.args.kind.now start.requires.2 start.requires.3.few_pads start.args.v _ (width-says) start.requires.0, start.requires.2, corner-right-says.ready))
 
 pub decide_line_down-bar-requires-then-old-eq-UNDECIDED : goal.decide_line_down-bar-requires-then-old-eq-UNDECIDED
 decide_line_down-bar-requires-then-old-eq-UNDECIDED t c =
     let start = c in
     let width-says = c.width-w.ensures in
     let bar-says = c.bar.ensures in
-    let st = line_is_stored start.args.kind.now _ (down start.args.v) start.requires.2 start.requires.3 start.requires.0 c.if-old-eq-UNDECIDED.true _ (ap (◌+◌ start.args.v) (width-says)) _ c.begin_line.ensures c.if-board-ge-ENDED.false in ((omega (arith, start.decreases, st.less, c.detour.ensures.fewer, c.detour-then-old-eq-UNDECIDED.ensures.fewer, c.detour-then-old-eq-UNDECIDED-2.ensures.fewer, c.detour-then-old-eq-UNDECIDED-3.ensures.fewer, c.detour-then-old-eq-UNDECIDED-4.ensures.fewer, c.detour-then-old-eq-UNDECIDED-5.ensures.fewer, c.corner_left.ensures.fewer, c.corner_right.ensures.fewer, bar-says.fewer)), ((omega (arith, start.requires.1, start.requires.2.largest_width, width-says)), (omega (arith, start.requires.1, start.requires.2.largest_width, width-says)), down_right_bar_on start.args.kind.now start.requires.2 start.requires.3.few_pads start.args.v _ (width-says) start.requires.0, start.requires.2, bar-says.ready))
+    let st = line_is_stored start.args.kind.now _ (down start.args.v) start.requires.2 start.requires.3 start.requires.0 c.if-old-eq-UNDECIDED.true _ (ap (◌+◌ start.args.v) (width-says)) _ c.begin_line.ensures c.if-board-ge-ENDED.false in ((omega (arith, start.decreases, st.less, c.detour.ensures.fewer, c.detour-then-old-eq-UNDECIDED.ensures.fewer, c.detour-then-old-eq-UNDECIDED-2.ensures.fewer, c.detour-then-old-eq-UNDECIDED-3.ensures.fewer, c.detour-then-old-eq-UNDECIDED-4.ensures.fewer, c.detour-then-old-eq-UNDECIDED-5.ensures.fewer, c.corner.ensures.fewer, c.corner-then-old-eq-UNDECIDED.ensures.fewer, bar-says.fewer)), ((omega (arith, start.requires.1, start.requires.2.largest_width, width-says)), (omega (arith, start.requires.1, start.requires.2.largest_width, width-says)), down_right_bar_on start.args.kind.now start.requires.2 start.requires.3.few_pads start.args.v _ (width-says) start.requires.0, start.requires.2, bar-says.ready))
 
 pub decide_line_down-check-requires : goal.decide_line_down-check-requires
 decide_line_down-check-requires t c =
@@ -429,7 +388,7 @@ decide_line_down-check-requires t c =
     let if1-taken = c.if-old-eq-UNDECIDED.true in
     let width-says = c.width-w.ensures in
     let bar2-says = c.bar-then-old-eq-UNDECIDED.ensures in
-    let st = line_is_stored start.args.kind.now _ (down start.args.v) start.requires.2 start.requires.3 start.requires.0 (if1-taken) _ (ap (◌+◌ start.args.v) (width-says)) _ c.begin_line.ensures c.if-board-ge-ENDED.false in ((omega (arith, start.decreases, st.less, c.detour.ensures.fewer, c.detour-then-old-eq-UNDECIDED.ensures.fewer, c.detour-then-old-eq-UNDECIDED-2.ensures.fewer, c.detour-then-old-eq-UNDECIDED-3.ensures.fewer, c.detour-then-old-eq-UNDECIDED-4.ensures.fewer, c.detour-then-old-eq-UNDECIDED-5.ensures.fewer, c.corner_left.ensures.fewer, c.corner_right.ensures.fewer, c.bar.ensures.fewer, bar2-says.fewer)), ((omega (arith, (line_first start.args.kind.now _ (down start.args.v) start.requires.2 start.requires.3 start.requires.0 (if1-taken) _ (ap (◌+◌ start.args.v) (width-says))), start.requires.3.few_pads)), (λ h. (line_first start.args.kind.now _ (down start.args.v) start.requires.2 start.requires.3 start.requires.0 (if1-taken) _ (ap (◌+◌ start.args.v) (width-says)))), start.requires.2, bar2-says.ready))
+    let st = line_is_stored start.args.kind.now _ (down start.args.v) start.requires.2 start.requires.3 start.requires.0 (if1-taken) _ (ap (◌+◌ start.args.v) (width-says)) _ c.begin_line.ensures c.if-board-ge-ENDED.false in ((omega (arith, start.decreases, st.less, c.detour.ensures.fewer, c.detour-then-old-eq-UNDECIDED.ensures.fewer, c.detour-then-old-eq-UNDECIDED-2.ensures.fewer, c.detour-then-old-eq-UNDECIDED-3.ensures.fewer, c.detour-then-old-eq-UNDECIDED-4.ensures.fewer, c.detour-then-old-eq-UNDECIDED-5.ensures.fewer, c.corner.ensures.fewer, c.corner-then-old-eq-UNDECIDED.ensures.fewer, c.bar.ensures.fewer, bar2-says.fewer)), ((omega (arith, (line_first start.args.kind.now _ (down start.args.v) start.requires.2 start.requires.3 start.requires.0 (if1-taken) _ (ap (◌+◌ start.args.v) (width-says))), start.requires.3.few_pads)), (λ h. (line_first start.args.kind.now _ (down start.args.v) start.requires.2 start.requires.3 start.requires.0 (if1-taken) _ (ap (◌+◌ start.args.v) (width-says)))), start.requires.2, bar2-says.ready))
 
 pub decide_line_down-check-requires-then-old-eq-UNDECIDED : goal.decide_line_down-check-requires-then-old-eq-UNDECIDED
 decide_line_down-check-requires-then-old-eq-UNDECIDED t c =
@@ -437,7 +396,7 @@ decide_line_down-check-requires-then-old-eq-UNDECIDED t c =
     let if1-taken = c.if-old-eq-UNDECIDED.true in
     let width-says = c.width-w.ensures in
     let check-says = c.check.ensures in
-    let st = line_is_stored start.args.kind.now _ (down start.args.v) start.requires.2 start.requires.3 start.requires.0 (if1-taken) _ (ap (◌+◌ start.args.v) (width-says)) _ c.begin_line.ensures c.if-board-ge-ENDED.false in ((omega (arith, start.decreases, st.less, c.detour.ensures.fewer, c.detour-then-old-eq-UNDECIDED.ensures.fewer, c.detour-then-old-eq-UNDECIDED-2.ensures.fewer, c.detour-then-old-eq-UNDECIDED-3.ensures.fewer, c.detour-then-old-eq-UNDECIDED-4.ensures.fewer, c.detour-then-old-eq-UNDECIDED-5.ensures.fewer, c.corner_left.ensures.fewer, c.corner_right.ensures.fewer, c.bar.ensures.fewer, c.bar-then-old-eq-UNDECIDED.ensures.fewer, check-says.fewer)), ((omega (arith, (line_second start.args.kind.now _ (down start.args.v) start.requires.2 start.requires.3 start.requires.0 (if1-taken) _ (ap (◌+◌ start.args.v) (width-says))), start.requires.3.few_pads)), (λ h. (line_second start.args.kind.now _ (down start.args.v) start.requires.2 start.requires.3 start.requires.0 (if1-taken) _ (ap (◌+◌ start.args.v) (width-says)))), start.requires.2, check-says.ready))
+    let st = line_is_stored start.args.kind.now _ (down start.args.v) start.requires.2 start.requires.3 start.requires.0 (if1-taken) _ (ap (◌+◌ start.args.v) (width-says)) _ c.begin_line.ensures c.if-board-ge-ENDED.false in ((omega (arith, start.decreases, st.less, c.detour.ensures.fewer, c.detour-then-old-eq-UNDECIDED.ensures.fewer, c.detour-then-old-eq-UNDECIDED-2.ensures.fewer, c.detour-then-old-eq-UNDECIDED-3.ensures.fewer, c.detour-then-old-eq-UNDECIDED-4.ensures.fewer, c.detour-then-old-eq-UNDECIDED-5.ensures.fewer, c.corner.ensures.fewer, c.corner-then-old-eq-UNDECIDED.ensures.fewer, c.bar.ensures.fewer, c.bar-then-old-eq-UNDECIDED.ensures.fewer, check-says.fewer)), ((omega (arith, (line_second start.args.kind.now _ (down start.args.v) start.requires.2 start.requires.3 start.requires.0 (if1-taken) _ (ap (◌+◌ start.args.v) (width-says))), start.requires.3.few_pads)), (λ h. (line_second start.args.kind.now _ (down start.args.v) start.requires.2 start.requires.3 start.requires.0 (if1-taken) _ (ap (◌+◌ start.args.v) (width-says)))), start.requires.2, check-says.ready))
 
 pub decide_line_down-check-requires-then-old-eq-UNDECIDED-2 : goal.decide_line_down-check-requires-then-old-eq-UNDECIDED-2
 decide_line_down-check-requires-then-old-eq-UNDECIDED-2 t c =
@@ -446,7 +405,7 @@ decide_line_down-check-requires-then-old-eq-UNDECIDED-2 t c =
     let width-says = c.width-w.ensures in
     let check2-says = c.check-then-old-eq-UNDECIDED.ensures in
     let end-pad-says = c.end_pad-a.ensures in
-    let st = line_is_stored start.args.kind.now _ (down start.args.v) start.requires.2 start.requires.3 start.requires.0 (if1-taken) _ (ap (◌+◌ start.args.v) (width-says)) _ c.begin_line.ensures c.if-board-ge-ENDED.false in ((omega (arith, start.decreases, st.less, c.detour.ensures.fewer, c.detour-then-old-eq-UNDECIDED.ensures.fewer, c.detour-then-old-eq-UNDECIDED-2.ensures.fewer, c.detour-then-old-eq-UNDECIDED-3.ensures.fewer, c.detour-then-old-eq-UNDECIDED-4.ensures.fewer, c.detour-then-old-eq-UNDECIDED-5.ensures.fewer, c.corner_left.ensures.fewer, c.corner_right.ensures.fewer, c.bar.ensures.fewer, c.bar-then-old-eq-UNDECIDED.ensures.fewer, c.check.ensures.fewer, check2-says.fewer)), ((line_end start.args.kind.now _ (down start.args.v) start.requires.2 start.requires.3 start.requires.0 (if1-taken) _ (ap (◌+◌ start.args.v) (width-says)) start.args.v (line_first start.args.kind.now _ (down start.args.v) start.requires.2 start.requires.3 start.requires.0 (if1-taken) _ (ap (◌+◌ start.args.v) (width-says))) _ (end-pad-says)).0, (line_end start.args.kind.now _ (down start.args.v) start.requires.2 start.requires.3 start.requires.0 (if1-taken) _ (ap (◌+◌ start.args.v) (width-says)) start.args.v (line_first start.args.kind.now _ (down start.args.v) start.requires.2 start.requires.3 start.requires.0 (if1-taken) _ (ap (◌+◌ start.args.v) (width-says))) _ (end-pad-says)).1, start.requires.2, check2-says.ready))
+    let st = line_is_stored start.args.kind.now _ (down start.args.v) start.requires.2 start.requires.3 start.requires.0 (if1-taken) _ (ap (◌+◌ start.args.v) (width-says)) _ c.begin_line.ensures c.if-board-ge-ENDED.false in ((omega (arith, start.decreases, st.less, c.detour.ensures.fewer, c.detour-then-old-eq-UNDECIDED.ensures.fewer, c.detour-then-old-eq-UNDECIDED-2.ensures.fewer, c.detour-then-old-eq-UNDECIDED-3.ensures.fewer, c.detour-then-old-eq-UNDECIDED-4.ensures.fewer, c.detour-then-old-eq-UNDECIDED-5.ensures.fewer, c.corner.ensures.fewer, c.corner-then-old-eq-UNDECIDED.ensures.fewer, c.bar.ensures.fewer, c.bar-then-old-eq-UNDECIDED.ensures.fewer, c.check.ensures.fewer, check2-says.fewer)), ((line_end start.args.kind.now _ (down start.args.v) start.requires.2 start.requires.3 start.requires.0 (if1-taken) _ (ap (◌+◌ start.args.v) (width-says)) start.args.v (line_first start.args.kind.now _ (down start.args.v) start.requires.2 start.requires.3 start.requires.0 (if1-taken) _ (ap (◌+◌ start.args.v) (width-says))) _ (end-pad-says)).0, (line_end start.args.kind.now _ (down start.args.v) start.requires.2 start.requires.3 start.requires.0 (if1-taken) _ (ap (◌+◌ start.args.v) (width-says)) start.args.v (line_first start.args.kind.now _ (down start.args.v) start.requires.2 start.requires.3 start.requires.0 (if1-taken) _ (ap (◌+◌ start.args.v) (width-says))) _ (end-pad-says)).1, start.requires.2, check2-says.ready))
 
 pub decide_line_down-check-requires-then-old-eq-UNDECIDED-3 : goal.decide_line_down-check-requires-then-old-eq-UNDECIDED-3
 decide_line_down-check-requires-then-old-eq-UNDECIDED-3 t c =
@@ -455,13 +414,13 @@ decide_line_down-check-requires-then-old-eq-UNDECIDED-3 t c =
     let width-says = c.width-w.ensures in
     let check3-says = c.check-then-old-eq-UNDECIDED-2.ensures in
     let end-pad2-says = c.end_pad-b.ensures in
-    let st = line_is_stored start.args.kind.now _ (down start.args.v) start.requires.2 start.requires.3 start.requires.0 (if1-taken) _ (ap (◌+◌ start.args.v) (width-says)) _ c.begin_line.ensures c.if-board-ge-ENDED.false in ((omega (arith, start.decreases, st.less, c.detour.ensures.fewer, c.detour-then-old-eq-UNDECIDED.ensures.fewer, c.detour-then-old-eq-UNDECIDED-2.ensures.fewer, c.detour-then-old-eq-UNDECIDED-3.ensures.fewer, c.detour-then-old-eq-UNDECIDED-4.ensures.fewer, c.detour-then-old-eq-UNDECIDED-5.ensures.fewer, c.corner_left.ensures.fewer, c.corner_right.ensures.fewer, c.bar.ensures.fewer, c.bar-then-old-eq-UNDECIDED.ensures.fewer, c.check.ensures.fewer, c.check-then-old-eq-UNDECIDED.ensures.fewer, check3-says.fewer)), ((line_end start.args.kind.now _ (down start.args.v) start.requires.2 start.requires.3 start.requires.0 (if1-taken) _ (ap (◌+◌ start.args.v) (width-says)) _ (line_second start.args.kind.now _ (down start.args.v) start.requires.2 start.requires.3 start.requires.0 (if1-taken) _ (ap (◌+◌ start.args.v) (width-says))) _ (end-pad2-says)).0, (line_end start.args.kind.now _ (down start.args.v) start.requires.2 start.requires.3 start.requires.0 (if1-taken) _ (ap (◌+◌ start.args.v) (width-says)) _ (line_second start.args.kind.now _ (down start.args.v) start.requires.2 start.requires.3 start.requires.0 (if1-taken) _ (ap (◌+◌ start.args.v) (width-says))) _ (end-pad2-says)).1, start.requires.2, check3-says.ready))
+    let st = line_is_stored start.args.kind.now _ (down start.args.v) start.requires.2 start.requires.3 start.requires.0 (if1-taken) _ (ap (◌+◌ start.args.v) (width-says)) _ c.begin_line.ensures c.if-board-ge-ENDED.false in ((omega (arith, start.decreases, st.less, c.detour.ensures.fewer, c.detour-then-old-eq-UNDECIDED.ensures.fewer, c.detour-then-old-eq-UNDECIDED-2.ensures.fewer, c.detour-then-old-eq-UNDECIDED-3.ensures.fewer, c.detour-then-old-eq-UNDECIDED-4.ensures.fewer, c.detour-then-old-eq-UNDECIDED-5.ensures.fewer, c.corner.ensures.fewer, c.corner-then-old-eq-UNDECIDED.ensures.fewer, c.bar.ensures.fewer, c.bar-then-old-eq-UNDECIDED.ensures.fewer, c.check.ensures.fewer, c.check-then-old-eq-UNDECIDED.ensures.fewer, check3-says.fewer)), ((line_end start.args.kind.now _ (down start.args.v) start.requires.2 start.requires.3 start.requires.0 (if1-taken) _ (ap (◌+◌ start.args.v) (width-says)) _ (line_second start.args.kind.now _ (down start.args.v) start.requires.2 start.requires.3 start.requires.0 (if1-taken) _ (ap (◌+◌ start.args.v) (width-says))) _ (end-pad2-says)).0, (line_end start.args.kind.now _ (down start.args.v) start.requires.2 start.requires.3 start.requires.0 (if1-taken) _ (ap (◌+◌ start.args.v) (width-says)) _ (line_second start.args.kind.now _ (down start.args.v) start.requires.2 start.requires.3 start.requires.0 (if1-taken) _ (ap (◌+◌ start.args.v) (width-says))) _ (end-pad2-says)).1, start.requires.2, check3-says.ready))
 
 pub decide_line_down-returns-then-old-eq-UNDECIDED : goal.decide_line_down-returns-then-old-eq-UNDECIDED
 decide_line_down-returns-then-old-eq-UNDECIDED t c =
     let start = c in
     let width-says = c.width-w.ensures in
-    line_returns start.args.kind.now _ (down start.args.v) start.requires.2 start.requires.3 start.requires.0 c.if-old-eq-UNDECIDED.true _ (ap (◌+◌ start.args.v) (width-says)) _ c.begin_line.ensures c.if-board-ge-ENDED.false _ _ c.end_pad-a.ensures c.end_pad-b.ensures _ (down_done start.args.kind.now start.requires.2 start.requires.3.few_pads start.args.v _ (width-says) start.requires.0 _ _ c.slot_where-if_left.ensures c.slot_where-if_right.ensures _ (done_then (grid_in start.args.kind.now) c.detour.ensures (done_then (grid_in start.args.kind.now) c.detour-then-old-eq-UNDECIDED.ensures (done_then (grid_in start.args.kind.now) c.detour-then-old-eq-UNDECIDED-2.ensures (done_then (grid_in start.args.kind.now) c.detour-then-old-eq-UNDECIDED-3.ensures (done_then (grid_in start.args.kind.now) c.detour-then-old-eq-UNDECIDED-4.ensures (done_then (grid_in start.args.kind.now) c.detour-then-old-eq-UNDECIDED-5.ensures (done_then (grid_in start.args.kind.now) c.corner_left.ensures (done_then (grid_in start.args.kind.now) c.corner_right.ensures (done_then (grid_in start.args.kind.now) c.bar.ensures (done_then (grid_in start.args.kind.now) c.bar-then-old-eq-UNDECIDED.ensures (done_then (grid_in start.args.kind.now) c.check.ensures (done_then (grid_in start.args.kind.now) c.check-then-old-eq-UNDECIDED.ensures (done_then (grid_in start.args.kind.now) c.check-then-old-eq-UNDECIDED-2.ensures c.check-then-old-eq-UNDECIDED-3.ensures)))))))))))))) _ c.end-board.ensures
+    line_returns start.args.kind.now _ (down start.args.v) start.requires.2 start.requires.3 start.requires.0 c.if-old-eq-UNDECIDED.true _ (ap (◌+◌ start.args.v) (width-says)) _ c.begin_line.ensures c.if-board-ge-ENDED.false _ _ c.end_pad-a.ensures c.end_pad-b.ensures _ (down_done start.args.kind.now start.requires.2 start.requires.3.few_pads start.args.v _ (width-says) start.requires.0 _ _ c.slot_where-if_left.ensures c.slot_where-if_right.ensures _ (done_then (grid_in start.args.kind.now) c.detour.ensures (done_then (grid_in start.args.kind.now) c.detour-then-old-eq-UNDECIDED.ensures (done_then (grid_in start.args.kind.now) c.detour-then-old-eq-UNDECIDED-2.ensures (done_then (grid_in start.args.kind.now) c.detour-then-old-eq-UNDECIDED-3.ensures (done_then (grid_in start.args.kind.now) c.detour-then-old-eq-UNDECIDED-4.ensures (done_then (grid_in start.args.kind.now) c.detour-then-old-eq-UNDECIDED-5.ensures (done_then (grid_in start.args.kind.now) c.corner.ensures (done_then (grid_in start.args.kind.now) c.corner-then-old-eq-UNDECIDED.ensures (done_then (grid_in start.args.kind.now) c.bar.ensures (done_then (grid_in start.args.kind.now) c.bar-then-old-eq-UNDECIDED.ensures (done_then (grid_in start.args.kind.now) c.check.ensures (done_then (grid_in start.args.kind.now) c.check-then-old-eq-UNDECIDED.ensures (done_then (grid_in start.args.kind.now) c.check-then-old-eq-UNDECIDED-2.ensures c.check-then-old-eq-UNDECIDED-3.ensures)))))))))))))) _ c.end-board.ensures
 
 pub decide_line_down-returns-then-old-eq-LINE : goal.decide_line_down-returns-then-old-eq-LINE
 decide_line_down-returns-then-old-eq-LINE t c = let start = c in line_again start.args.kind.now _ (down start.args.v) start.requires.2 start.requires.3 start.requires.0 c.if-old-eq-LINE.true _ c.end-board-then-old-eq-LINE.ensures
@@ -606,47 +565,47 @@ decide_line_right-detour-requires-then-old-eq-UNDECIDED-5 t c =
     let width-says = c.width-w.ensures in
     let st = line_is_stored start.args.kind.now _ (right start.args.v) start.requires.2 start.requires.3 start.requires.0 c.if-old-eq-UNDECIDED.true _ refl _ c.begin_line.ensures c.if-board-ge-ENDED.false in ((omega (arith, start.decreases, st.less, c.detour.ensures.fewer, c.detour-then-old-eq-UNDECIDED.ensures.fewer, c.detour-then-old-eq-UNDECIDED-2.ensures.fewer, c.detour-then-old-eq-UNDECIDED-3.ensures.fewer, detour5-says.fewer)), ((omega (arith, start.requires.1, start.requires.2.largest_width, width-says)), (omega (arith, start.requires.1, start.requires.2.largest_width, width-says)), (omega (arith, start.requires.1, start.requires.2.largest_width, width-says)), (λ o. (same_on (right_below start.args.kind.now start.requires.2 start.requires.3.few_pads start.args.v _ (width-says) start.requires.0) (right_left start.args.kind.now start.requires.2 start.requires.3.few_pads start.args.v _ (width-says) start.requires.0) o, same_on (right_below start.args.kind.now start.requires.2 start.requires.3.few_pads start.args.v _ (width-says) start.requires.0) (right_right start.args.kind.now start.requires.2 start.requires.3.few_pads start.args.v _ (width-says) start.requires.0) o)), start.requires.2, detour5-says.ready))
 
-pub decide_line_right-corner_right-requires : goal.decide_line_right-corner_right-requires
-decide_line_right-corner_right-requires t c =
+pub decide_line_right-corner-requires : goal.decide_line_right-corner-requires
+decide_line_right-corner-requires t c =
     let start = c in
     let detour6-says = c.detour-then-old-eq-UNDECIDED-5.ensures in
     let width-says = c.width-w.ensures in
     let st = line_is_stored start.args.kind.now _ (right start.args.v) start.requires.2 start.requires.3 start.requires.0 c.if-old-eq-UNDECIDED.true _ refl _ c.begin_line.ensures c.if-board-ge-ENDED.false in ((omega (arith, start.decreases, st.less, c.detour.ensures.fewer, c.detour-then-old-eq-UNDECIDED.ensures.fewer, c.detour-then-old-eq-UNDECIDED-2.ensures.fewer, c.detour-then-old-eq-UNDECIDED-3.ensures.fewer, c.detour-then-old-eq-UNDECIDED-4.ensures.fewer, detour6-says.fewer)), ((omega (arith, start.requires.1, start.requires.2.largest_width, width-says)), (omega (arith, start.requires.1, start.requires.2.largest_width, width-says)), (λ o. right_corner start.args.kind.now start.requires.2 start.requires.3.few_pads start.args.v _ (width-says) start.requires.0 _ refl o), start.requires.2, detour6-says.ready))
 
-pub decide_line_right-corner_left-requires : goal.decide_line_right-corner_left-requires
-decide_line_right-corner_left-requires t c =
+pub decide_line_right-corner-requires-then-old-eq-UNDECIDED : goal.decide_line_right-corner-requires-then-old-eq-UNDECIDED
+decide_line_right-corner-requires-then-old-eq-UNDECIDED t c =
     let start = c in
-    let corner-right-says = c.corner_right.ensures in
+    let corner-right-says = c.corner.ensures in
     let width-says = c.width-w.ensures in
     let st = line_is_stored start.args.kind.now _ (right start.args.v) start.requires.2 start.requires.3 start.requires.0 c.if-old-eq-UNDECIDED.true _ refl _ c.begin_line.ensures c.if-board-ge-ENDED.false in ((omega (arith, start.decreases, st.less, c.detour.ensures.fewer, c.detour-then-old-eq-UNDECIDED.ensures.fewer, c.detour-then-old-eq-UNDECIDED-2.ensures.fewer, c.detour-then-old-eq-UNDECIDED-3.ensures.fewer, c.detour-then-old-eq-UNDECIDED-4.ensures.fewer, c.detour-then-old-eq-UNDECIDED-5.ensures.fewer, corner-right-says.fewer)), ((omega (arith, start.requires.1, start.requires.2.largest_width, width-says)), (omega (arith, start.requires.1, start.requires.2.largest_width, width-says)), (λ o. left_corner start.args.kind.now start.requires.2 start.requires.3.few_pads start.args.v _ (width-says) start.requires.0 _ refl o), start.requires.2, corner-right-says.ready))
 
 pub decide_line_right-bar-requires : goal.decide_line_right-bar-requires
 decide_line_right-bar-requires t c =
     let start = c in
-    let corner-left-says = c.corner_left.ensures in
+    let corner-left-says = c.corner-then-old-eq-UNDECIDED.ensures in
     let width-says = c.width-w.ensures in
-    let st = line_is_stored start.args.kind.now _ (right start.args.v) start.requires.2 start.requires.3 start.requires.0 c.if-old-eq-UNDECIDED.true _ refl _ c.begin_line.ensures c.if-board-ge-ENDED.false in ((omega (arith, start.decreases, st.less, c.detour.ensures.fewer, c.detour-then-old-eq-UNDECIDED.ensures.fewer, c.detour-then-old-eq-UNDECIDED-2.ensures.fewer, c.detour-then-old-eq-UNDECIDED-3.ensures.fewer, c.detour-then-old-eq-UNDECIDED-4.ensures.fewer, c.detour-then-old-eq-UNDECIDED-5.ensures.fewer, c.corner_right.ensures.fewer, corner-left-says.fewer)), ((omega (arith, start.requires.1, start.requires.2.largest_width, width-says)), (omega (arith, start.requires.1, start.requires.2.largest_width, width-says)), right_bar_on start.args.kind.now start.requires.2 start.requires.3.few_pads start.args.v _ (width-says) start.requires.0, start.requires.2, corner-left-says.ready))
+    let st = line_is_stored start.args.kind.now _ (right start.args.v) start.requires.2 start.requires.3 start.requires.0 c.if-old-eq-UNDECIDED.true _ refl _ c.begin_line.ensures c.if-board-ge-ENDED.false in ((omega (arith, start.decreases, st.less, c.detour.ensures.fewer, c.detour-then-old-eq-UNDECIDED.ensures.fewer, c.detour-then-old-eq-UNDECIDED-2.ensures.fewer, c.detour-then-old-eq-UNDECIDED-3.ensures.fewer, c.detour-then-old-eq-UNDECIDED-4.ensures.fewer, c.detour-then-old-eq-UNDECIDED-5.ensures.fewer, c.corner.ensures.fewer, corner-left-says.fewer)), ((omega (arith, start.requires.1, start.requires.2.largest_width, width-says)), (omega (arith, start.requires.1, start.requires.2.largest_width, width-says)), right_bar_on start.args.kind.now start.requires.2 start.requires.3.few_pads start.args.v _ (width-says) start.requires.0, start.requires.2, corner-left-says.ready))
 
 pub decide_line_right-bar-requires-then-old-eq-UNDECIDED : goal.decide_line_right-bar-requires-then-old-eq-UNDECIDED
 decide_line_right-bar-requires-then-old-eq-UNDECIDED t c =
     let start = c in
     let bar-says = c.bar.ensures in
     let width-says = c.width-w.ensures in
-    let st = line_is_stored start.args.kind.now _ (right start.args.v) start.requires.2 start.requires.3 start.requires.0 c.if-old-eq-UNDECIDED.true _ refl _ c.begin_line.ensures c.if-board-ge-ENDED.false in ((omega (arith, start.decreases, st.less, c.detour.ensures.fewer, c.detour-then-old-eq-UNDECIDED.ensures.fewer, c.detour-then-old-eq-UNDECIDED-2.ensures.fewer, c.detour-then-old-eq-UNDECIDED-3.ensures.fewer, c.detour-then-old-eq-UNDECIDED-4.ensures.fewer, c.detour-then-old-eq-UNDECIDED-5.ensures.fewer, c.corner_right.ensures.fewer, c.corner_left.ensures.fewer, bar-says.fewer)), ((omega (arith, start.requires.1, start.requires.2.largest_width, width-says)), (omega (arith, start.requires.1, start.requires.2.largest_width, width-says)), left_bar_on start.args.kind.now start.requires.2 start.requires.3.few_pads start.args.v _ (width-says) start.requires.0, start.requires.2, bar-says.ready))
+    let st = line_is_stored start.args.kind.now _ (right start.args.v) start.requires.2 start.requires.3 start.requires.0 c.if-old-eq-UNDECIDED.true _ refl _ c.begin_line.ensures c.if-board-ge-ENDED.false in ((omega (arith, start.decreases, st.less, c.detour.ensures.fewer, c.detour-then-old-eq-UNDECIDED.ensures.fewer, c.detour-then-old-eq-UNDECIDED-2.ensures.fewer, c.detour-then-old-eq-UNDECIDED-3.ensures.fewer, c.detour-then-old-eq-UNDECIDED-4.ensures.fewer, c.detour-then-old-eq-UNDECIDED-5.ensures.fewer, c.corner.ensures.fewer, c.corner-then-old-eq-UNDECIDED.ensures.fewer, bar-says.fewer)), ((omega (arith, start.requires.1, start.requires.2.largest_width, width-says)), (omega (arith, start.requires.1, start.requires.2.largest_width, width-says)), left_bar_on start.args.kind.now start.requires.2 start.requires.3.few_pads start.args.v _ (width-says) start.requires.0, start.requires.2, bar-says.ready))
 
 pub decide_line_right-check-requires : goal.decide_line_right-check-requires
 decide_line_right-check-requires t c =
     let start = c in
     let if1-taken = c.if-old-eq-UNDECIDED.true in
     let bar2-says = c.bar-then-old-eq-UNDECIDED.ensures in
-    let st = line_is_stored start.args.kind.now _ (right start.args.v) start.requires.2 start.requires.3 start.requires.0 (if1-taken) _ refl _ c.begin_line.ensures c.if-board-ge-ENDED.false in ((omega (arith, start.decreases, st.less, c.detour.ensures.fewer, c.detour-then-old-eq-UNDECIDED.ensures.fewer, c.detour-then-old-eq-UNDECIDED-2.ensures.fewer, c.detour-then-old-eq-UNDECIDED-3.ensures.fewer, c.detour-then-old-eq-UNDECIDED-4.ensures.fewer, c.detour-then-old-eq-UNDECIDED-5.ensures.fewer, c.corner_right.ensures.fewer, c.corner_left.ensures.fewer, c.bar.ensures.fewer, bar2-says.fewer)), ((omega (arith, (line_first start.args.kind.now _ (right start.args.v) start.requires.2 start.requires.3 start.requires.0 (if1-taken) _ refl), start.requires.3.few_pads)), (λ h. (line_first start.args.kind.now _ (right start.args.v) start.requires.2 start.requires.3 start.requires.0 (if1-taken) _ refl)), start.requires.2, bar2-says.ready))
+    let st = line_is_stored start.args.kind.now _ (right start.args.v) start.requires.2 start.requires.3 start.requires.0 (if1-taken) _ refl _ c.begin_line.ensures c.if-board-ge-ENDED.false in ((omega (arith, start.decreases, st.less, c.detour.ensures.fewer, c.detour-then-old-eq-UNDECIDED.ensures.fewer, c.detour-then-old-eq-UNDECIDED-2.ensures.fewer, c.detour-then-old-eq-UNDECIDED-3.ensures.fewer, c.detour-then-old-eq-UNDECIDED-4.ensures.fewer, c.detour-then-old-eq-UNDECIDED-5.ensures.fewer, c.corner.ensures.fewer, c.corner-then-old-eq-UNDECIDED.ensures.fewer, c.bar.ensures.fewer, bar2-says.fewer)), ((omega (arith, (line_first start.args.kind.now _ (right start.args.v) start.requires.2 start.requires.3 start.requires.0 (if1-taken) _ refl), start.requires.3.few_pads)), (λ h. (line_first start.args.kind.now _ (right start.args.v) start.requires.2 start.requires.3 start.requires.0 (if1-taken) _ refl)), start.requires.2, bar2-says.ready))
 
 pub decide_line_right-check-requires-then-old-eq-UNDECIDED : goal.decide_line_right-check-requires-then-old-eq-UNDECIDED
 decide_line_right-check-requires-then-old-eq-UNDECIDED t c =
     let start = c in
     let if1-taken = c.if-old-eq-UNDECIDED.true in
     let check-says = c.check.ensures in
-    let st = line_is_stored start.args.kind.now _ (right start.args.v) start.requires.2 start.requires.3 start.requires.0 (if1-taken) _ refl _ c.begin_line.ensures c.if-board-ge-ENDED.false in ((omega (arith, start.decreases, st.less, c.detour.ensures.fewer, c.detour-then-old-eq-UNDECIDED.ensures.fewer, c.detour-then-old-eq-UNDECIDED-2.ensures.fewer, c.detour-then-old-eq-UNDECIDED-3.ensures.fewer, c.detour-then-old-eq-UNDECIDED-4.ensures.fewer, c.detour-then-old-eq-UNDECIDED-5.ensures.fewer, c.corner_right.ensures.fewer, c.corner_left.ensures.fewer, c.bar.ensures.fewer, c.bar-then-old-eq-UNDECIDED.ensures.fewer, check-says.fewer)), ((omega (arith, (line_second start.args.kind.now _ (right start.args.v) start.requires.2 start.requires.3 start.requires.0 (if1-taken) _ refl), start.requires.3.few_pads)), (λ h. (line_second start.args.kind.now _ (right start.args.v) start.requires.2 start.requires.3 start.requires.0 (if1-taken) _ refl)), start.requires.2, check-says.ready))
+    let st = line_is_stored start.args.kind.now _ (right start.args.v) start.requires.2 start.requires.3 start.requires.0 (if1-taken) _ refl _ c.begin_line.ensures c.if-board-ge-ENDED.false in ((omega (arith, start.decreases, st.less, c.detour.ensures.fewer, c.detour-then-old-eq-UNDECIDED.ensures.fewer, c.detour-then-old-eq-UNDECIDED-2.ensures.fewer, c.detour-then-old-eq-UNDECIDED-3.ensures.fewer, c.detour-then-old-eq-UNDECIDED-4.ensures.fewer, c.detour-then-old-eq-UNDECIDED-5.ensures.fewer, c.corner.ensures.fewer, c.corner-then-old-eq-UNDECIDED.ensures.fewer, c.bar.ensures.fewer, c.bar-then-old-eq-UNDECIDED.ensures.fewer, check-says.fewer)), ((omega (arith, (line_second start.args.kind.now _ (right start.args.v) start.requires.2 start.requires.3 start.requires.0 (if1-taken) _ refl), start.requires.3.few_pads)), (λ h. (line_second start.args.kind.now _ (right start.args.v) start.requires.2 start.requires.3 start.requires.0 (if1-taken) _ refl)), start.requires.2, check-says.ready))
 
 pub decide_line_right-check-requires-then-old-eq-UNDECIDED-2 : goal.decide_line_right-check-requires-then-old-eq-UNDECIDED-2
 decide_line_right-check-requires-then-old-eq-UNDECIDED-2 t c =
@@ -654,7 +613,7 @@ decide_line_right-check-requires-then-old-eq-UNDECIDED-2 t c =
     let if1-taken = c.if-old-eq-UNDECIDED.true in
     let check2-says = c.check-then-old-eq-UNDECIDED.ensures in
     let end-pad-says = c.end_pad-a.ensures in
-    let st = line_is_stored start.args.kind.now _ (right start.args.v) start.requires.2 start.requires.3 start.requires.0 (if1-taken) _ refl _ c.begin_line.ensures c.if-board-ge-ENDED.false in ((omega (arith, start.decreases, st.less, c.detour.ensures.fewer, c.detour-then-old-eq-UNDECIDED.ensures.fewer, c.detour-then-old-eq-UNDECIDED-2.ensures.fewer, c.detour-then-old-eq-UNDECIDED-3.ensures.fewer, c.detour-then-old-eq-UNDECIDED-4.ensures.fewer, c.detour-then-old-eq-UNDECIDED-5.ensures.fewer, c.corner_right.ensures.fewer, c.corner_left.ensures.fewer, c.bar.ensures.fewer, c.bar-then-old-eq-UNDECIDED.ensures.fewer, c.check.ensures.fewer, check2-says.fewer)), ((line_end start.args.kind.now _ (right start.args.v) start.requires.2 start.requires.3 start.requires.0 (if1-taken) _ refl start.args.v (line_first start.args.kind.now _ (right start.args.v) start.requires.2 start.requires.3 start.requires.0 (if1-taken) _ refl) _ (end-pad-says)).0, (line_end start.args.kind.now _ (right start.args.v) start.requires.2 start.requires.3 start.requires.0 (if1-taken) _ refl start.args.v (line_first start.args.kind.now _ (right start.args.v) start.requires.2 start.requires.3 start.requires.0 (if1-taken) _ refl) _ (end-pad-says)).1, start.requires.2, check2-says.ready))
+    let st = line_is_stored start.args.kind.now _ (right start.args.v) start.requires.2 start.requires.3 start.requires.0 (if1-taken) _ refl _ c.begin_line.ensures c.if-board-ge-ENDED.false in ((omega (arith, start.decreases, st.less, c.detour.ensures.fewer, c.detour-then-old-eq-UNDECIDED.ensures.fewer, c.detour-then-old-eq-UNDECIDED-2.ensures.fewer, c.detour-then-old-eq-UNDECIDED-3.ensures.fewer, c.detour-then-old-eq-UNDECIDED-4.ensures.fewer, c.detour-then-old-eq-UNDECIDED-5.ensures.fewer, c.corner.ensures.fewer, c.corner-then-old-eq-UNDECIDED.ensures.fewer, c.bar.ensures.fewer, c.bar-then-old-eq-UNDECIDED.ensures.fewer, c.check.ensures.fewer, check2-says.fewer)), ((line_end start.args.kind.now _ (right start.args.v) start.requires.2 start.requires.3 start.requires.0 (if1-taken) _ refl start.args.v (line_first start.args.kind.now _ (right start.args.v) start.requires.2 start.requires.3 start.requires.0 (if1-taken) _ refl) _ (end-pad-says)).0, (line_end start.args.kind.now _ (right start.args.v) start.requires.2 start.requires.3 start.requires.0 (if1-taken) _ refl start.args.v (line_first start.args.kind.now _ (right start.args.v) start.requires.2 start.requires.3 start.requires.0 (if1-taken) _ refl) _ (end-pad-says)).1, start.requires.2, check2-says.ready))
 
 pub decide_line_right-check-requires-then-old-eq-UNDECIDED-3 : goal.decide_line_right-check-requires-then-old-eq-UNDECIDED-3
 decide_line_right-check-requires-then-old-eq-UNDECIDED-3 t c =
@@ -662,10 +621,10 @@ decide_line_right-check-requires-then-old-eq-UNDECIDED-3 t c =
     let if1-taken = c.if-old-eq-UNDECIDED.true in
     let check3-says = c.check-then-old-eq-UNDECIDED-2.ensures in
     let end-pad2-says = c.end_pad-b.ensures in
-    let st = line_is_stored start.args.kind.now _ (right start.args.v) start.requires.2 start.requires.3 start.requires.0 (if1-taken) _ refl _ c.begin_line.ensures c.if-board-ge-ENDED.false in ((omega (arith, start.decreases, st.less, c.detour.ensures.fewer, c.detour-then-old-eq-UNDECIDED.ensures.fewer, c.detour-then-old-eq-UNDECIDED-2.ensures.fewer, c.detour-then-old-eq-UNDECIDED-3.ensures.fewer, c.detour-then-old-eq-UNDECIDED-4.ensures.fewer, c.detour-then-old-eq-UNDECIDED-5.ensures.fewer, c.corner_right.ensures.fewer, c.corner_left.ensures.fewer, c.bar.ensures.fewer, c.bar-then-old-eq-UNDECIDED.ensures.fewer, c.check.ensures.fewer, c.check-then-old-eq-UNDECIDED.ensures.fewer, check3-says.fewer)), ((line_end start.args.kind.now _ (right start.args.v) start.requires.2 start.requires.3 start.requires.0 (if1-taken) _ refl _ (line_second start.args.kind.now _ (right start.args.v) start.requires.2 start.requires.3 start.requires.0 (if1-taken) _ refl) _ (end-pad2-says)).0, (line_end start.args.kind.now _ (right start.args.v) start.requires.2 start.requires.3 start.requires.0 (if1-taken) _ refl _ (line_second start.args.kind.now _ (right start.args.v) start.requires.2 start.requires.3 start.requires.0 (if1-taken) _ refl) _ (end-pad2-says)).1, start.requires.2, check3-says.ready))
+    let st = line_is_stored start.args.kind.now _ (right start.args.v) start.requires.2 start.requires.3 start.requires.0 (if1-taken) _ refl _ c.begin_line.ensures c.if-board-ge-ENDED.false in ((omega (arith, start.decreases, st.less, c.detour.ensures.fewer, c.detour-then-old-eq-UNDECIDED.ensures.fewer, c.detour-then-old-eq-UNDECIDED-2.ensures.fewer, c.detour-then-old-eq-UNDECIDED-3.ensures.fewer, c.detour-then-old-eq-UNDECIDED-4.ensures.fewer, c.detour-then-old-eq-UNDECIDED-5.ensures.fewer, c.corner.ensures.fewer, c.corner-then-old-eq-UNDECIDED.ensures.fewer, c.bar.ensures.fewer, c.bar-then-old-eq-UNDECIDED.ensures.fewer, c.check.ensures.fewer, c.check-then-old-eq-UNDECIDED.ensures.fewer, check3-says.fewer)), ((line_end start.args.kind.now _ (right start.args.v) start.requires.2 start.requires.3 start.requires.0 (if1-taken) _ refl _ (line_second start.args.kind.now _ (right start.args.v) start.requires.2 start.requires.3 start.requires.0 (if1-taken) _ refl) _ (end-pad2-says)).0, (line_end start.args.kind.now _ (right start.args.v) start.requires.2 start.requires.3 start.requires.0 (if1-taken) _ refl _ (line_second start.args.kind.now _ (right start.args.v) start.requires.2 start.requires.3 start.requires.0 (if1-taken) _ refl) _ (end-pad2-says)).1, start.requires.2, check3-says.ready))
 
 pub decide_line_right-returns-then-old-eq-UNDECIDED : goal.decide_line_right-returns-then-old-eq-UNDECIDED
-decide_line_right-returns-then-old-eq-UNDECIDED t c = let start = c in line_returns start.args.kind.now _ (right start.args.v) start.requires.2 start.requires.3 start.requires.0 c.if-old-eq-UNDECIDED.true _ refl _ c.begin_line.ensures c.if-board-ge-ENDED.false _ _ c.end_pad-a.ensures c.end_pad-b.ensures _ (right_done start.args.kind.now start.requires.2 start.requires.3.few_pads start.args.v _ c.width-w.ensures start.requires.0 _ (done_then (grid_in start.args.kind.now) c.detour.ensures (done_then (grid_in start.args.kind.now) c.detour-then-old-eq-UNDECIDED.ensures (done_then (grid_in start.args.kind.now) c.detour-then-old-eq-UNDECIDED-2.ensures (done_then (grid_in start.args.kind.now) c.detour-then-old-eq-UNDECIDED-3.ensures (done_then (grid_in start.args.kind.now) c.detour-then-old-eq-UNDECIDED-4.ensures (done_then (grid_in start.args.kind.now) c.detour-then-old-eq-UNDECIDED-5.ensures (done_then (grid_in start.args.kind.now) c.corner_right.ensures (done_then (grid_in start.args.kind.now) c.corner_left.ensures (done_then (grid_in start.args.kind.now) c.bar.ensures (done_then (grid_in start.args.kind.now) c.bar-then-old-eq-UNDECIDED.ensures (done_then (grid_in start.args.kind.now) c.check.ensures (done_then (grid_in start.args.kind.now) c.check-then-old-eq-UNDECIDED.ensures (done_then (grid_in start.args.kind.now) c.check-then-old-eq-UNDECIDED-2.ensures c.check-then-old-eq-UNDECIDED-3.ensures)))))))))))))) _ c.end-board.ensures
+decide_line_right-returns-then-old-eq-UNDECIDED t c = let start = c in line_returns start.args.kind.now _ (right start.args.v) start.requires.2 start.requires.3 start.requires.0 c.if-old-eq-UNDECIDED.true _ refl _ c.begin_line.ensures c.if-board-ge-ENDED.false _ _ c.end_pad-a.ensures c.end_pad-b.ensures _ (right_done start.args.kind.now start.requires.2 start.requires.3.few_pads start.args.v _ c.width-w.ensures start.requires.0 _ (done_then (grid_in start.args.kind.now) c.detour.ensures (done_then (grid_in start.args.kind.now) c.detour-then-old-eq-UNDECIDED.ensures (done_then (grid_in start.args.kind.now) c.detour-then-old-eq-UNDECIDED-2.ensures (done_then (grid_in start.args.kind.now) c.detour-then-old-eq-UNDECIDED-3.ensures (done_then (grid_in start.args.kind.now) c.detour-then-old-eq-UNDECIDED-4.ensures (done_then (grid_in start.args.kind.now) c.detour-then-old-eq-UNDECIDED-5.ensures (done_then (grid_in start.args.kind.now) c.corner.ensures (done_then (grid_in start.args.kind.now) c.corner-then-old-eq-UNDECIDED.ensures (done_then (grid_in start.args.kind.now) c.bar.ensures (done_then (grid_in start.args.kind.now) c.bar-then-old-eq-UNDECIDED.ensures (done_then (grid_in start.args.kind.now) c.check.ensures (done_then (grid_in start.args.kind.now) c.check-then-old-eq-UNDECIDED.ensures (done_then (grid_in start.args.kind.now) c.check-then-old-eq-UNDECIDED-2.ensures c.check-then-old-eq-UNDECIDED-3.ensures)))))))))))))) _ c.end-board.ensures
 
 pub decide_line_right-returns-then-old-eq-LINE : goal.decide_line_right-returns-then-old-eq-LINE
 decide_line_right-returns-then-old-eq-LINE t c = let start = c in line_again start.args.kind.now _ (right start.args.v) start.requires.2 start.requires.3 start.requires.0 c.if-old-eq-LINE.true _ c.end-board-then-old-eq-LINE.ensures
@@ -683,7 +642,7 @@ pub decide_none-second_pad-q-requires : goal.decide_none-second_pad-q-requires
 decide_none-second_pad-q-requires t c = let start = c in (none_high start.args.kind.now _ start.args.slot start.requires.0 start.requires.1 start.requires.2 c.if-state-eq-UNDECIDED.true, start.requires.0, rw c.width.ensures start.requires.1.largest_width)
 
 pub decide_none-overflow_add-board : goal.decide_none-overflow_add-board
-decide_none-overflow_add-board t c = let start = c in omega (arith, c.go_on.ensures, ap (λ (s : Arrays). going s.count) c.store.ensures, (going_count start.args.board.now.count start.requires.2.mode).1)
+decide_none-overflow_add-board t c = let start = c in omega (arith, c.go_on.ensures, (going_count start.args.board.now.count start.requires.2.mode).1)
 
 pub decide_none-check-requires : goal.decide_none-check-requires
 decide_none-check-requires t c =

@@ -1,35 +1,32 @@
 -- The functions of the cycle meet their contracts: each path through the code does the items that the contract names, and the number falls.
 use Rattle.boardview.specs.View.{undecided_in}
 use Rattle.boardview.specs.Cycle.{Apart}
-use Prim.Native.Nat.{◌+◌, ◌*◌, ◌-◌}
+use Prim.Native.Nat.{◌+◌, ◌*◌}
 use Rattle.decision.proofs.+deciding.Given as goal
 
 abbrev pub decreases-bar : goal.decreases-bar
-decreases-bar l = 2 * undecided_in l.board.now.edges + 1
+decreases-bar l = 3 * undecided_in l.board.now.edges + 1
 
 abbrev pub decreases-check : goal.decreases-check
-decreases-check l = 2 * undecided_in l.board.now.edges + 1
+decreases-check l = 3 * undecided_in l.board.now.edges + 2
 
-abbrev pub decreases-corner_left : goal.decreases-corner_left
-decreases-corner_left l = 2 * undecided_in l.board.now.edges + 1
+abbrev pub decreases-check_pad : goal.decreases-check_pad
+decreases-check_pad l = 3 * undecided_in l.board.now.edges + 1
 
-abbrev pub decreases-corner_right : goal.decreases-corner_right
-decreases-corner_right l = 2 * undecided_in l.board.now.edges + 1
+abbrev pub decreases-corner : goal.decreases-corner
+decreases-corner l = 3 * undecided_in l.board.now.edges + 1
 
 abbrev pub decreases-decide_line_down : goal.decreases-decide_line_down
-decreases-decide_line_down l = 2 * undecided_in l.board.now.edges
+decreases-decide_line_down l = 3 * undecided_in l.board.now.edges
 
 abbrev pub decreases-decide_line_right : goal.decreases-decide_line_right
-decreases-decide_line_right l = 2 * undecided_in l.board.now.edges
+decreases-decide_line_right l = 3 * undecided_in l.board.now.edges
 
 abbrev pub decreases-decide_none : goal.decreases-decide_none
-decreases-decide_none l = 2 * undecided_in l.board.now.edges
+decreases-decide_none l = 3 * undecided_in l.board.now.edges
 
 abbrev pub decreases-detour : goal.decreases-detour
-decreases-detour l = 2 * undecided_in l.board.now.edges + 1
+decreases-detour l = 3 * undecided_in l.board.now.edges + 1
 
-abbrev pub invariant-check-loop-side : goal.invariant-check-loop-side
-invariant-check-loop-side l = Apart l.kind l.initial.board l.v l.w l.code l.side l.board
-
-abbrev pub decreases-check-loop-side : goal.decreases-check-loop-side
-decreases-check-loop-side l = 4 - l.side
+abbrev pub invariant-check_pad-loop-side : goal.invariant-check_pad-loop-side
+invariant-check_pad-loop-side l = Apart l.kind l.initial.board l.v l.w l.code l.side l.board

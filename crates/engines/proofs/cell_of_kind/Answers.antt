@@ -3,17 +3,17 @@ use Rattle.engines.specs.Kinds.{cell_of_kind}
 use Rattle.engines.specs.KindLaws.{cell_code}
 use mathlib.Core.Path.{refl, ◌∙◌}
 use mir.Syntax.{w64}
-use mir.ValLaws.{to_z_pos}
+use mir.ValLaws.{to_z-of_z}
 use native.Mathlib.Omega.{arith}
 use Rattle.engines.proofs.cell_of_kind.Goals as goal
 
-pub returns-then-kind-eq0 : goal.returns-then-kind-eq0
+pub returns-in-0 : goal.returns-in-0
 unfolding cell_of_kind
-returns-then-kind-eq0 c = rw c.if-kind-eq0.true refl
+returns-in-0 c = rw c.in-0.is refl
 
-pub returns-then-kind-eq1 : goal.returns-then-kind-eq1
+pub returns-in-1 : goal.returns-in-1
 unfolding cell_of_kind
-returns-then-kind-eq1 c = rw c.if-kind-eq1.true refl
+returns-in-1 c = rw c.in-1.is refl
 
-pub returns : goal.returns
-returns c = to_z_pos w64 _ (omega (arith, c.ranges.kind)) ∙ cell_code _ c.if-kind-eq0.false c.if-kind-eq1.false
+pub returns-in_default : goal.returns-in_default
+returns-in_default c = to_z-of_z w64 _ (record { sfits = c.from.type_inv }) ∙ c.from.ensures ∙ cell_code _ (omega arith) (omega arith)

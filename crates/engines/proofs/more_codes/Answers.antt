@@ -1,13 +1,17 @@
--- `engines::more_codes` meets its contract. Assumes nothing.
+-- `engines::more_codes` meets its contract: it is the larger of two numbers. Assumes nothing.
+use Rattle.engines.specs.Kinds.{more_codes}
 use Rattle.engines.specs.KindLaws.{more_same, more_grown}
+use Prim.Native.Nat.{ℕ, ◌-◌, max}
+use mathlib.Core.Path.{◌≡◌, ◌∙◌}
+use Rattle.std.proofs.Math.Decide.{dec_le}
 use native.Mathlib.Omega.{arith}
 use Rattle.engines.proofs.more_codes.Goals as goal
 
-pub returns-then-kind-lt2 : goal.returns-then-kind-lt2
-returns-then-kind-lt2 c = more_same _ _ (omega arith)
-
-pub returns-then-codes-kind : goal.returns-then-codes-kind
-returns-then-codes-kind c = more_grown _ _ c.if-codes-kind.true
+larger : (codes kind : ℕ) → max codes (kind - 1) ≡ more_codes codes kind
+larger codes kind = elim (dec_le (kind - 1) codes) [
+  | yes h ↦ let e : max codes (kind - 1) ≡ codes = omega arith in e ∙ more_same codes kind h
+  | no h ↦ let e : max codes (kind - 1) ≡ kind - 1 = omega arith in e ∙ more_grown codes kind (omega arith)
+]
 
 pub returns : goal.returns
-returns c = more_same _ _ c.if-codes-kind.false
+returns c = rw (c.max.ensures, c.saturating_sub.ensures) (larger _ _)

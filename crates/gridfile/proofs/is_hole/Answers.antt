@@ -1,13 +1,9 @@
 -- `gridfile::is_hole` meets its contract: past the end stands no sign. Assumes nothing.
 use mathlib.Core.Path.{refl}
-use native.Mathlib.Omega.{arith}
 use borrow.Author.Tests.{le-ltb}
 use Rattle.model.specs.GridFile.{is_hole_sign}
 use Rattle.gridfile.proofs.FieldLaws.{no_sign_past}
 use Rattle.gridfile.proofs.is_hole.Goals as goal
-
-pub bounds-bytes-at : goal.bounds-bytes-at
-bounds-bytes-at c = omega arith
 
 pub returns-then-at-bytes : goal.returns-then-at-bytes
 unfolding is_hole_sign

@@ -1,5 +1,5 @@
 -- `gridfile::put_cell` meets its contract: nothing for a blank pad, the sign of a hole, else the digits of the code. Assumes nothing.
-use Rattle.gridfile.proofs.WriteLaws.{a_blank, a_hole, a_code, its_digits}
+use Rattle.gridfile.proofs.WriteLaws.{a_blank, a_hole, its_digits}
 use Rattle.text.specs.PutLaws.{put_none, put_same}
 use lib.ListN.{length}
 use mathlib.Core.Path.{refl, sym, ap}
@@ -16,9 +16,6 @@ put_byte-requires c = omega (arith, ap (λ (l : List ℕ). length l) (a_hole _ c
 
 pub returns-then-cell-lt0 : goal.returns-then-cell-lt0
 returns-then-cell-lt0 c = put_same (sym (a_hole _ c.ranges.cell c.if-cell-eq-BLANK.false c.if-cell-lt0.true)) c.put_byte.ensures
-
-pub overflow_cast-cell : goal.overflow_cast-cell
-overflow_cast-cell c = a_code _ c.ranges.cell c.if-cell-lt0.false
 
 pub put_decimal-requires : goal.put_decimal-requires
 put_decimal-requires c = omega (arith, ap (λ (l : List ℕ). length l) (its_digits _ c.ranges.cell c.if-cell-lt0.false), c.requires)

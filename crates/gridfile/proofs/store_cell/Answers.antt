@@ -7,27 +7,6 @@ use Rattle.model.specs.GridFile.{blank, hole}
 use Rattle.reading.specs.FieldSteps.{cell_of}
 use Rattle.gridfile.proofs.store_cell.Goals as goal
 
-pub offset_bounds-cells-index : goal.offset_bounds-cells-index
-offset_bounds-cells-index c = omega arith
-
-pub bounds-cells-index : goal.bounds-cells-index
-bounds-cells-index c = omega arith
-
-pub offset_bounds-cells-index-then-digits-eq0 : goal.offset_bounds-cells-index-then-digits-eq0
-offset_bounds-cells-index-then-digits-eq0 c = omega arith
-
-pub bounds-cells-index-then-digits-eq0 : goal.bounds-cells-index-then-digits-eq0
-bounds-cells-index-then-digits-eq0 c = omega arith
-
-pub overflow_cast-cells : goal.overflow_cast-cells
-overflow_cast-cells c = record { sfits = omega arith }
-
-pub offset_bounds-cells-index-else-digits-eq0 : goal.offset_bounds-cells-index-else-digits-eq0
-offset_bounds-cells-index-else-digits-eq0 c = omega arith
-
-pub bounds-cells-index-else-digits-eq0 : goal.bounds-cells-index-else-digits-eq0
-bounds-cells-index-else-digits-eq0 c = omega arith
-
 pub returns-then-hole : goal.returns-then-hole
 unfolding hole cell_of
 returns-then-hole c = rw c.if-hole.true

@@ -2,7 +2,6 @@
 use Rattle.gridfile.proofs.WriteLaws.{refused, not_refused_grid, text_fits, too_short, long_within, copied}
 use lib.Seq.{length-take-le}
 use mathlib.Core.Path.{sym}
-use native.Mathlib.Omega.{arith}
 use Rattle.gridfile.proofs.write.Goals as goal
 
 pub returns-then-number-ne0 : goal.returns-then-number-ne0
@@ -19,9 +18,6 @@ slice_bounds-whole-end c = long_within _ _ _ (not_refused_grid _ _ _ _ _ c.grid_
 
 pub slice_bounds-put_word-end : goal.slice_bounds-put_word-end
 slice_bounds-put_word-end c = sym (length-take-le _ _ (long_within _ _ _ (not_refused_grid _ _ _ _ _ c.grid_refusal-refusal.ensures c.if-number-ne0.false) c.put_grid-length.ensures (text_fits _ _ _ (not_refused_grid _ _ _ _ _ c.grid_refusal-refusal.ensures c.if-number-ne0.false)).1))
-
-pub put_word-requires : goal.put_word-requires
-put_word-requires c = rw (length-take-le _ _ (long_within _ _ _ (not_refused_grid _ _ _ _ _ c.grid_refusal-refusal.ensures c.if-number-ne0.false) c.put_grid-length.ensures (text_fits _ _ _ (not_refused_grid _ _ _ _ _ c.grid_refusal-refusal.ensures c.if-number-ne0.false)).1)) (omega (arith, c.if-buffer-length.false))
 
 pub returns : goal.returns
 returns c = copied _ _ _ (not_refused_grid _ _ _ _ _ c.grid_refusal-refusal.ensures c.if-number-ne0.false) c.put_grid-length.ensures (text_fits _ _ _ (not_refused_grid _ _ _ _ _ c.grid_refusal-refusal.ensures c.if-number-ne0.false)).1 c.if-buffer-length.false c.put_word.ensures

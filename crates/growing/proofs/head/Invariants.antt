@@ -5,7 +5,7 @@ use Rattle.growing.proofs.LoopLaws.{Kept}
 use Rattle.growing.proofs.head.Given as goal
 
 abbrev pub invariant-loop-head : goal.invariant-loop-head
-invariant-loop-head l = Kept l.file l.limit l.initial.buffer l.initial.reached l.initial.head l.buffer l.reached l.head
+invariant-loop-head g l = Kept l.file l.limit l.initial.buffer l.initial.reached l.initial.head l.buffer l.reached l.head
 
 abbrev pub decreases-loop-head : goal.decreases-loop-head
-decreases-loop-head l = l.limit - l.reached
+decreases-loop-head g l = l.limit - l.reached

@@ -1,59 +1,38 @@
 -- `growing::limit_of` meets its contract. The loop keeps `Passed`: the bytes before this one are digits, and their value is a limit.
 -- Assumes nothing.
-use mathlib.Core.Path.{sym, ◌∙◌}
-use borrow.Author.Tests.{not-true, not-false}
+use mathlib.Core.Path.{sym, ap, ◌∙◌}
+use mathlib.Core.Bool.{not}
+use borrow.Author.Tests.{not-true, not-false, eqb-true}
+use Rattle.std.proofs.lemmas.Bool.{eqb-false}
 use native.Mathlib.Omega.{arith}
 use Rattle.reading.specs.FieldSteps.{digit_bounds}
 use Rattle.model.proofs.LimitLaws.{too_long}
 use Rattle.growing.proofs.ReadLaws.{none_passed, one_passed, all_passed, no_digit, too_large, no_text}
-use mathlib.Core.Path.{ap}
-use mathlib.Core.Bool.{not}
 use Rattle.growing.proofs.limit_of.Goals as goal
+use Rattle.growing.proofs.limit_of.Goals.{then-is_empty-via-then-is_empty, then-is_empty-via-else-is_empty+then-text-gt-MOST_DIGITS}
 
-pub returns-then-text-eq0 : goal.returns-then-text-eq0
-returns-then-text-eq0 c = sym (no_text _ c.if-text-eq0.true)
+pub returns-then-is_empty : goal.returns-then-is_empty
+returns-then-is_empty c = elim c.then-is_empty.branch [ then-is_empty-via-then-is_empty w ↦ sym (no_text _ (eqb-true _ _ (sym c.is_empty.ensures ∙ w.if-is_empty.true))) | then-is_empty-via-else-is_empty+then-text-gt-MOST_DIGITS w ↦ sym (too_long _ w.if-text-gt-MOST_DIGITS.true) ]
 
-pub returns-then-text-gt-MOST_DIGITS : goal.returns-then-text-gt-MOST_DIGITS
-returns-then-text-gt-MOST_DIGITS c = sym (too_long _ c.if-text-gt-MOST_DIGITS.true)
-
-pub loop-at-init : goal.loop-at-init
-loop-at-init c = none_passed _
-
-pub bounds-text-at : goal.bounds-text-at
-bounds-text-at c = omega arith
-
-pub is_digit-requires : goal.is_digit-requires
-is_digit-requires c = tt
+pub loop-byte-init : goal.loop-byte-init
+loop-byte-init c = none_passed _
 
 pub returns-then-not-is_digit : goal.returns-then-not-is_digit
-returns-then-not-is_digit c = sym (no_digit _ _ _ c.loop-at.invariant c.loop-at-test.true (sym c.is_digit.ensures ∙ not-true _ (ap not c.if-not-is_digit.true)))
+returns-then-not-is_digit c = sym (no_digit _ _ _ c.loop-byte.invariant c.loop-byte-test.true (sym c.is_digit.ensures ∙ not-true _ (ap not c.if-not-is_digit.true)))
 
-pub overflow_sub-digit : goal.overflow_sub-digit
-overflow_sub-digit c = (digit_bounds _ (sym c.is_digit.ensures ∙ not-false _ (ap not c.if-not-is_digit.false))).0
+pub overflow_sub-byte : goal.overflow_sub-byte
+overflow_sub-byte c = (digit_bounds _ (sym c.is_digit.ensures ∙ not-false _ (ap not c.if-not-is_digit.false))).0
 
-pub overflow_cast-digit : goal.overflow_cast-digit
-overflow_cast-digit c = omega (arith, (digit_bounds _ (sym c.is_digit.ensures ∙ not-false _ (ap not c.if-not-is_digit.false))).1)
+pub returns-in_err-checked_mul : goal.returns-in_err-checked_mul
+returns-in_err-checked_mul c = rw c.from_residual.ensures (sym (too_large _ _ _ c.loop-byte.invariant c.loop-byte-test.true (omega (arith, c.in_err-checked_mul.ensures))))
 
-pub overflow_sub-digit-in-loop-at : goal.overflow_sub-digit-in-loop-at
-overflow_sub-digit-in-loop-at c = omega (arith, (digit_bounds _ (sym c.is_digit.ensures ∙ not-false _ (ap not c.if-not-is_digit.false))).1)
+pub returns-in_err-value : goal.returns-in_err-value
+returns-in_err-value c = rw c.from_residual-in_err-value.ensures (sym (too_large _ _ _ c.loop-byte.invariant c.loop-byte-test.true (omega (arith, c.in_err-value.ensures, c.in_ok-checked_mul.ensures, c.from-digit.ensures))))
 
-pub returns-then-value-digit : goal.returns-then-value-digit
-returns-then-value-digit c = sym (too_large _ _ _ c.loop-at.invariant c.loop-at-test.true (omega (arith, digit_bounds _ (sym c.is_digit.ensures ∙ not-false _ (ap not c.if-not-is_digit.false)), c.if-value-digit.true)))
-
-pub overflow_mul-value : goal.overflow_mul-value
-overflow_mul-value c = omega (arith, digit_bounds _ (sym c.is_digit.ensures ∙ not-false _ (ap not c.if-not-is_digit.false)), c.if-value-digit.false)
-
-pub overflow_add-value : goal.overflow_add-value
-overflow_add-value c = omega (arith, digit_bounds _ (sym c.is_digit.ensures ∙ not-false _ (ap not c.if-not-is_digit.false)), c.if-value-digit.false)
-
-pub overflow_add-at : goal.overflow_add-at
-overflow_add-at c = omega arith
-
-pub loop-at-smaller : goal.loop-at-smaller
-loop-at-smaller c = omega arith
-
-pub loop-at-preserved : goal.loop-at-preserved
-loop-at-preserved c = one_passed _ _ _ c.loop-at.invariant c.loop-at-test.true (sym c.is_digit.ensures ∙ not-false _ (ap not c.if-not-is_digit.false)) (omega (arith, digit_bounds _ (sym c.is_digit.ensures ∙ not-false _ (ap not c.if-not-is_digit.false)), c.if-value-digit.false))
+pub loop-byte-preserved : goal.loop-byte-preserved
+loop-byte-preserved c =
+    rw (c.in_ok-value.ensures.1, c.in_ok-checked_mul.ensures.1, c.from-digit.ensures)
+    (one_passed _ _ _ c.loop-byte.invariant c.loop-byte-test.true (sym c.is_digit.ensures ∙ not-false _ (ap not c.if-not-is_digit.false)) (omega (arith, c.in_ok-value.ensures, c.in_ok-checked_mul.ensures, c.from-digit.ensures)))
 
 pub returns : goal.returns
-returns c = sym (all_passed _ _ _ c.loop-at.invariant c.if-text-eq0.false c.if-text-gt-MOST_DIGITS.false c.loop-at-test.false)
+returns c = sym (all_passed _ _ _ c.loop-byte.invariant (eqb-false _ _ (sym c.is_empty.ensures ∙ c.if-is_empty.false)) c.if-text-gt-MOST_DIGITS.false c.loop-byte-test.false)

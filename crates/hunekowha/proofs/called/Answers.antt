@@ -1,18 +1,27 @@
 -- `hunekowha::called` meets its contract: which call it is, by its kind. Assumes nothing.
-use Rattle.hunekowha.proofs.CallLaws.{says_decision, says_reading, says_checkpoint, says_undo, says_fresh}
+use Rattle.std.proofs.Common.{rules}
+use mathlib.Core.Path.{refl, subst}
+use Rattle.model.specs.Calls.{Answer}
+use Rattle.board.specs.Held.{Says}
+use Rattle.hunekowha.specs.Replay.{called}
+use Rattle.hunekowha.proofs.CallLaws.{says_decision, is_fresh}
 use Rattle.hunekowha.proofs.called.Goals as goal
 
-pub returns-then-kind-eq1 : goal.returns-then-kind-eq1
-returns-then-kind-eq1 c = λ B held. says_decision _ B _ _ _ _ c.if-kind-eq1.true c.edge_of.ensures (c.decide_edge.ensures B held)
+pub returns-in-1 : goal.returns-in-1
+unfolding called
+returns-in-1 c = λ B held. rw c.in-1.is (says_decision B _ _ _ c.edge_of.ensures (c.decide_edge.ensures B held))
 
-pub returns-then-kind-eq2 : goal.returns-then-kind-eq2
-returns-then-kind-eq2 c = λ B held. says_reading _ B _ _ _ _ c.if-kind-eq1.false c.if-kind-eq2.true (c.get_edge.ensures B held)
+pub returns-in-2 : goal.returns-in-2
+unfolding called
+returns-in-2 c = λ B held. rw c.in-2.is (c.get_edge.ensures B held)
 
-pub returns-then-kind-eq3 : goal.returns-then-kind-eq3
-returns-then-kind-eq3 c = λ B held. says_checkpoint _ B _ _ _ _ c.if-kind-eq1.false c.if-kind-eq2.false c.if-kind-eq3.true (c.add_checkpoint.ensures B held)
+pub returns-in-3 : goal.returns-in-3
+unfolding called
+returns-in-3 c = λ B held. rw c.in-3.is (c.add_checkpoint.ensures B held)
 
-pub returns-then-kind-eq4 : goal.returns-then-kind-eq4
-returns-then-kind-eq4 c = λ B held. says_undo _ B _ _ _ _ c.if-kind-eq1.false c.if-kind-eq2.false c.if-kind-eq3.false c.if-kind-eq4.true (c.undo.ensures B held)
+pub returns-in-4 : goal.returns-in-4
+unfolding called
+returns-in-4 c = λ B held. rw c.in-4.is (record { number = refl; answer = refl; board = c.undo.ensures B held })
 
-pub returns : goal.returns
-returns c = λ B held. says_fresh _ B _ _ _ _ c.if-kind-eq1.false c.if-kind-eq2.false c.if-kind-eq3.false c.if-kind-eq4.false c.new.ensures
+pub returns-in_default : goal.returns-in_default
+returns-in_default c = λ B held. subst (λ (A : Answer). Says c.new.result A) (is_fresh _ B _ _ _ _ (search rules) (search rules) (search rules) (search rules)) c.new.ensures

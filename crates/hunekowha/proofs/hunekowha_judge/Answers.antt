@@ -6,4 +6,4 @@ pub returns-then-answer-lt4 : goal.returns-then-answer-lt4
 returns-then-answer-lt4 c = judge_short _ _ _ _ _ c.if-answer-lt4.true
 
 pub returns : goal.returns
-returns c = judge_whole _ _ _ _ _ c.if-answer-lt4.false _ _ c.judge-judged.ensures c.put_numbers.ensures
+returns c = judge_whole _ _ _ _ _ c.if-answer-lt4.false _ _ c.judge-judged.ensures c.put.ensures

@@ -10,4 +10,4 @@ pub overflow_mul-numbers : goal.overflow_mul-numbers
 overflow_mul-numbers c = omega (arith, offset_inside _ _ _ _ _ _ c.record_at-length.ensures)
 
 pub returns : goal.returns
-returns c = record_whole _ _ _ _ _ _ c.if-answer-lt2.false _ _ c.record_at-length.ensures c.put_numbers.ensures
+returns c = record_whole _ _ _ _ _ _ c.if-answer-lt2.false _ _ c.record_at-length.ensures c.put.ensures

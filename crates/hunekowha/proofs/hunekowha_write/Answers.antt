@@ -6,4 +6,4 @@ pub returns-then-answer-lt3 : goal.returns-then-answer-lt3
 returns-then-answer-lt3 c = write_short _ _ _ _ _ c.if-answer-lt3.true
 
 pub returns : goal.returns
-returns c = write_whole _ _ _ _ _ c.if-answer-lt3.false _ _ c.write-writing.ensures c.put_numbers.ensures
+returns c = write_whole _ _ _ _ _ c.if-answer-lt3.false _ _ c.write-writing.ensures c.put.ensures

@@ -42,11 +42,11 @@ overflow_mul-ends c = omega (arith, few_pads (in_range c.requires.said.board (c.
 pub slice_bounds-ends-end : goal.slice_bounds-ends-end
 slice_bounds-ends-end c = let long : length c.shown-shown.result.ends ≡ 256 = search rules in omega (arith, few_pads (in_range c.requires.said.board (c.shown-shown.ensures _ c.requires.said.board)))
 
-pub slice_bounds-put_signed-end : goal.slice_bounds-put_signed-end
-slice_bounds-put_signed-end c = let long : length c.shown-shown.result.ends ≡ 256 = search rules in sym (length-take-le _ _ (omega (arith, few_pads (in_range c.requires.said.board (c.shown-shown.ensures _ c.requires.said.board)))))
+pub slice_bounds-put-end : goal.slice_bounds-put-end
+slice_bounds-put-end c = let long : length c.shown-shown.result.ends ≡ 256 = search rules in sym (length-take-le _ _ (omega (arith, few_pads (in_range c.requires.said.board (c.shown-shown.ensures _ c.requires.said.board)))))
 
-pub put_signed-requires : goal.put_signed-requires
-put_signed-requires c = room_for_ends _ _ c.requires.says _ (c.shown-shown.ensures _ c.requires.said.board) c.requires.fits _ _ _ _ c.put_bytes.ensures _ c.put_bytes-2.ensures
+pub put-requires : goal.put-requires
+put-requires c = room_for_ends _ _ c.requires.says _ (c.shown-shown.ensures _ c.requires.said.board) c.requires.fits _ _ _ _ c.put_bytes.ensures _ c.put_bytes-2.ensures
 
 pub returns : goal.returns
-returns c = λ A says. block_written _ _ A _ (c.shown-shown.ensures _ says.board) (omega (arith, c.requires.fits, size_shown (c.shown-shown.ensures _ c.requires.said.board), size_shown (c.shown-shown.ensures _ says.board))) _ _ _ _ c.put_bytes.ensures _ c.put_bytes-2.ensures says.number says.answer (ap num (c.shown-shown.ensures _ says.board).flag) _ c.put_signed.ensures
+returns c = λ A says. block_written _ _ A _ (c.shown-shown.ensures _ says.board) (omega (arith, c.requires.fits, size_shown (c.shown-shown.ensures _ c.requires.said.board), size_shown (c.shown-shown.ensures _ says.board))) _ _ _ _ c.put_bytes.ensures _ c.put_bytes-2.ensures says.number says.answer (ap num (c.shown-shown.ensures _ says.board).flag) _ c.put.ensures

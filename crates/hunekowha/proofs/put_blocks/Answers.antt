@@ -52,9 +52,6 @@ overflow_mul-i c = omega (arith, place_fits _ _ _ _ c.loop-i.invariant.0 c.loop-
 pub put_block-requires : goal.put_block-requires
 put_block-requires c = record { says = _; said = c.called-made.ensures _ c.loop-i.invariant.2.held; small = said_small (c.called-made.ensures _ c.loop-i.invariant.2.held) (called_small _ _ _ _ _ _); fits = next_fits _ _ _ _ c.loop-i.invariant.0 c.loop-i.invariant.1 _ c.requires.fits c.loop-i.invariant.2 c.loop-i-test.true }
 
-pub overflow_add-i : goal.overflow_add-i
-overflow_add-i c = omega (arith, c.loop-i-test.true)
-
 pub loop-i-smaller : goal.loop-i-smaller
 loop-i-smaller c = omega (arith, c.loop-i-test.true)
 

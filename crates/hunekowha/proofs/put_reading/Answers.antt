@@ -12,8 +12,8 @@ returns-then-answer-lt5 c = read_short_answer _ _ _ c.if-answer-lt5.true
 pub returns-then-cells-lt256 : goal.returns-then-cells-lt256
 returns-then-cells-lt256 c = read_short_cells _ _ _ c.if-answer-lt5.false c.if-cells-lt256.true
 
-pub put_signed-requires : goal.put_signed-requires
-put_signed-requires c = let long : length c.args.reading.cells ≡ 256 = search rules in omega arith
+pub put-requires-2 : goal.put-requires-2
+put-requires-2 c = let long : length c.args.reading.cells ≡ 256 = search rules in omega arith
 
 pub returns : goal.returns
-returns c = read_whole _ _ _ c.if-answer-lt5.false c.if-cells-lt256.false _ _ c.put_numbers.ensures c.put_signed.ensures
+returns c = read_whole _ _ _ c.if-answer-lt5.false c.if-cells-lt256.false _ _ c.put.ensures c.put-2.ensures

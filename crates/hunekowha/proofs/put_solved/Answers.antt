@@ -2,4 +2,4 @@
 use Rattle.hunekowha.proofs.put_solved.Goals as goal
 
 pub returns : goal.returns
-returns c = c.put_numbers.ensures
+returns c = c.put.ensures

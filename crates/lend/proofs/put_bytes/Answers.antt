@@ -1,42 +1,14 @@
--- `lend::put_bytes` meets its contract. The loop's invariant: the first i bytes are copied, as numbers with a sign. Assumes nothing.
-use lib.Seq.{paste}
-use mathlib.Core.Path.{◌∙◌, ap}
-use lib.ListN.{length-map}
-use Rattle.lend.proofs.Copies.{byte_signed, none_copied, one_more, all_copied}
-use lib.IntN.{pos}
-use mathlib.Core.List.{map}
-use native.Mathlib.Omega.{arith}
+-- One byte more: the store takes the copy of i numbers to that of i + 1. Assumes nothing.
+use Rattle.std.proofs.Common.{◌≡◌, ℤ, List, ◌∙◌, ap, sym, map, ◌+◌, pos, arith, set, get_or, w64, to_z, of_z}
+use Rattle.std.proofs.Math.Facts.{to_z-of_z}
+use Rattle.std.proofs.Math.ListN.{get_or-map}
+use Rattle.std.proofs.lemmas.List.{length-map}
+use Rattle.std.proofs.lemmas.List.Edits.{paste_more}
 use Rattle.lend.proofs.put_bytes.Goals as goal
 
-pub loop-i-init : goal.loop-i-init
-loop-i-init c = none_copied _ _ _ (omega (arith, length-map c.args.bytes.now pos, c.requires))
-
-pub bounds-bytes-i : goal.bounds-bytes-i
-bounds-bytes-i c = c.loop-i-test.true
-
-pub overflow_cast-target : goal.overflow_cast-target
-overflow_cast-target c = record { sfits = omega (arith, c.shared_slice_known-1.given c.loop-i.i) }
-
-pub overflow_add-place : goal.overflow_add-place
-overflow_add-place c = omega arith
-
-pub offset_bounds-target-place : goal.offset_bounds-target-place
-offset_bounds-target-place c = omega arith
-
-pub bounds-target-place : goal.bounds-target-place
-bounds-target-place c = omega (arith, c.loop-i.invariant.same_length)
-
-pub overflow_add-i : goal.overflow_add-i
-overflow_add-i c = omega arith
-
-pub loop-i-smaller : goal.loop-i-smaller
-loop-i-smaller c = omega arith
-
 pub loop-i-preserved : goal.loop-i-preserved
-loop-i-preserved c = one_more _ _ _ (omega (arith, length-map c.args.bytes.now pos, c.requires)) (pos 0) (byte_signed c.args.bytes.now c.loop-i.i (omega (arith, c.shared_slice_known-1.given c.loop-i.i))) (omega (arith, length-map c.args.bytes.now pos, c.loop-i-test.true)) c.loop-i.invariant
-
-pub shape_of-target : goal.shape_of-target
-shape_of-target c = c.loop-i.invariant.same_length
-
-pub returns : goal.returns
-returns c = all_copied _ _ _ (omega (arith, length-map c.args.bytes.now pos, c.requires)) (omega (arith, length-map c.args.bytes.now pos, c.loop-i-test.false)) c.loop-i.invariant ∙ ap (λ n. paste c.args.target.now c.args.place (map pos c.args.bytes.now) n) (length-map c.args.bytes.now pos)
+loop-i-preserved c =
+    let stored : to_z w64 (of_z w64 c.from.result) ≡ get_or (map pos c.args.bytes.now) c.loop-i.i (pos 0) = to_z-of_z {w = w64} (record { sfits = c.from.type_inv }) ∙ c.from.ensures ∙ sym (get_or-map pos c.args.bytes.now c.loop-i.i 0) in
+    ap (λ (v : ℤ). set c.loop-i.target (c.args.place + c.loop-i.i) v) stored
+    ∙ ap (λ (t : List ℤ). set t (c.args.place + c.loop-i.i) (get_or (map pos c.args.bytes.now) c.loop-i.i (pos 0))) c.loop-i.invariant
+    ∙ paste_more c.args.target.now c.args.place (map pos c.args.bytes.now) c.loop-i.i (pos 0) (omega arith) (omega (arith, length-map c.args.bytes.now pos))

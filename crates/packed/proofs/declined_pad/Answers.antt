@@ -1,5 +1,4 @@
 -- `packed::declined_pad` meets its contract, from that of `gridfile::declined`. Assumes nothing.
-use native.Mathlib.Nat.{div-le_self, mod-le}
 use native.Mathlib.Omega.{arith}
 use Rattle.model.specs.RefusalLaws.{size_of_test}
 use Rattle.model.specs.Packed.{declined_pad}
@@ -8,14 +7,8 @@ use Rattle.packed.proofs.declined_pad.Goals as goal
 pub nonzero_div-index : goal.nonzero_div-index
 nonzero_div-index c = omega (arith, (size_of_test _ c.requires.0).0)
 
-pub overflow_add-index : goal.overflow_add-index
-overflow_add-index c = omega (arith, div-le_self c.args.index c.args.width)
-
 pub nonzero_rem-index : goal.nonzero_rem-index
 nonzero_rem-index c = omega (arith, (size_of_test _ c.requires.0).0)
-
-pub overflow_add-index-2 : goal.overflow_add-index-2
-overflow_add-index-2 c = omega (arith, mod-le c.args.index c.args.width)
 
 pub returns : goal.returns
 unfolding declined_pad

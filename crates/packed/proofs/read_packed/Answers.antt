@@ -14,10 +14,10 @@ pub returns-then-bytes-lt2 : goal.returns-then-bytes-lt2
 returns-then-bytes-lt2 c = c.declined.ensures ∙ sym (below_two _ c.if-bytes-lt2.true)
 
 pub returns-then-not-is_size : goal.returns-then-not-is_size
-returns-then-not-is_size c = c.declined-then-not-is_size.ensures ∙ bad_height _ c.if-bytes-lt2.false c.wide-height.ensures c.wide-width.ensures (sym c.is_size.ensures ∙ not-true _ (ap not c.if-not-is_size.true))
+returns-then-not-is_size c = c.declined-then-not-is_size.ensures ∙ bad_height _ c.if-bytes-lt2.false c.from-height.ensures c.from-width.ensures (sym c.is_size.ensures ∙ not-true _ (ap not c.if-not-is_size.true))
 
 pub returns-then-not-is_size-2 : goal.returns-then-not-is_size-2
-returns-then-not-is_size-2 c = c.declined-then-not-is_size-2.ensures ∙ bad_width _ c.if-bytes-lt2.false c.wide-height.ensures c.wide-width.ensures (sym c.is_size.ensures ∙ not-false _ (ap not c.if-not-is_size.false)) (sym c.is_size-2.ensures ∙ not-true _ (ap not c.if-not-is_size-2.true))
+returns-then-not-is_size-2 c = c.declined-then-not-is_size-2.ensures ∙ bad_width _ c.if-bytes-lt2.false c.from-height.ensures c.from-width.ensures (sym c.is_size.ensures ∙ not-false _ (ap not c.if-not-is_size.false)) (sym c.is_size-2.ensures ∙ not-true _ (ap not c.if-not-is_size-2.true))
 
 pub overflow_mul-pads : goal.overflow_mul-pads
 overflow_mul-pads c = omega (arith, pads_fit _ _ (sym c.is_size.ensures ∙ not-false _ (ap not c.if-not-is_size.false)) (sym c.is_size-2.ensures ∙ not-false _ (ap not c.if-not-is_size-2.false)))
@@ -26,16 +26,16 @@ pub declined_pad-requires : goal.declined_pad-requires
 declined_pad-requires c = (sym c.is_size-2.ensures ∙ not-false _ (ap not c.if-not-is_size-2.false), omega (arith, pads_fit _ _ (sym c.is_size.ensures ∙ not-false _ (ap not c.if-not-is_size.false)) (sym c.is_size-2.ensures ∙ not-false _ (ap not c.if-not-is_size-2.false)), c.if-whole-pads.true))
 
 pub returns-then-whole-pads : goal.returns-then-whole-pads
-returns-then-whole-pads c = c.declined_pad.ensures ∙ short_slice _ c.if-bytes-lt2.false c.wide-height.ensures c.wide-width.ensures (sym c.is_size.ensures ∙ not-false _ (ap not c.if-not-is_size.false)) (sym c.is_size-2.ensures ∙ not-false _ (ap not c.if-not-is_size-2.false)) c.if-whole-pads.true
+returns-then-whole-pads c = c.declined_pad.ensures ∙ short_slice _ c.if-bytes-lt2.false c.from-height.ensures c.from-width.ensures (sym c.is_size.ensures ∙ not-false _ (ap not c.if-not-is_size.false)) (sym c.is_size-2.ensures ∙ not-false _ (ap not c.if-not-is_size-2.false)) c.if-whole-pads.true
 
 pub overflow_add-height : goal.overflow_add-height
 overflow_add-height c = omega (arith, (size_of_test _ (sym c.is_size.ensures ∙ not-false _ (ap not c.if-not-is_size.false))).1)
 
 pub returns-then-bytes-pads : goal.returns-then-bytes-pads
-returns-then-bytes-pads c = c.declined-then-bytes-pads.ensures ∙ long_slice _ c.if-bytes-lt2.false c.wide-height.ensures c.wide-width.ensures (sym c.is_size.ensures ∙ not-false _ (ap not c.if-not-is_size.false)) (sym c.is_size-2.ensures ∙ not-false _ (ap not c.if-not-is_size-2.false)) c.if-bytes-pads.true
+returns-then-bytes-pads c = c.declined-then-bytes-pads.ensures ∙ long_slice _ c.if-bytes-lt2.false c.from-height.ensures c.from-width.ensures (sym c.is_size.ensures ∙ not-false _ (ap not c.if-not-is_size.false)) (sym c.is_size-2.ensures ∙ not-false _ (ap not c.if-not-is_size-2.false)) c.if-bytes-pads.true
 
 pub read_pads-requires : goal.read_pads-requires
 read_pads-requires c = (sym c.is_size.ensures ∙ not-false _ (ap not c.if-not-is_size.false), sym c.is_size-2.ensures ∙ not-false _ (ap not c.if-not-is_size-2.false), omega (arith, c.if-bytes-lt2.false, c.if-whole-pads.false, c.if-bytes-pads.false))
 
 pub returns : goal.returns
-returns c = c.read_pads.ensures ∙ whole_slice _ c.if-bytes-lt2.false c.wide-height.ensures c.wide-width.ensures (sym c.is_size.ensures ∙ not-false _ (ap not c.if-not-is_size.false)) (sym c.is_size-2.ensures ∙ not-false _ (ap not c.if-not-is_size-2.false)) c.if-whole-pads.false c.if-bytes-pads.false
+returns c = c.read_pads.ensures ∙ whole_slice _ c.if-bytes-lt2.false c.from-height.ensures c.from-width.ensures (sym c.is_size.ensures ∙ not-false _ (ap not c.if-not-is_size.false)) (sym c.is_size-2.ensures ∙ not-false _ (ap not c.if-not-is_size-2.false)) c.if-whole-pads.false c.if-bytes-pads.false

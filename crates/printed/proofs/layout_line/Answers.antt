@@ -1,43 +1,42 @@
--- `printed::layout_line` meets its contract: the array is filled by two numbers, the codes and the line's end; it stays
--- empty where H or W is out of bounds. Assumes nothing.
-use Rattle.printed.specs.Filled.{filled_first, filled_more, filled_room, filled_written, digits_20, field_21}
-use Rattle.printed.proofs.LineLaws.{codes_256, layout_parts, no_height, no_width}
-use Rattle.printed.specs.Written.{nothing_written}
+-- `printed::layout_line` meets its contract: two numbers, the codes and the line's end; the line stays empty where H or W is out of
+-- bounds. Assumes nothing.
+use Rattle.printed.specs.Filled.{digits_20, field_21}
+use Rattle.printed.proofs.LineLaws.{codes_256, none_yet, longer, layout_parts, no_height, no_width}
 use Rattle.printed.proofs.CodeLaws.{all_pads}
 use borrow.Author.Tests.{not-true, not-false}
 use native.Mathlib.Omega.{arith}
-use mathlib.Core.Path.{sym, ◌∙◌}
-use mathlib.Core.Path.{ap}
-use mathlib.Core.Bool.{not}
+use mathlib.Core.Path.{◌≡◌, ap, sym, ◌∙◌}
+use mathlib.Core.Bool.{not, true}
+use Rattle.model.specs.Bounds.{is_size}
 use Rattle.printed.proofs.layout_line.Goals as goal
+use Rattle.printed.proofs.layout_line.Goals.{then-not-is_size-via-then-not-is_size, then-not-is_size-via-else-not-is_size+then-not-is_size-2}
 
 pub returns-then-not-is_size : goal.returns-then-not-is_size
-returns-then-not-is_size c = nothing_written _ (no_height _ _ _ _ (sym c.is_size.ensures ∙ not-true _ (ap not c.if-not-is_size.true)))
+returns-then-not-is_size c = c.new-line.ensures ∙ sym (elim c.then-not-is_size.branch [
+  | then-not-is_size-via-then-not-is_size w ↦ no_height _ _ _ _ (sym c.is_size.ensures ∙ not-true _ (ap not w.if-not-is_size.true))
+  | then-not-is_size-via-else-not-is_size+then-not-is_size-2 w ↦ no_width _ _ _ _ (sym c.is_size.ensures ∙ not-false _ (ap not w.if-not-is_size.false)) (sym w.is_size-else-not-is_size.ensures ∙ not-true _ (ap not w.if-not-is_size-2.true))
+])
 
-pub returns-then-not-is_size-2 : goal.returns-then-not-is_size-2
-returns-then-not-is_size-2 c = nothing_written _ (no_width _ _ _ _ (sym c.is_size.ensures ∙ not-false _ (ap not c.if-not-is_size.false)) (sym c.is_size-2.ensures ∙ not-true _ (ap not c.if-not-is_size-2.true)))
+pub push_field-requires : goal.push_field-requires
+push_field-requires c = (omega arith, omega (arith, none_yet c.new-line.ensures, digits_20 _ c.ranges.number))
 
-pub put_field-first-requires : goal.put_field-first-requires
-put_field-first-requires c = omega (arith, digits_20 _ c.ranges.number)
+pub push_field-requires-2 : goal.push_field-requires-2
+push_field-requires-2 c = (omega arith, omega (arith, longer _ _ 0 21 c.push_field.ensures (none_yet c.new-line.ensures) (field_21 _ _ c.ranges.number), digits_20 _ (record { fits = c.lines.type_inv })))
 
-pub put_field-second-requires : goal.put_field-second-requires
-put_field-second-requires c = omega (arith, digits_20 _ (record { fits = c.lines.type_inv }), filled_room (filled_first 299 21 c.put_field-first.ensures (field_21 _ _ c.ranges.number)) 21 (omega arith))
+pub push_codes-requires : goal.push_codes-requires
+push_codes-requires c =
+    let tall : is_size c.args.height ≡ true = sym c.is_size.ensures ∙ not-false _ (ap not c.if-not-is_size.false) in
+    let wide : is_size c.args.width ≡ true = sym c.is_size-else-not-is_size.ensures ∙ not-false _ (ap not c.if-not-is_size-2.false) in
+    (tall, wide, omega (arith, all_pads _ _ tall wide, longer _ _ 21 21 c.push_field-2.ensures (longer _ _ 0 21 c.push_field.ensures (none_yet c.new-line.ensures) (field_21 _ _ c.ranges.number)) (field_21 _ _ (record { fits = c.lines.type_inv }))))
 
-pub put_codes-third-requires : goal.put_codes-third-requires
-put_codes-third-requires c =
-    let is-size-says = c.is_size.ensures in
-    let if1-left = (ap not c.if-not-is_size.false) in
-    let is-size2-says = c.is_size-2.ensures in
-    let if2-left = (ap not c.if-not-is_size-2.false) in
-    ((sym (is-size-says) ∙ not-false _ (if1-left)), (sym (is-size2-says) ∙ not-false _ (if2-left)), omega (arith, all_pads _ _ (sym (is-size-says) ∙ not-false _ (if1-left)) (sym (is-size2-says) ∙ not-false _ (if2-left)), filled_room (filled_more (filled_first 299 21 c.put_field-first.ensures (field_21 _ _ c.ranges.number)) c.put_field-second.ensures (field_21 _ _ (record { fits = c.lines.type_inv }))) 256 (omega arith)))
-
-pub put_byte-length-requires : goal.put_byte-length-requires
-put_byte-length-requires c = omega (arith, filled_room (filled_more (filled_more (filled_first 299 21 c.put_field-first.ensures (field_21 _ _ c.ranges.number)) c.put_field-second.ensures (field_21 _ _ (record { fits = c.lines.type_inv }))) c.put_codes-third.ensures (codes_256 _ _ _ (sym c.is_size.ensures ∙ not-false _ (ap not c.if-not-is_size.false)) (sym c.is_size-2.ensures ∙ not-false _ (ap not c.if-not-is_size-2.false)))) 1 (omega arith))
+pub push_byte-requires : goal.push_byte-requires
+push_byte-requires c =
+    let tall : is_size c.args.height ≡ true = sym c.is_size.ensures ∙ not-false _ (ap not c.if-not-is_size.false) in
+    let wide : is_size c.args.width ≡ true = sym c.is_size-else-not-is_size.ensures ∙ not-false _ (ap not c.if-not-is_size-2.false) in
+    (omega arith, omega (arith, longer _ _ 42 256 c.push_codes.ensures (longer _ _ 21 21 c.push_field-2.ensures (longer _ _ 0 21 c.push_field.ensures (none_yet c.new-line.ensures) (field_21 _ _ c.ranges.number)) (field_21 _ _ (record { fits = c.lines.type_inv }))) (codes_256 _ _ _ tall wide)))
 
 pub returns : goal.returns
 returns c =
-    let is-size-says = c.is_size.ensures in
-    let if1-left = (ap not c.if-not-is_size.false) in
-    let is-size2-says = c.is_size-2.ensures in
-    let if2-left = (ap not c.if-not-is_size-2.false) in
-    filled_written _ (layout_parts _ _ _ _ (sym (is-size-says) ∙ not-false _ (if1-left)) (sym (is-size2-says) ∙ not-false _ (if2-left)) _ c.lines.ensures) (omega arith) (filled_more {more = 1} (filled_more (filled_more (filled_first 299 21 c.put_field-first.ensures (field_21 _ _ c.ranges.number)) c.put_field-second.ensures (field_21 _ _ (record { fits = c.lines.type_inv }))) c.put_codes-third.ensures (codes_256 _ _ _ (sym (is-size-says) ∙ not-false _ (if1-left)) (sym (is-size2-says) ∙ not-false _ (if2-left)))) c.put_byte-length.ensures (omega arith))
+    let tall : is_size c.args.height ≡ true = sym c.is_size.ensures ∙ not-false _ (ap not c.if-not-is_size.false) in
+    let wide : is_size c.args.width ≡ true = sym c.is_size-else-not-is_size.ensures ∙ not-false _ (ap not c.if-not-is_size-2.false) in
+    rw (c.push_byte.ensures, c.push_codes.ensures, c.push_field-2.ensures, c.push_field.ensures, c.new-line.ensures) (layout_parts _ _ _ _ tall wide _ c.lines.ensures)

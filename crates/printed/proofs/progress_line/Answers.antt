@@ -1,20 +1,19 @@
--- `printed::progress_line` meets its contract: the array is filled by two words and two numbers, each word before its number.
--- Assumes nothing.
-use Rattle.printed.specs.Filled.{filled_first, filled_more, filled_room, filled_written, digits_20, field_21}
-use Rattle.printed.proofs.LineLaws.{progress_parts}
+-- `printed::progress_line` meets its contract: two words and two numbers, each word before its number. Assumes nothing.
+use Rattle.printed.specs.Filled.{digits_20}
+use Rattle.printed.proofs.LineLaws.{none_yet, longer, progress_parts}
 use Rattle.model.specs.Text.{bytes}
 use native.Mathlib.Omega.{arith}
 use Rattle.printed.proofs.progress_line.Goals as goal
 
-pub put_decimal-second-requires : goal.put_decimal-second-requires
-put_decimal-second-requires c = omega (arith, digits_20 _ c.ranges.visited, filled_room (filled_first 67 8 c.put_word-first.ensures (omega arith)) 20 (omega arith))
+pub push_decimal-requires : goal.push_decimal-requires
+push_decimal-requires c = (omega arith, omega (arith, longer _ _ 0 8 c.push_word.ensures (none_yet c.new-line.ensures) (omega arith), digits_20 _ c.ranges.visited))
 
-pub put_word-third-requires : goal.put_word-third-requires
-put_word-third-requires c = filled_room (filled_more (filled_first 67 8 c.put_word-first.ensures (omega arith)) c.put_decimal-second.ensures (digits_20 _ c.ranges.visited)) 17 (omega arith)
+pub push_word-requires-2 : goal.push_word-requires-2
+push_word-requires-2 c = (omega arith, omega (arith, longer _ _ 8 20 c.push_decimal.ensures (longer _ _ 0 8 c.push_word.ensures (none_yet c.new-line.ensures) (omega arith)) (digits_20 _ c.ranges.visited)))
 
-pub put_field-length-requires : goal.put_field-length-requires
-put_field-length-requires c = omega (arith, digits_20 _ c.ranges.layouts, filled_room (filled_more {more = 17} (filled_more (filled_first 67 8 c.put_word-first.ensures (omega arith)) c.put_decimal-second.ensures (digits_20 _ c.ranges.visited)) c.put_word-third.ensures (omega arith)) 21 (omega arith))
+pub push_field-requires : goal.push_field-requires
+push_field-requires c = (omega arith, omega (arith, longer _ _ 28 17 c.push_word-2.ensures (longer _ _ 8 20 c.push_decimal.ensures (longer _ _ 0 8 c.push_word.ensures (none_yet c.new-line.ensures) (omega arith)) (digits_20 _ c.ranges.visited)) (omega arith), digits_20 _ c.ranges.layouts))
 
 pub returns : goal.returns
 unfolding bytes
-returns c = filled_written _ (progress_parts _ _) (omega arith) (filled_more (filled_more {more = 17} (filled_more (filled_first 67 8 c.put_word-first.ensures (omega arith)) c.put_decimal-second.ensures (digits_20 _ c.ranges.visited)) c.put_word-third.ensures (omega arith)) c.put_field-length.ensures (field_21 _ _ c.ranges.layouts))
+returns c = rw (c.push_field.ensures, c.push_word-2.ensures, c.push_decimal.ensures, c.push_word.ensures, c.new-line.ensures) (progress_parts _ _)

@@ -1,20 +1,20 @@
--- `printed::summary_line` meets its contract: the array is filled by the line's four parts. Assumes nothing.
-use Rattle.printed.specs.Filled.{filled_first, filled_more, filled_room, filled_written, digits_20, digits_3, field_21, field_4}
-use Rattle.printed.proofs.LineLaws.{summary_parts}
+-- `printed::summary_line` meets its contract: the line is made of its four parts, and is long enough for each. Assumes nothing.
+use Rattle.printed.specs.Filled.{digits_20, digits_3, field_21}
+use Rattle.printed.proofs.LineLaws.{none_yet, longer, summary_parts}
 use native.Mathlib.Omega.{arith}
 use Rattle.printed.proofs.summary_line.Goals as goal
 
-pub put_field-first-requires : goal.put_field-first-requires
-put_field-first-requires c = omega (arith, digits_20 _ c.ranges.layouts)
+pub push_field-requires : goal.push_field-requires
+push_field-requires c = (omega arith, omega (arith, none_yet c.new-line.ensures, digits_20 _ c.ranges.layouts))
 
-pub put_field-second-requires : goal.put_field-second-requires
-put_field-second-requires c = omega (arith, digits_20 _ c.ranges.visited, filled_room (filled_first 67 21 c.put_field-first.ensures (field_21 _ _ c.ranges.layouts)) 21 (omega arith))
+pub push_field-requires-2 : goal.push_field-requires-2
+push_field-requires-2 c = (omega arith, omega (arith, longer _ _ 0 21 c.push_field.ensures (none_yet c.new-line.ensures) (field_21 _ _ c.ranges.layouts), digits_20 _ c.ranges.visited))
 
-pub put_field-third-requires : goal.put_field-third-requires
-put_field-third-requires c = omega (arith, digits_20 _ c.ranges.fewest, filled_room (filled_more (filled_first 67 21 c.put_field-first.ensures (field_21 _ _ c.ranges.layouts)) c.put_field-second.ensures (field_21 _ _ c.ranges.visited)) 21 (omega arith))
+pub push_field-requires-3 : goal.push_field-requires-3
+push_field-requires-3 c = (omega arith, omega (arith, longer _ _ 21 21 c.push_field-2.ensures (longer _ _ 0 21 c.push_field.ensures (none_yet c.new-line.ensures) (field_21 _ _ c.ranges.layouts)) (field_21 _ _ c.ranges.visited), digits_20 _ c.ranges.fewest))
 
-pub put_field-length-requires : goal.put_field-length-requires
-put_field-length-requires c = omega (arith, digits_3 _ c.ranges.outcome, filled_room (filled_more (filled_more (filled_first 67 21 c.put_field-first.ensures (field_21 _ _ c.ranges.layouts)) c.put_field-second.ensures (field_21 _ _ c.ranges.visited)) c.put_field-third.ensures (field_21 _ _ c.ranges.fewest)) 4 (omega arith))
+pub push_field-requires-4 : goal.push_field-requires-4
+push_field-requires-4 c = (omega arith, omega (arith, longer _ _ 42 21 c.push_field-3.ensures (longer _ _ 21 21 c.push_field-2.ensures (longer _ _ 0 21 c.push_field.ensures (none_yet c.new-line.ensures) (field_21 _ _ c.ranges.layouts)) (field_21 _ _ c.ranges.visited)) (field_21 _ _ c.ranges.fewest), rw (← c.from.ensures) at (digits_3 _ c.ranges.outcome)))
 
 pub returns : goal.returns
-returns c = filled_written _ (summary_parts _ _ _ _) (omega arith) (filled_more (filled_more (filled_more (filled_first 67 21 c.put_field-first.ensures (field_21 _ _ c.ranges.layouts)) c.put_field-second.ensures (field_21 _ _ c.ranges.visited)) c.put_field-third.ensures (field_21 _ _ c.ranges.fewest)) c.put_field-length.ensures (field_4 _ _ c.ranges.outcome))
+returns c = rw (c.push_field-4.ensures, c.push_field-3.ensures, c.push_field-2.ensures, c.push_field.ensures, c.new-line.ensures, c.from.ensures) (summary_parts _ _ _ _)

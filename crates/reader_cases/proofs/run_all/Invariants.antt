@@ -1,10 +1,6 @@
--- `reader_cases::run_all` is safe and ends: each case moves on. Assumes nothing.
+-- `reader_cases::run_all` is safe and ends: what comes after a case is shorter. Assumes nothing.
 use lib.ListN.{length}
-use Prim.Native.Nat.{◌-◌, ◌≤◌}
 use Rattle.reader_cases.proofs.run_all.Given as goal
 
-abbrev pub invariant-loop-at : goal.invariant-loop-at
-invariant-loop-at l = l.at ≤ length l.input
-
-abbrev pub decreases-loop-at : goal.decreases-loop-at
-decreases-loop-at l = length l.input - l.at
+abbrev pub decreases-loop-case : goal.decreases-loop-case
+decreases-loop-case g l = length l.rest

@@ -16,9 +16,6 @@ returns-then-not-is_size-2 c = no_width _ _ _ _ _ (sym c.is_size.ensures ∙ not
 pub returns-then-count-k : goal.returns-then-count-k
 returns-then-count-k c = not_counted _ _ _ _ _ (sym c.is_size.ensures ∙ not-false _ (ap not c.if-not-is_size.false)) (sym c.is_size-2.ensures ∙ not-false _ (ap not c.if-not-is_size-2.false)) c.if-count-k.true
 
-pub record_length-requires : goal.record_length-requires
-record_length-requires c = ((sym c.is_size.ensures ∙ not-false _ (ap not c.if-not-is_size.false)), (sym c.is_size-2.ensures ∙ not-false _ (ap not c.if-not-is_size-2.false)))
-
 pub nonzero_div-result : goal.nonzero_div-result
 nonzero_div-result c = rw c.record_length.ensures (some_bytes _ _ (sym c.is_size.ensures ∙ not-false _ (ap not c.if-not-is_size.false)) (sym c.is_size-2.ensures ∙ not-false _ (ap not c.if-not-is_size-2.false)))
 

@@ -5,4 +5,4 @@ use mathlib.Core.Path.{sym}
 use Rattle.search_replay.proofs.run_at.Goals as goal
 
 pub slice_bounds-print_run-end : goal.slice_bounds-print_run-end
-slice_bounds-print_run-end c = sym (length-take-le _ _ (omega (arith, c.large_buffer-buffer.ensures, c.if-bytes-le-LARGEST_ROOM.true)))
+slice_bounds-print_run-end g c = sym (length-take-le _ _ (omega (arith, c.large_buffer-buffer.ensures, c.if-bytes-le-LARGEST_ROOM.true)))

@@ -7,7 +7,7 @@ use native.Mathlib.Omega.{arith}
 use Rattle.search_replay.proofs.runs_at.Goals as goal
 
 pub overflow_mul-count : goal.overflow_mul-count
-overflow_mul-count c = let h : c.byte_at-height.result ≤ 255 = omega (arith, c.byte_at-height.type_inv) in let w : c.byte_at-width.result ≤ 255 = omega (arith, c.byte_at-width.type_inv) in omega (arith, mul-le-mul h w)
+overflow_mul-count g c = let h : c.from-height.result ≤ 255 = omega (arith, c.byte_at.type_inv, c.from-height.ensures) in let w : c.from-width.result ≤ 255 = omega (arith, c.byte_at-2.type_inv, c.from-width.ensures) in omega (arith, mul-le-mul h w)
 
 pub slice_bounds-run_at-end : goal.slice_bounds-run_at-end
-slice_bounds-run_at-end c = sym (length-take-le _ _ (omega (arith, c.cells_at-cells.ensures, c.if-count-gt256.false)))
+slice_bounds-run_at-end g c = sym (length-take-le _ _ (omega (arith, c.cells_at-cells.ensures, c.if-count-gt256.false)))

@@ -1,39 +1,24 @@
 -- Where less than a record of room is left the buffer is full; else the record is put behind those before it. Assumes nothing.
-use Prim.Native.Nat.{ℕ, ◌*◌}
-use mathlib.Core.Path.{◌≡◌, ap}
+use mathlib.Core.Path.{◌≡◌, refl, ap, ◌∙◌}
 use native.Mathlib.Omega.{arith}
+use Prim.Native.Nat.{ℕ, ◌*◌, ◌-◌, ◌<◌}
+use lib.ListN.{length}
+use Rattle.std.proofs.lemmas.Result.{err_from_is_err_and}
 use Rattle.rules.specs.Grid.{places}
 use Rattle.boardview.specs.View.{grid_in}
-use lib.ListN.{length}
-use Rattle.rules.specs.Places.{some_places}
 use Rattle.boardview.specs.ShownRecordLaws.{shown_length}
-use Rattle.runs.specs.Layouts.{full, added, few_layouts}
+use Rattle.runs.specs.Layouts.{full, added}
 use Rattle.searchparts.proofs.add_layout.Goals as goal
 
-pub overflow_mul-at : goal.overflow_mul-at
-overflow_mul-at c = let at : c.args.layouts.now * c.record_size-size.result ≡ c.args.layouts.now * places (grid_in c.args.kind.now).height (grid_in c.args.kind.now).width = ap (λ (k : ℕ). c.args.layouts.now * k) c.record_size-size.ensures in omega (arith, c.requires.2)
-
-pub overflow_sub-buffer : goal.overflow_sub-buffer
-overflow_sub-buffer c = let at : c.args.layouts.now * c.record_size-size.result ≡ c.args.layouts.now * places (grid_in c.args.kind.now).height (grid_in c.args.kind.now).width = ap (λ (k : ℕ). c.args.layouts.now * k) c.record_size-size.ensures in omega (arith, c.requires.2)
-
-pub returns-then-buffer-at : goal.returns-then-buffer-at
-returns-then-buffer-at c = let at : c.args.layouts.now * c.record_size-size.result ≡ c.args.layouts.now * places (grid_in c.args.kind.now).height (grid_in c.args.kind.now).width = ap (λ (k : ℕ). c.args.layouts.now * k) c.record_size-size.ensures in full _ _ _ _ _ c.requires.2 (omega (arith, c.if-buffer-at.true, c.record_size-size.ensures, c.requires.2))
-
-pub put_record-lines-requires : goal.put_record-lines-requires
-put_record-lines-requires c =
-    let start = c in
-    let record-size-says = c.record_size-size.ensures in
-    let at : start.args.layouts.now * c.record_size-size.result ≡ start.args.layouts.now * places (grid_in start.args.kind.now).height (grid_in start.args.kind.now).width = ap (λ (k : ℕ). start.args.layouts.now * k) (record-size-says) in (start.requires.0, start.requires.1.long, start.requires.1.bytes, omega (arith, c.if-buffer-at.false, record-size-says, start.requires.2))
-
-pub overflow_add-layouts : goal.overflow_add-layouts
-overflow_add-layouts c =
-    let start = c in
-    let record-size-says = c.record_size-size.ensures in
-    let at : start.args.layouts.now * c.record_size-size.result ≡ start.args.layouts.now * places (grid_in start.args.kind.now).height (grid_in start.args.kind.now).width = ap (λ (k : ℕ). start.args.layouts.now * k) (record-size-says) in let few = few_layouts (places (grid_in start.args.kind.now).height (grid_in start.args.kind.now).width) start.args.layouts.now (length start.args.buffer.now) (some_places _ _ start.requires.0.least_height start.requires.0.least_width) start.requires.2 (omega (arith, c.if-buffer-at.false, record-size-says, start.requires.2)) in omega arith
+pub returns-in_err-at : goal.returns-in_err-at
+returns-in_err-at c =
+    let p = err_from_is_err_and c.from_residual.result c.from_residual.ensures.1 in
+    let short : length c.args.buffer.now - c.args.tally.now.layouts * places (grid_in c.args.kind.now).height (grid_in c.args.kind.now).width < places (grid_in c.args.kind.now).height (grid_in c.args.kind.now).width = rw c.record_size.ensures at c.in_err-at.ensures.1 in
+    rw (p.1, p.2, c.in_err-at.ensures.0) (record { added = full _ _ _ _ _ c.requires.2 short; none_visited = refl })
 
 pub returns : goal.returns
 returns c =
-    let start = c in
-    let record-size-says = c.record_size-size.ensures in
-    let put-record-says = c.put_record-lines.ensures in
-    let at : start.args.layouts.now * c.record_size-size.result ≡ start.args.layouts.now * places (grid_in start.args.kind.now).height (grid_in start.args.kind.now).width = ap (λ (k : ℕ). start.args.layouts.now * k) (record-size-says) in added _ _ _ _ _ _ _ _ _ (shown_length _ _) at start.requires.2 (omega (arith, c.if-buffer-at.false, record-size-says, start.requires.2)) put-record-says.0 put-record-says.1 c.least.ensures
+    let at = c.in_ok-at.ensures in
+    let its_place : c.in_ok-at.at ≡ c.args.tally.now.layouts * places (grid_in c.args.kind.now).height (grid_in c.args.kind.now).width = at.0 ∙ ap (λ (k : ℕ). c.args.tally.now.layouts * k) c.record_size.ensures in
+    let put = c.put_record-lines.ensures in
+    rw c.add.ensures (record { added = added _ _ _ _ _ _ _ _ _ (shown_length _ _) its_place c.requires.2 (omega (arith, at.1, its_place, c.record_size.ensures)) put.0 put.1 refl; none_visited = refl })

@@ -1,4 +1,4 @@
--- The loop passes only pads whose right edge is decided. The measure is what is left of the rows above the last. Assumes nothing.
+-- The loop passes only pads whose right edge is decided. Assumes nothing.
 use Prim.Native.Nat.{ℕ, ◌+◌, ◌*◌, ◌≤◌, ◌<◌}
 use mathlib.Core.Path.{◌≡◌}
 use native.Mathlib.Decide.{dec_lt}
@@ -18,29 +18,11 @@ more edges from v before here k low high e = elim (dec_lt k v) [
     same : (k v : ℕ) → k < v + 1 → (k < v → ⊥) → k ≡ v
     same k v high not_less = omega arith
 
-pub loop-v-init : goal.loop-v-init
-loop-v-init c = (omega arith, omega arith, λ k low high. absurd (omega arith))
-
-pub overflow_mul-v : goal.overflow_mul-v
-overflow_mul-v c = omega arith
-
-pub overflow_add-v : goal.overflow_add-v
-overflow_add-v c = omega arith
-
-pub bounds-edges-v : goal.bounds-edges-v
-bounds-edges-v c = omega arith
-
 pub returns-then-edges-v-eq-UNDECIDED : goal.returns-then-edges-v-eq-UNDECIDED
-returns-then-edges-v-eq-UNDECIDED c = record { above = omega arith; later = c.loop-v.invariant.0; passed = c.loop-v.invariant.2; found = λ _. c.if-edges-v-eq-UNDECIDED.true }
-
-pub overflow_add-v-in-loop-v : goal.overflow_add-v-in-loop-v
-overflow_add-v-in-loop-v c = omega arith
-
-pub loop-v-smaller : goal.loop-v-smaller
-loop-v-smaller c = omega arith
+returns-then-edges-v-eq-UNDECIDED c = record { above = omega arith; later = omega arith; passed = c.loop-v.invariant; found = λ _. c.if-edges-v-eq-UNDECIDED.true }
 
 pub loop-v-preserved : goal.loop-v-preserved
-loop-v-preserved c = (omega arith, omega arith, more c.args.edges.now c.args.from c.loop-v.v c.loop-v.invariant.2 c.if-edges-v-eq-UNDECIDED.false)
+loop-v-preserved c = more c.args.edges.now c.args.from c.loop-v.v c.loop-v.invariant c.if-edges-v-eq-UNDECIDED.false
 
 pub returns : goal.returns
-returns c = record { above = omega arith; later = c.loop-v.invariant.0; passed = c.loop-v.invariant.2; found = λ less. absurd (omega arith) }
+returns c = record { above = omega arith; later = omega arith; passed = λ k low high. c.loop-v.invariant k low (omega arith); found = λ less. absurd (omega arith) }

@@ -4,7 +4,9 @@ use Prim.Native.Nat.{◌+◌, ◌*◌, ◌-◌}
 use mathlib.Core.Path.{◌≡◌}
 use Rattle.rules.specs.Grid.{pads}
 use Rattle.boardview.specs.View.{grid_in, view}
-use Rattle.searchview.specs.Searched.{reached, Going, events_left}
+use Rattle.searchview.specs.Searched.{Going, events_left}
+use Rattle.std.specs.Prelude.{Ok}
+use Rattle.solver.specs.Answers.{so_far}
 use Rattle.solver.proofs.+attempt_backtrack.Given as goal
 
 abbrev pub decreases-attempt : goal.decreases-attempt
@@ -14,4 +16,4 @@ abbrev pub decreases-backtrack : goal.decreases-backtrack
 decreases-backtrack l = 2 * (pads (grid_in l.kind.now) - l.v) + 1
 
 abbrev pub invariant-backtrack-loop-m : goal.invariant-backtrack-loop-m
-invariant-backtrack-loop-m l = Going (grid_in l.kind) l.limit l.v l.initial.board (reached l.kind 0 l.initial.visited l.initial.layouts l.initial.fewest l.initial.buffer) (events_left (grid_in l.kind) l.v (view l.initial.board) (4 - l.m) l.m) l.board (reached l.kind 0 l.visited l.layouts l.fewest l.buffer) × (l.board.count ≡ l.initial.board.count)
+invariant-backtrack-loop-m l = Going (grid_in l.kind) l.limit l.v l.initial.board (so_far l.kind (Ok tt) l.initial.tally l.initial.buffer) (events_left (grid_in l.kind) l.v (view l.initial.board) (4 - l.m) l.m) l.board (so_far l.kind (Ok tt) l.tally l.buffer) × (l.board.count ≡ l.initial.board.count)

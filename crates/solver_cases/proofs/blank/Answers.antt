@@ -7,4 +7,4 @@ use native.Mathlib.Omega.{arith}
 use Rattle.solver_cases.proofs.blank.Goals as goal
 
 pub slice_bounds-solve-end : goal.slice_bounds-solve-end
-slice_bounds-solve-end c = sym (length-take-le _ _ (let k = length-replicate 300 (negsuc 0) in omega arith))
+slice_bounds-solve-end g c = sym (length-take-le _ _ (let k = length-replicate 300 (negsuc 0) in omega arith))

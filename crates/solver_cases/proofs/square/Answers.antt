@@ -7,4 +7,4 @@ use native.Mathlib.Omega.{arith}
 use Rattle.solver_cases.proofs.square.Goals as goal
 
 pub slice_bounds-solve-end-2 : goal.slice_bounds-solve-end-2
-slice_bounds-solve-end-2 c = sym (length-take-le _ _ (let k = length-replicate {A = ℕ} 40 7 in omega arith))
+slice_bounds-solve-end-2 g c = sym (length-take-le _ _ (let k = length-replicate {A = ℕ} 40 7 in omega arith))

@@ -1,2 +1,0 @@
--- What the proofs of the crate share.
-pub mod Copies

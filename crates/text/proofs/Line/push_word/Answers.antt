@@ -1,0 +1,7 @@
+-- `text::Line::push_word` meets its contract: what is put stands behind the text so far. Assumes nothing.
+use Rattle.std.proofs.Common.{ap, ◌∙◌, ℕ, List, ◌++◌, rules}
+use Rattle.text.specs.PutLaws.{put_behind}
+use Rattle.text.proofs.Line.push_word.Goals as goal
+
+pub returns : goal.returns
+returns g c = put_behind c.put_word-self-inside.ensures (search rules) ∙ ap (λ (text : List ℕ). text ++ (c.args.word.now)) c.self.view_is
