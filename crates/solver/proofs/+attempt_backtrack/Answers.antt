@@ -2,7 +2,6 @@
 -- SearchLaws.antt. Assumes nothing.
 use mathlib.Core.Path.{refl, sym, ◌∙◌}
 use native.Mathlib.Omega.{arith}
-use borrow.Author.Tests.{not-true, not-false}
 use Rattle.boardview.specs.View.{grid_in}
 use Rattle.boardview.specs.Unwind.{since_then}
 use Rattle.std.specs.Prelude.{Ok}
@@ -10,15 +9,13 @@ use Rattle.std.proofs.lemmas.Result.{err_from_is_err_and}
 use Rattle.tally.specs.Outcomes.{stopped_some}
 use Rattle.solver.specs.Answers.{so_far}
 use Rattle.searchview.specs.SearchLaws.{ready_edges, since_restored, ready_restored, not_tried, flagged, next_entered, went_on, spent, last_row_reached, begun, loop_over, stops_at, next_one, row_small, row_few, row_below, pad_small, right_on_board, down_on_board, next_in_row, gone_back}
-use mathlib.Core.Path.{ap}
-use mathlib.Core.Bool.{not}
 use Rattle.solver.proofs.+attempt_backtrack.Goals as goal
 
 pub attempt-tried-requires : goal.attempt-tried-requires
 attempt-tried-requires t c = (pad_small _ _ c.requires.0.ready c.requires.0.kinds.least_height _ c.requires.1, c.requires.0.kinds, ready_edges _ _ c.requires.0.ready)
 
 pub attempt-returns-then-not-tried : goal.attempt-returns-then-not-tried
-attempt-returns-then-not-tried t c = (not_tried _ _ _ _ _ _ _ c.requires.0.inside (sym c.tried.ensures ∙ not-true _ (ap not c.if-not-tried.true)), refl)
+attempt-returns-then-not-tried t c = (not_tried _ _ _ _ _ _ _ c.requires.0.inside (sym c.tried.ensures ∙ c.if-not-tried.true), refl)
 
 pub attempt-decide-requires : goal.attempt-decide-requires
 attempt-decide-requires t c =
@@ -45,7 +42,7 @@ attempt-backtrack-outcome-requires t c =
     let next-pad-says = c.next_pad-next.ensures in
     let decide-down-says = c.decide-2.ensures in
     let if2-taken = c.if-board-lt-FLAGGED.true in
-    (omega (arith, start.decreases, next-pad-says.later, row_small _ _ start.requires.0.ready start.requires.0.kinds.least_height, start.requires.1.low), (record { kinds = start.requires.0.kinds; ready = decide-down-says.ready; clear = if2-taken; inside = start.requires.0.inside }, next_entered _ _ _ _ _ (sym c.tried.ensures ∙ not-false _ (ap not c.if-not-tried.false)) start.requires.0.ready _ _ c.decide.ensures (decide-down-says) start.requires.0.kinds.least_width start.requires.0.kinds.least_height (row_few _ _ start.requires.0.ready start.requires.0.kinds.least_height) (if2-taken) start.requires.1.low _ (next_in_row _ _ _ _ _ c.first_of_last_row-last.ensures (next-pad-says))))
+    (omega (arith, start.decreases, next-pad-says.later, row_small _ _ start.requires.0.ready start.requires.0.kinds.least_height, start.requires.1.low), (record { kinds = start.requires.0.kinds; ready = decide-down-says.ready; clear = if2-taken; inside = start.requires.0.inside }, next_entered _ _ _ _ _ (sym c.tried.ensures ∙ c.if-not-tried.false) start.requires.0.ready _ _ c.decide.ensures (decide-down-says) start.requires.0.kinds.least_width start.requires.0.kinds.least_height (row_few _ _ start.requires.0.ready start.requires.0.kinds.least_height) (if2-taken) start.requires.1.low _ (next_in_row _ _ _ _ _ c.first_of_last_row-last.ensures (next-pad-says))))
 
 pub attempt-undo-requires : goal.attempt-undo-requires
 attempt-undo-requires t c =
@@ -64,7 +61,7 @@ attempt-returns-then-board-lt-FLAGGED t c =
     let decide-down-says = c.decide-2.ensures in
     let backtrack-says = c.backtrack-outcome.ensures in
     let back = gone_back _ _ _ _ (since_restored _ _ _ _ backtrack-says.1 (since_then _ _ _ _ decide-right-says.since decide-down-says.since) backtrack-says.0.restored) (backtrack-says.0.restored.log_long ∙ decide-down-says.ready.log_long ∙ sym start.requires.0.ready.log_long) c.undo.ensures in
-    (went_on _ _ _ _ _ (sym c.tried.ensures ∙ not-false _ (ap not c.if-not-tried.false)) start.requires.0.ready _ _ (decide-right-says) (decide-down-says) start.requires.0.kinds.least_width start.requires.0.kinds.least_height (row_few _ _ start.requires.0.ready start.requires.0.kinds.least_height) c.if-board-lt-FLAGGED.true start.requires.1.low _ (next_in_row _ _ _ _ _ c.first_of_last_row-last.ensures c.next_pad-next.ensures) _ _ _ _ _ backtrack-says.0 back.0, back.1)
+    (went_on _ _ _ _ _ (sym c.tried.ensures ∙ c.if-not-tried.false) start.requires.0.ready _ _ (decide-right-says) (decide-down-says) start.requires.0.kinds.least_width start.requires.0.kinds.least_height (row_few _ _ start.requires.0.ready start.requires.0.kinds.least_height) c.if-board-lt-FLAGGED.true start.requires.1.low _ (next_in_row _ _ _ _ _ c.first_of_last_row-last.ensures c.next_pad-next.ensures) _ _ _ _ _ backtrack-says.0 back.0, back.1)
 
 pub attempt-undo-requires-2 : goal.attempt-undo-requires-2
 attempt-undo-requires-2 t c =
@@ -78,7 +75,7 @@ attempt-returns t c =
     let decide-right-says = c.decide.ensures in
     let decide-down-says = c.decide-2.ensures in
     let back = gone_back _ _ _ _ (since_then _ _ _ _ decide-right-says.since decide-down-says.since) (decide-down-says.ready.log_long ∙ sym start.requires.0.ready.log_long) c.undo-2.ensures in
-    (flagged _ _ _ _ _ (sym c.tried.ensures ∙ not-false _ (ap not c.if-not-tried.false)) start.requires.0.ready _ _ (decide-right-says) (decide-down-says) _ _ start.requires.0.inside c.if-board-lt-FLAGGED.false _ back.0, back.1)
+    (flagged _ _ _ _ _ (sym c.tried.ensures ∙ c.if-not-tried.false) start.requires.0.ready _ _ (decide-right-says) (decide-down-says) _ _ start.requires.0.inside c.if-board-lt-FLAGGED.false _ back.0, back.1)
 
 pub backtrack-returns-then-tally-limit : goal.backtrack-returns-then-tally-limit
 backtrack-returns-then-tally-limit t c =
