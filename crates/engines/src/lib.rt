@@ -152,6 +152,7 @@ pub fn next_grid(kinds: &mut [u8]) -> bool
 }
 
 // The cell of a kind: 0 is blank, 1 is a hole, 2 + c is code c.
+// Kinds stay numbers, since `next_grid` counts in them as in digits, and `Kinds`, `Before` and `Next` are said of numbers.
 pub fn cell_of_kind(kind: u8) -> i64
     ensures { result ≡ cell_of_kind kind }
 {
