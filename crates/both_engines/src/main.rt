@@ -48,23 +48,6 @@ fn compare_grid(rt: &impl Print, height: usize, width: usize, kinds: &[u8], sums
     engines::counted(sums, compared)
 }
 
-// The same where the grid is one of those that are taken.
-fn compare_taken(
-    rt: &impl Print,
-    height: usize,
-    width: usize,
-    kinds: &[u8],
-    taken: bool,
-    sums: Sums,
-) -> Sums
-    requires { length kinds.now ≤ 9 }
-{
-    if !taken {
-        return sums;
-    }
-    compare_grid(rt, height, width, kinds, sums)
-}
-
 // Goes through the grids of a size from the one of these kinds on, and takes those whose number from 0 leaves this rest by this step.
 fn compare_size(
     rt: &impl Print,
@@ -78,7 +61,9 @@ fn compare_size(
 {
     let mut sums = Sums::NONE;
     for number in 0..MOST_GRIDS {
-        sums = compare_taken(rt, height, width, kinds, number % step == rest, sums);
+        if number % step == rest {
+            sums = compare_grid(rt, height, width, kinds, sums);
+        }
         if !engines::next_grid(kinds) {
             break;
         }

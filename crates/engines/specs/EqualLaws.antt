@@ -1,9 +1,10 @@
 -- Laws of what equal means of two answers and their buffers, and of a test that tells a fact. Assumes nothing.
-use Rattle.std.specs.Prelude.{ℕ, ◌*◌, ◌/◌, ◌≤◌, ◌<◌, ◌≡◌, refl, Bool, true, false, ◌↔◌, List, length, take, get_or}
+use Rattle.std.specs.Prelude.{ℕ, ◌*◌, ◌/◌, ◌≤◌, ◌<◌, ◌≡◌, refl, Bool, true, false, ◌↔◌, List, length, take, get_or, Result, Ok, Err}
 use Rattle.std.proofs.Common.{arith, div-lt_iff_lt-mul, le-div_iff_mul-le, sym, ap, ◌∙◌, length-take-le, get_or-take, ext_get_or}
 use Rattle.rules.specs.Grid.{places}
-use Rattle.walking.specs.declared.Walked.{Walked}
-use Rattle.solver.specs.declared.Solved.{Solved}
+use Rattle.grid.specs.declared.Refusal.{Refusal}
+use Rattle.tally.specs.declared.Solved.{Solved}
+use Rattle.tally.specs.Answers.{answer_says}
 use Rattle.engines.specs.Equal.{SameCounts, SameBytes, Equal}
 
 -- ## A test that tells a fact
@@ -25,9 +26,15 @@ told_true tells is_true = tells.0 is_true
 
 -- ## Answers
 
+-- an answer says what its buffer holds
+pub buffer_after : (r : Result Solved Refusal) (buffer : List ℕ) → (answer_says r buffer).buffer ≡ buffer
+buffer_after (Ok s) buffer = refl
+buffer_after (Err refusal) buffer = refl
+
 -- what is left is the records
-pub records_tell : {height width : ℕ} {walked : Walked} {first : List ℕ} {solved : Solved} {second : List ℕ} {test : Bool} → SameCounts walked solved
-    → (test ≡ true) ↔ SameBytes (walked.layouts * places height width) first second → (test ≡ true) ↔ Equal height width walked first solved second
+pub records_tell : {height width : ℕ} {walked : Result Solved Refusal} {first : List ℕ} {solved : Result Solved Refusal} {second : List ℕ} {test : Bool}
+    → SameCounts (answer_says walked first) (answer_says solved second)
+    → (test ≡ true) ↔ SameBytes ((answer_says walked first).layouts * places height width) first second → (test ≡ true) ↔ Equal height width walked first solved second
 records_tell counts tells = ((λ t. record { counts = counts; records = tells.0 t }), (λ equal. tells.1 equal.records))
 
 -- ## Bytes

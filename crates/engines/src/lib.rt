@@ -4,28 +4,40 @@
 // each up to a renaming of its codes exactly once, as one kind for each pad (specs/Kinds.antt).
 #![tactic(auto)]
 
-ghost use Rattle.std.specs.Prelude.{◌≡◌, true, ◌↔◌, ◌+◌, ◌*◌, ◌-◌, ◌≤◌, ◌<◌, length};
+ghost use Rattle.std.specs.Prelude.{◌≡◌, true, ◌↔◌, ◌+◌, ◌*◌, ◌-◌, ◌≤◌, ◌<◌, List, ℕ, length};
 ghost use Rattle.rules.specs.Grid.{places};
+ghost use Rattle.tally.specs.Answers.{answer_says};
 ghost use Rattle.engines.specs.Equal.{SameCounts, SameBytes, Equal, Compares};
 ghost use Rattle.engines.specs.Kinds.{more_codes, codes_before, Kinds, Next, cell_of_kind, cells_of};
 ghost use Rattle.engines.specs.Sums.{with_grid};
 
-use solver::Solved;
-use walking::Walked;
+use grid::{BLANK, HOLE, Refusal};
+use tally::{Solved, Tally};
 
 // Where the count of visited boards, or of tried codes, stops an engine: never.
 const LIMIT: u64 = u64::MAX;
 
-// Whether two answers say the same: both complete, and number, index, layouts and fewest lines alike.
-fn same_counts(walked: Walked, solved: Solved) -> bool
-    ensures { (result ≡ true) ↔ SameCounts walked solved }
+// What an engine has counted: nothing where it declined the grid.
+fn tally_of(answer: Result<Solved, Refusal>) -> Tally
+    ensures { (buffer : List ℕ) → (result.layouts ≡ (answer_says answer buffer).layouts) × (result.visited ≡ (answer_says answer buffer).visited) }
 {
-    walked.outcome == 0
-        && solved.outcome == 0
-        && walked.number == solved.number
-        && walked.index == solved.index
-        && walked.layouts == solved.layouts
-        && walked.fewest == solved.fewest
+    answer.map_or(Tally::EMPTY, |solved| solved.tally)
+}
+
+// Whether two answers say the same: both complete, and layouts and fewest lines alike, or one refusal.
+fn same_counts(walked: Result<Solved, Refusal>, solved: Result<Solved, Refusal>) -> bool
+    ensures { (first second : List ℕ) → (result ≡ true) ↔ SameCounts (answer_says walked first) (answer_says solved second) }
+{
+    match (walked, solved) {
+        (Ok(walked), Ok(solved)) => {
+            walked.outcome.is_ok()
+                && solved.outcome.is_ok()
+                && walked.tally.layouts == solved.tally.layouts
+                && walked.tally.fewest == solved.tally.fewest
+        }
+        (Err(walked), Err(solved)) => walked == solved,
+        _ => false,
+    }
 }
 
 // Whether two buffers have so many bytes, and these are the same.
@@ -65,18 +77,16 @@ fn same_records(height: usize, width: usize, layouts: usize, first: &[u8], secon
 fn same_answers(
     height: usize,
     width: usize,
-    walked: Walked,
-    solved: Solved,
+    walked: Result<Solved, Refusal>,
+    solved: Result<Solved, Refusal>,
     first: &[u8],
     second: &[u8],
 ) -> bool
-    requires { 0 < walked.layouts → (1 ≤ height) × (height ≤ 16) × (1 ≤ width) × (width ≤ 16) }
+    requires { 0 < (answer_says walked first.now).layouts → (1 ≤ height) × (height ≤ 16) × (1 ≤ width) × (width ≤ 16) }
     ensures { (result ≡ true) ↔ Equal height width walked first.now solved second.now }
 {
-    if !same_counts(walked, solved) {
-        return false;
-    }
-    same_records(height, width, walked.layouts, first, second)
+    same_counts(walked, solved)
+        && same_records(height, width, tally_of(walked).layouts, first, second)
 }
 
 // What is told of a grid: whether the engines are equal on it, and what they counted.
@@ -98,11 +108,12 @@ pub fn compare(height: usize, width: usize, cells: &[i64]) -> Compared
     let walked = walking::walk(height, width, cells, LIMIT, &mut first);
     let solved = solver::solve(height, width, cells, LIMIT, &mut second);
     let equal = same_answers(height, width, walked, solved, &first, &second);
+    let searched = tally_of(solved);
     Compared {
         equal,
-        layouts: solved.layouts,
-        visited: solved.visited,
-        tried: walked.tried,
+        layouts: searched.layouts,
+        visited: searched.visited,
+        tried: tally_of(walked).visited,
     }
 }
 
@@ -141,12 +152,13 @@ pub fn next_grid(kinds: &mut [u8]) -> bool
 }
 
 // The cell of a kind: 0 is blank, 1 is a hole, 2 + c is code c.
+// Kinds stay numbers, since `next_grid` counts in them as in digits, and `Kinds`, `Before` and `Next` are said of numbers.
 pub fn cell_of_kind(kind: u8) -> i64
     ensures { result ≡ cell_of_kind kind }
 {
     match kind {
-        0 => -1,
-        1 => -2,
+        0 => BLANK,
+        1 => HOLE,
         _ => i64::from(kind - 2),
     }
 }
