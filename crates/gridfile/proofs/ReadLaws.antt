@@ -18,9 +18,10 @@ use Rattle.model.specs.Bounds.{most_digits}
 use Rattle.model.specs.GridFile as model
 use Rattle.model.specs.GridFile.{Standing, is_digit, is_comma, is_line_end, is_hole_sign, begins_hole, is_allowed, disallowed_number, is_zero_alone, in_header, is_complete, declined_reading, declined, read_from, no_cells}
 use Rattle.reading.specs.FieldSteps.{Part, some_digits, hole_alone, field_start, in_field, field_ending, drop_next, place_inside, byte_there, byte_refused, end_early, still_open, refusal_15, refusal_2, refusal_disallowed, refusal_3, digit_read, hole_read, row_open, header_open}
-use Rattle.gridfile.specs.Fields.{fault_number, disallowed, ended_field, field_from, field_at, hole_from, row_field_at, part_of}
+use Rattle.gridfile.specs.Fields.{fault_number, disallowed, ended_field, field_from, field_at, hole_from, row_field_at, located, part_of}
 use Rattle.gridfile.specs.declared.Field.{Field}
 use Rattle.gridfile.specs.declared.Fault.{Fault}
+use Rattle.gridfile.specs.declared.Declined.{Declined}
 use Rattle.std.specs.Prelude.{Result, Ok, Err}
 use Rattle.gridfile.proofs.FieldLaws.{sign_inside}
 
@@ -170,6 +171,16 @@ module _ (bytes : List ℕ) (at : ℕ) (found : Field) (ended : Ended bytes at f
   pub comma_there : (get_or bytes found.end 0 ≡ 10 → ⊥) → get_or bytes found.end 0 ≡ 44
   unfolding is_comma is_line_end
   comma_there n = ⊎_elim (λ c. eqb-true _ _ c) (λ l. absurd (n (eqb-true _ _ l))) ended.parted
+
+-- ## A field with the place of its refusal
+
+pub found_there : (r : Result Field Fault) (line field : ℕ) (found : Field) → Ok found ≡ located r line field → r ≡ Ok found
+found_there (Ok other) line field found e = let same : found ≡ other = cc in rw same refl
+found_there (Err fault) line field found e = let z : ◌≡◌ {A = ℕ} 0 1 = cc in absurd (omega arith)
+
+pub declined_there : (r : Result Field Fault) (line field : ℕ) (declined : Declined) → Err declined ≡ located r line field → (fault : Fault) × (r ≡ Err fault) × (declined ≡ record { fault = fault; line = line; field = field })
+declined_there (Ok other) line field declined e = let z : ◌≡◌ {A = ℕ} 0 1 = cc in absurd (omega arith)
+declined_there (Err fault) line field declined e = let same : declined ≡ record { fault = fault; line = line; field = field } = cc in (fault, refl, same)
 
 -- ## A field from its first byte on
 

@@ -15,11 +15,13 @@ use Rattle.model.specs.RefusalLaws.{size_of_test}
 use Rattle.model.specs.GridFile as model
 use Rattle.model.specs.GridFile.{is_hole_sign, is_complete, in_header, refusal, accepted, declined_reading, declined, read_from, no_cells}
 use Rattle.reading.specs.FieldSteps.{Part, field_start, field_ending, cell_of, byte_refused, end_complete, row_too_short, row_ends, row_too_long, row_goes_on}
-use Rattle.gridfile.specs.Fields.{fault_number, row_field_at, part_of}
+use Rattle.gridfile.specs.Fields.{fault_number, row_field_at, located, part_of}
+use Rattle.gridfile.specs.Answers.{reading_says}
+use Rattle.gridfile.specs.declared.Declined.{Declined}
 use Rattle.gridfile.specs.declared.Field.{Field}
 use Rattle.gridfile.specs.declared.Fault.{Fault}
 use Rattle.std.specs.Prelude.{Ok, Err}
-use Rattle.gridfile.proofs.ReadLaws.{Ended, comma_there, FieldRead, row_read, by_refusal, by_ending}
+use Rattle.gridfile.proofs.ReadLaws.{Ended, comma_there, FieldRead, row_read, by_refusal, by_ending, declined_there}
 
 -- the next field of a row is at `line` and `field`, its pad's cell at `index`, its first byte at `at`; reading on from there
 -- is what reading from the first row on comes to
@@ -49,8 +51,11 @@ module _ (bytes : List ℕ) (from height width : ℕ) (cells : List ℤ) (index 
   here = row_read line field height width cells r.in_rows left bytes at
 
   -- a field that is refused
-  pub row_refused : (fault : Fault) → row_field_at bytes at ≡ Err fault → declined_reading (fault_number fault) line field ≡ read_from (field_start 2 1 height width no_cells) (drop from bytes)
+  row_refused : (fault : Fault) → row_field_at bytes at ≡ Err fault → declined_reading (fault_number fault) line field ≡ read_from (field_start 2 1 height width no_cells) (drop from bytes)
   row_refused fault e = by_refusal here fault e ∙ r.same
+
+  pub row_declined : (declined : Declined) → Err declined ≡ located (row_field_at bytes at) line field → reading_says (Err declined) ≡ read_from (field_start 2 1 height width no_cells) (drop from bytes)
+  row_declined declined e = let t = declined_there (row_field_at bytes at) line field declined e in ap (λ (d : Declined). reading_says (Err d)) t.2 ∙ row_refused t.0 t.1
 
   pub index_inside : is_size height ≡ true → is_size width ≡ true → index < 256
   index_inside h w = omega (arith, r.counted, r.first, r.last, up_to_here, all)

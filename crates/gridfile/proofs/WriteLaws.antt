@@ -6,8 +6,8 @@ use mathlib.Core.List.{List, [], ◌∷◌, ◌++◌, append_assoc, append-nil}
 use Prim.Native.Nat.{ℕ, zero, suc, ◌+◌, ◌≤◌, ◌<◌}
 use native.Mathlib.Numerals.{add-one}
 use native.Mathlib.Omega.{arith}
-use lib.ListN.{length, get_or, take, drop, length-append, drop_of_length-le}
-use lib.Seq.{drop-cons, take-append_seam}
+use lib.ListN.{length, get_or, drop, length-append, drop_of_length-le}
+use lib.Seq.{drop-cons}
 use lib.IntN.{ℤ, pos, negsuc, nat_abs}
 use lib.Signed.{lt_z, non_neg}
 use lib.Dec.{T, eqb}
@@ -22,8 +22,12 @@ use Rattle.model.specs.RefusalLaws.{test_of_size, not_refused}
 use Rattle.model.specs.Text.{bytes, comma, line_end, hole_sign}
 use Rattle.model.specs.Decimal.{decimal}
 use Rattle.model.specs.Writing.{cell_text, rows_text, grid_text, turned_away, written, write}
-use Rattle.text.specs.Put.{Put}
-use Rattle.text.specs.PutLaws.{put_both, put_length, put_same, put_none, put_front, put_next}
+use Rattle.grid.specs.declared.Refusal.{Refusal}
+use Rattle.grid.specs.declared.Refusal.TheVariants.{Size, CellCount, Cell}
+use Rattle.grid.specs.Answers.{number_of, refusal_says}
+use Rattle.gridfile.specs.declared.Unwritten.TheVariants.{BadGrid, NoRoom}
+use Rattle.gridfile.specs.Answers.{writing_says}
+use Rattle.std.specs.Prelude.{Ok, Err}
 use Rattle.reading.specs.ReadBack.{longest_text}
 use Rattle.reading.proofs.WriteRead.{refused_grid, no_room, has_room}
 
@@ -63,21 +67,21 @@ module _ (z : ℤ) (f : SFits w64 z) where
 
 -- ## The loop over the pads
 
--- the pads below the index have been put; what was put and the text of the pads that are left make the text of all
-pub record RowsPut (first out : List ℕ) (at width : ℕ) (cells : List ℤ) (next field index : ℕ) : Type 0 where
+-- the pads below the index have been put behind a first text; what was put and the text of the pads that are left make the text of all
+pub record RowsPut (first text : List ℕ) (width : ℕ) (cells : List ℤ) (field index : ℕ) : Type 0 where
   pub so_far : List ℕ
-  pub put : Put first out at so_far next
+  pub put : text ≡ first ++ so_far
   pub whole : so_far ++ rows_text width field (drop index cells) ≡ rows_text width 1 cells
   pub field_from_1 : 1 ≤ field
   pub field_within : field ≤ width
   pub within : index ≤ length cells
 
-pub rows_begin : (first : List ℕ) (at width : ℕ) (cells : List ℤ) → 1 ≤ width → RowsPut first first at width cells at 1 0
-rows_begin first at width cells w = record { so_far = []; put = put_none first at at refl; whole = refl; field_from_1 = omega arith; field_within = w; within = omega arith }
+pub rows_begin : (first : List ℕ) (width : ℕ) (cells : List ℤ) → 1 ≤ width → RowsPut first first width cells 1 0
+rows_begin first width cells w = record { so_far = []; put = sym (append-nil first); whole = refl; field_from_1 = omega arith; field_within = w; within = omega arith }
 
-pub rows_done : {first out : List ℕ} {at width : ℕ} {cells : List ℤ} {next field index : ℕ} → RowsPut first out at width cells next field index → length cells ≤ index → Put first out at (rows_text width 1 cells) next
+pub rows_done : {first text : List ℕ} {width : ℕ} {cells : List ℤ} {field index : ℕ} → RowsPut first text width cells field index → length cells ≤ index → text ≡ first ++ rows_text width 1 cells
 unfolding rows_text
-rows_done {cells = cells} {index = index} p h = put_same (sym (append-nil p.so_far) ∙ (rw (drop_of_length-le cells h) at p.whole)) p.put
+rows_done {first} {cells = cells} {index = index} p h = p.put ∙ ap (λ (l : List ℕ). first ++ l) (sym (append-nil p.so_far) ∙ (rw (drop_of_length-le cells h) at p.whole))
 
 -- the text from a pad on: its field, the byte after it, and the pads after it
 module _ (width field : ℕ) (cells : List ℤ) (index : ℕ) (below : index < length cells) (cell : ℤ) (there : cell ≡ get_or cells index (pos 0)) where
@@ -96,17 +100,23 @@ module _ (width field : ℕ) (cells : List ℤ) (index : ℕ) (below : index < l
       go true t = rw (last_of_row (eqb-true field width t), length-append) (omega arith)
       go false t = rw (not_last (eqb-false field width t), length-append) (omega arith)
 
-module _ {first out : List ℕ} {at width : ℕ} {cells : List ℤ} {next field index : ℕ} (p : RowsPut first out at width cells next field index) (below : index < length cells) {cell : ℤ} (there : cell ≡ get_or cells index (pos 0)) where
+module _ {first text : List ℕ} {width : ℕ} {cells : List ℤ} {field index : ℕ} (p : RowsPut first text width cells field index) (below : index < length cells) {cell : ℤ} (there : cell ≡ get_or cells index (pos 0)) where
   -- room for the field and the byte after it
-  pub pad_room : at + length (rows_text width 1 cells) ≤ length first → next + length (cell_text cell) + 1 ≤ length out
-  pad_room room = omega (arith, p.put.place, put_length p.put, some_text width field cells index below cell there, sym (length-append p.so_far (rows_text width field (drop index cells))) ∙ ap (λ (l : List ℕ). length l) p.whole)
+  pub pad_room : {room : ℕ} → length first + length (rows_text width 1 cells) ≤ room → length text + length (cell_text cell) + 1 ≤ room
+  pad_room room = omega (
+    arith,
+    ap (λ (l : List ℕ). length l) p.put,
+    length-append first p.so_far,
+    some_text width field cells index below cell there,
+    sym (length-append p.so_far (rows_text width field (drop index cells))) ∙ ap (λ (l : List ℕ). length l) p.whole,
+  )
 
-  module _ {second third : List ℕ} {middle last : ℕ} (q : Put out second next (cell_text cell) middle) where
-    pad_put : (byte after : ℕ) → rows_text width field (drop index cells) ≡ cell_text cell ++ byte ∷ rows_text width after (drop (index + 1) cells) → 1 ≤ after → after ≤ width → Put second third middle (byte ∷ []) last → RowsPut first third at width cells last after (index + 1)
+  module _ {middle last : List ℕ} (q : middle ≡ text ++ cell_text cell) where
+    pad_put : (byte after : ℕ) → rows_text width field (drop index cells) ≡ cell_text cell ++ byte ∷ rows_text width after (drop (index + 1) cells) → 1 ≤ after → after ≤ width → last ≡ middle ++ (byte ∷ []) → RowsPut first last width cells after (index + 1)
     pad_put byte after e from upto r =
         record {
           so_far = p.so_far ++ (cell_text cell ++ (byte ∷ []));
-          put = put_both p.put (put_both q r);
+          put = rw (r, q, p.put) (simp append_assoc);
           whole = simp append_assoc (ap (λ (l : List ℕ). p.so_far ++ l) (sym e) ∙ p.whole);
           field_from_1 = from;
           field_within = upto;
@@ -114,10 +124,10 @@ module _ {first out : List ℕ} {at width : ℕ} {cells : List ℤ} {next field 
         }
 
     -- the pad was the last of its row, or another follows
-    pub row_ended : field ≡ width → Put second third middle (10 ∷ []) last → RowsPut first third at width cells last 1 (index + 1)
+    pub row_ended : field ≡ width → last ≡ middle ++ (10 ∷ []) → RowsPut first last width cells 1 (index + 1)
     row_ended e r = pad_put 10 1 (last_of_row width field cells index below cell there e) (omega arith) (omega (arith, p.field_from_1)) r
 
-    pub row_goes_on : (field ≡ width → ⊥) → Put second third middle (44 ∷ []) last → RowsPut first third at width cells last (field + 1) (index + 1)
+    pub row_goes_on : (field ≡ width → ⊥) → last ≡ middle ++ (44 ∷ []) → RowsPut first last width cells (field + 1) (index + 1)
     row_goes_on n r = pad_put 44 (field + 1) (not_last width field cells index below cell there n) (omega arith) (omega (arith, n, p.field_within)) r
 
 -- ## The whole grid
@@ -134,45 +144,41 @@ module _ (height width : ℕ) (cells : List ℤ) where
       parts : length (decimal height) + 1 + (length (decimal width) + 1) + length (rows_text width 1 cells) ≡ length (grid_text height width cells)
       parts = rw (← grid_parts) (simp length-append)
 
-pub field_next : {first second : List ℕ} {at next : ℕ} (number byte : ℕ) → Put first second at (decimal number ++ (byte ∷ [])) next → next ≡ at + (length (decimal number) + 1)
-field_next {at = at} number byte p = p.place ∙ ap (λ (n : ℕ). at + n) (length-append (decimal number) (byte ∷ []))
+-- the length of an empty text, and of one with a pad's field behind it
+pub none_yet : {text : List ℕ} → text ≡ [] → length text ≡ 0
+none_yet e = rw e refl
+
+pub cell_longer : (text : List ℕ) (cell : ℤ) {longer : List ℕ} → longer ≡ text ++ cell_text cell → length longer ≡ length text + length (cell_text cell)
+cell_longer text cell e = rw (e, length-append) refl
+
+-- a text with a field behind it
+pub field_longer : (text : List ℕ) {longer : List ℕ} (number byte : ℕ) → longer ≡ text ++ (decimal number ++ (byte ∷ [])) → length longer ≡ length text + (length (decimal number) + 1)
+field_longer text number byte e = rw (e, length-append, length-append) refl
 
 -- ## What is answered
 
-module _ (height width : ℕ) (cells : List ℤ) (number index : ℕ) (told : (number, index) ≡ grid_refusal height width cells) where
-  number_told : (grid_refusal height width cells).0 ≡ number
-  number_told = sym (ap (λ (t : ℕ × ℕ). t.0) told)
-
-  pub refused : (number ≡ 0 → ⊥) → (buffer : List ℕ) → record { number = number; index = index; length = 0; buffer = buffer } ≡ write height width cells buffer
+module _ (height width : ℕ) (cells : List ℤ) where
+  pub refused : (refusal : Refusal) → refusal_says (Err refusal) ≡ grid_refusal height width cells → (buffer : List ℕ) → writing_says (Err (BadGrid refusal)) buffer ≡ write height width cells buffer
   unfolding turned_away
-  refused n buffer = sym (refused_grid height width cells buffer (rw number_told (ne_eqb number 0 n)) ∙ rw (← told) refl)
+  refused refusal told buffer = sym (refused_grid height width cells buffer (rw (← told) (some_number refusal)) ∙ rw (← told) refl)
+    where
+      some_number : (r : Refusal) → eqb (number_of r) 0 ≡ false
+      some_number Size = refl
+      some_number CellCount = refl
+      some_number (Cell index) = refl
 
-  pub not_refused_grid : number ≡ 0 → Accepted height width cells
-  not_refused_grid e = not_refused height width cells (number_told ∙ e)
+  pub not_refused_grid : {accepted : Unit {0}} → refusal_says (Ok accepted) ≡ grid_refusal height width cells → Accepted height width cells
+  not_refused_grid told = not_refused height width cells (sym (ap (λ (t : ℕ × ℕ). t.0) told))
 
 module _ (height width : ℕ) (cells : List ℤ) (a : Accepted height width cells) where
   pub text_fits : (is_size width ≡ true) × (length (grid_text height width cells) ≤ 2822)
   text_fits = (test_of_size width a.width_in_range, longest_text height width cells a)
 
-  -- the text was put into an array that it fits
-  module _ {array filled : List ℕ} {long : ℕ} (p : Put array filled 0 (grid_text height width cells) long) where
-    pub too_short : (buffer : List ℕ) → length buffer < long → record { number = 14; index = 0; length = 0; buffer = buffer } ≡ write height width cells buffer
+  module _ {text : List ℕ} (is : text ≡ grid_text height width cells) (buffer : List ℕ) where
+    pub too_short : length buffer < length text → writing_says (Err NoRoom) buffer ≡ write height width cells buffer
     unfolding turned_away
-    too_short buffer h = sym (no_room height width cells buffer a (rw (← (put_next p)) h))
+    too_short h = sym (no_room height width cells buffer a (rw is at h))
 
-    module _ (fits : length (grid_text height width cells) ≤ length array) where
-      pub long_within : long ≤ length filled
-      long_within = rw (put_next p, put_length p) fits
-
-      pub text_taken : take long filled ≡ grid_text height width cells
-      text_taken = rw (put_front p fits, put_next p) (take-append_seam (grid_text height width cells) (drop (length (grid_text height width cells)) array))
-
-      pub copied : {buffer after : List ℕ} {next : ℕ} → long ≤ length buffer → Put buffer after 0 (take long filled) next → record { number = 0; index = 0; length = long; buffer = after } ≡ write height width cells buffer
-      unfolding written
-      copied {buffer} {after} room q = rw (put_next p, stored) (sym (has_room height width cells buffer a enough))
-        where
-          enough : length (grid_text height width cells) ≤ length buffer
-          enough = rw (← (put_next p)) room
-
-          stored : after ≡ grid_text height width cells ++ drop (length (grid_text height width cells)) buffer
-          stored = put_front (put_same text_taken q) enough
+    pub copied : {after : List ℕ} → length text ≤ length buffer → after ≡ text ++ drop (length text) buffer → writing_says (Ok (length text)) after ≡ write height width cells buffer
+    unfolding written
+    copied room e = rw (e, is) (sym (has_room height width cells buffer a (rw is at room)))

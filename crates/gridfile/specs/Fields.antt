@@ -9,6 +9,7 @@ use Rattle.model.specs.GridFile.{is_digit, is_comma, is_line_end, is_hole_sign, 
 use Rattle.reading.specs.FieldSteps.{Part, some_digits, hole_alone}
 use Rattle.gridfile.specs.declared.Field.{Field}
 use Rattle.gridfile.specs.declared.Fault.{Fault}
+use Rattle.gridfile.specs.declared.Declined.{Declined}
 use Rattle.gridfile.specs.declared.Fault.TheVariants.{StrayByte, EleventhDigit, LargeCode, FieldCount, BadSize, FileEnd, ByteAfterDigit, LeadingZero, HalfByte}
 
 -- the documents' number
@@ -57,6 +58,11 @@ hole_from (byte ∷ bytes) at = ended_field byte 0 0 at
 unfoldable pub row_field_at : List ℕ → ℕ → Result Field Fault
 row_field_at bytes from =
     if is_hole_sign (get_or bytes from 0) then hole_from (drop (from + 1) bytes) (from + 1) else field_at bytes from
+
+-- a field with the line and the field at which the file is declined where it is refused
+abbrev pub located : Result Field Fault → ℕ → ℕ → Result Field Declined
+located (Ok found) line field = Ok found
+located (Err fault) line field = Err (record { fault = fault; line = line; field = field })
 
 -- what an ended field is, by whether it begins with the sign of a hole: the sign alone, or digits with their value
 abbrev pub part_of : Bool → ℕ → ℕ → Part

@@ -1,18 +1,21 @@
-// Reading a grid file: the answer is H, W and 256 cells, or one numbered refusal with its line and field. The whole answer
+// Reading a grid file: the answer is H, W and 256 cells, or why the file is declined with a line and a field. The whole answer
 // is said by `read` of the crate `model`, specs/GridFile.antt there; specs/Fields.antt says what one field gives.
 // Writing one: the text of a grid goes to a lent buffer, in shortest digits; the answer and every byte of the buffer are said by
 // `write` of the crate `model`, specs/Writing.antt there.
 #![tactic(auto)]
 
-ghost use Rattle.std.specs.Prelude.{◌≡◌, true, ◌+◌, ◌-◌, ◌*◌, ◌≤◌, ◌<◌, length, get_or, drop, set};
+ghost use Rattle.std.specs.Prelude.{◌≡◌, true, ◌++◌, ◌+◌, ◌-◌, ◌*◌, ◌≤◌, ◌<◌, length, get_or, drop, set};
 ghost use Rattle.rules.specs.Grid.{largest_code};
 ghost use Rattle.model.specs.Bounds.{is_size};
-ghost use Rattle.model.specs.GridFile.{is_digit, is_hole_sign, is_zero_alone, no_cells, declined_reading, read_from, read};
+ghost use Rattle.model.specs.GridFile.{is_digit, is_hole_sign, is_zero_alone, no_cells, read_from, read};
 ghost use Rattle.model.specs.Writing.{cell_text, rows_text, grid_text, write};
-ghost use Rattle.text.specs.Put.{Put};
 ghost use Rattle.reading.specs.FieldSteps.{field_start, cell_of};
-ghost use Rattle.gridfile.specs.Fields.{fault_number, disallowed, field_at, row_field_at, ended_field, part_of};
-ghost use Rattle.gridfile.specs.Answers.{reading_says, writing_says};
+ghost use Rattle.gridfile.specs.Fields.{fault_number, disallowed, field_at, row_field_at, ended_field, located, part_of};
+ghost use Rattle.gridfile.specs.Answers.{unwritten_number, unwritten_index, reading_says, writing_says};
+ghost use Rattle.gridfile.specs.declared.Unwritten.TheVariants.{BadGrid};
+
+use grid::Refusal;
+use text::Line;
 
 // The bytes that part fields and end lines, the sign of a hole, and the most digits of a field.
 const COMMA: u8 = 44;
@@ -30,27 +33,18 @@ const MOST_DIGITS: usize = 10;
 // No text of a grid is longer: the header, and 16 rows of 16 codes of ten digits, each with the byte after it.
 pub const LONGEST_TEXT: usize = 2822;
 
-// What reading a file gives: number 0 and the grid, or a refusal with its line and field beside the empty grid.
+type Text = Line<LONGEST_TEXT>;
+
+// A grid that was read: H, W and 256 cells, blank ones behind the last pad's.
 #[derive(Clone, Copy)]
-pub struct Reading {
-    pub number: u8,
-    pub line: usize,
-    pub field: usize,
+pub struct Grid {
     pub height: usize,
     pub width: usize,
     pub cells: [i64; 256],
 }
 
-// What writing a grid gives: number 0 and how many bytes were written, or a refusal with length 0; the index is beside 9.
-#[derive(Clone, Copy)]
-pub struct Writing {
-    pub number: u8,
-    pub index: usize,
-    pub length: usize,
-}
-
 // Why a file, or a slice of packed decimal, is declined.
-#[derive(Clone, Copy)]
+#[derive(Clone, Copy, PartialEq, Eq)]
 pub enum Fault {
     // A disallowed byte where a field begins.
     StrayByte,
@@ -88,6 +82,64 @@ impl Fault {
             Fault::LeadingZero => 15,
             Fault::HalfByte => 17,
         }
+    }
+
+    // A file that is declined for it at a line and a field.
+    pub fn at(self, line: usize, field: usize) -> Declined
+        ensures { result ≡ record { fault = self; line = line; field = field } }
+    {
+        Declined {
+            fault: self,
+            line,
+            field,
+        }
+    }
+}
+
+// Why a file is declined, and the line and the field, both from 1, where it is.
+#[derive(Clone, Copy, PartialEq, Eq)]
+pub struct Declined {
+    pub fault: Fault,
+    pub line: usize,
+    pub field: usize,
+}
+
+// Why nothing was written.
+#[derive(Clone, Copy, PartialEq, Eq)]
+pub enum Unwritten {
+    // It is no grid.
+    BadGrid(Refusal),
+    // The buffer is shorter than the text.
+    NoRoom,
+}
+
+impl Unwritten {
+    // The number by which a caller is told of it.
+    pub fn number(self) -> u8
+        ensures { result ≡ unwritten_number self }
+    {
+        match self {
+            Unwritten::BadGrid(refusal) => refusal.number(),
+            Unwritten::NoRoom => 14,
+        }
+    }
+
+    // The index of the first bad cell, 0 beside the other numbers.
+    pub fn index(self) -> usize
+        ensures { result ≡ unwritten_index self }
+    {
+        match self {
+            Unwritten::BadGrid(refusal) => refusal.index(),
+            Unwritten::NoRoom => 0,
+        }
+    }
+}
+
+impl From<Refusal> for Unwritten {
+    ghost from_gives = { λ refusal unwritten. unwritten ≡ BadGrid refusal };
+
+    fn from(refusal: Refusal) -> Unwritten {
+        Unwritten::BadGrid(refusal)
     }
 }
 
@@ -176,6 +228,13 @@ fn row_field_at(bytes: &[u8], from: usize) -> Result<Field, Fault>
     ended_field(bytes[at], 0, 0, at)
 }
 
+// A field with the place of its refusal: the line and the field at which the file is declined.
+fn located(found: Result<Field, Fault>, line: usize, field: usize) -> Result<Field, Declined>
+    ensures { result ≡ located found line field }
+{
+    found.map_err(|fault| fault.at(line, field))
+}
+
 // 256 blank cells.
 pub fn no_cells() -> [i64; 256]
     ensures { result ≡ no_cells }
@@ -197,22 +256,8 @@ fn store_cell(cells: &mut [i64; 256], index: usize, hole: bool, digits: usize, v
     }
 }
 
-// The answer of a declined file.
-pub fn declined(number: u8, line: usize, field: usize) -> Reading
-    ensures { reading_says result ≡ declined_reading number line field }
-{
-    Reading {
-        number,
-        line,
-        field,
-        height: 0,
-        width: 0,
-        cells: no_cells(),
-    }
-}
-
 // The rows of a file whose header has been read: from a place on, H rows of W fields each, and nothing after them.
-fn read_rows(bytes: &[u8], from: usize, height: usize, width: usize) -> Reading
+fn read_rows(bytes: &[u8], from: usize, height: usize, width: usize) -> Result<Grid, Declined>
     requires { (is_size height ≡ true) × (is_size width ≡ true) × (from ≤ length bytes.now) }
     ensures { reading_says result ≡ read_from (field_start 2 1 height width no_cells) (drop from bytes.now) }
 {
@@ -222,139 +267,116 @@ fn read_rows(bytes: &[u8], from: usize, height: usize, width: usize) -> Reading
     let mut line = 2;
     let mut field = 1;
     while line < height + 2 {
-        let Field { value, end } = match row_field_at(bytes, at) {
-            Ok(found) => found,
-            Err(fault) => return declined(fault.number(), line, field),
-        };
+        let Field { value, end } = located(row_field_at(bytes, at), line, field)?;
         store_cell(&mut cells, index, is_hole(bytes, at), end - at, value);
         index += 1;
         at = end + 1;
         if bytes[end] == LINE_END {
             if field < width {
-                return declined(4, line, field);
+                return Err(Fault::FieldCount.at(line, field));
             }
             line += 1;
             field = 1;
         } else {
             if field == width {
-                return declined(4, line, field);
+                return Err(Fault::FieldCount.at(line, field));
             }
             field += 1;
         }
     }
     if at < bytes.len() {
-        return declined(6, line, field);
+        return Err(Fault::FileEnd.at(line, field));
     }
-    Reading {
-        number: 0,
-        line: 0,
-        field: 0,
+    Ok(Grid {
         height,
         width,
         cells,
-    }
+    })
 }
 
 // The whole file.
-pub fn read(bytes: &[u8]) -> Reading
+pub fn read(bytes: &[u8]) -> Result<Grid, Declined>
     ensures { reading_says result ≡ read bytes.now }
 {
-    let first = match field_at(bytes, 0) {
-        Ok(found) => found,
-        Err(fault) => return declined(fault.number(), 1, 1),
-    };
+    let first = located(field_at(bytes, 0), 1, 1)?;
     let height = first.value;
     if bytes[first.end] == LINE_END {
-        return declined(4, 1, 1);
+        return Err(Fault::FieldCount.at(1, 1));
     }
-    let second = match field_at(bytes, first.end + 1) {
-        Ok(found) => found,
-        Err(fault) => return declined(fault.number(), 1, 2),
-    };
+    let second = located(field_at(bytes, first.end + 1), 1, 2)?;
     let width = second.value;
     if bytes[second.end] != LINE_END {
-        return declined(4, 1, 2);
+        return Err(Fault::FieldCount.at(1, 2));
     }
     if !grid::is_size(height) {
-        return declined(5, 1, 1);
+        return Err(Fault::BadSize.at(1, 1));
     }
     if !grid::is_size(width) {
-        return declined(5, 1, 2);
+        return Err(Fault::BadSize.at(1, 2));
     }
     read_rows(bytes, second.end + 1, height, width)
 }
 
-// The field of a pad from a place on: nothing for a blank one, the sign of a hole, or the code; the place after it.
-fn put_cell(out: &mut [u8], at: usize, cell: i64) -> usize
-    requires { at + length (cell_text cell) ≤ length out.old }
-    ensures { Put out.old out.new at (cell_text cell) result }
+// The field of a pad behind what the text holds: nothing for a blank one, the sign of a hole, or the code.
+fn push_cell(text: &mut Text, cell: i64)
+    requires { length text.old + length (cell_text cell) ≤ 2822 }
+    ensures { text.new ≡ text.old ++ cell_text cell }
 {
     if cell == grid::BLANK {
-        return at;
+        return;
     }
     if cell < 0 {
-        return text::put_byte(out, at, HOLE_SIGN);
+        return text.push_byte(HOLE_SIGN);
     }
-    text::put_decimal(out, at, cell as u64)
+    text.push_decimal(cell as u64);
 }
 
-// The fields of the pads in index order from a place on, after each a comma or, at a row's end, a line end; the place after them.
-fn put_rows(out: &mut [u8], at: usize, width: usize, cells: &[i64]) -> usize
-    requires { (is_size width ≡ true) × (at + length (rows_text width 1 cells.now) ≤ length out.old) }
-    ensures { Put out.old out.new at (rows_text width 1 cells.now) result }
+// The fields of the pads in index order behind what the text holds, after each a comma or, at a row's end, a line end.
+fn push_rows(text: &mut Text, width: usize, cells: &[i64])
+    requires { (is_size width ≡ true) × (length text.old + length (rows_text width 1 cells.now) ≤ 2822) }
+    ensures { text.new ≡ text.old ++ rows_text width 1 cells.now }
 {
-    let mut next = at;
     let mut field = 1;
     for &cell in cells {
-        next = put_cell(out, next, cell);
+        push_cell(text, cell);
         if field == width {
-            next = text::put_byte(out, next, LINE_END);
+            text.push_byte(LINE_END);
             field = 1;
         } else {
-            next = text::put_byte(out, next, COMMA);
+            text.push_byte(COMMA);
             field += 1;
         }
     }
-    next
 }
 
-// The text of a grid from the start on; its length.
-fn put_grid(out: &mut [u8], height: usize, width: usize, cells: &[i64]) -> usize
-    requires { (is_size width ≡ true) × (length (grid_text height width cells.now) ≤ length out.old) }
-    ensures { Put out.old out.new 0 (grid_text height width cells.now) result }
+// The text of a grid.
+fn text_of(height: usize, width: usize, cells: &[i64]) -> Text
+    requires { (is_size width ≡ true) × (length (grid_text height width cells.now) ≤ 2822) }
+    ensures { result ≡ grid_text height width cells.now }
 {
-    let second = text::put_field(out, 0, height as u64, COMMA);
-    let rows = text::put_field(out, second, width as u64, LINE_END);
-    put_rows(out, rows, width, cells)
+    let mut text = Text::new();
+    text.push_field(height as u64, COMMA);
+    text.push_field(width as u64, LINE_END);
+    push_rows(&mut text, width, cells);
+    text
 }
 
-// A grid into a lent buffer: the grid's refusals first, then 14 where the buffer is shorter than the text. The text is made in an array
-// that the longest one fits, so that nothing is written where there is no room.
-pub fn write(height: usize, width: usize, cells: &[i64], buffer: &mut [u8]) -> Writing
+// A grid into a lent buffer: the grid's refusals first, then none where the buffer is shorter than the text; the text's length. The text is
+// made in an array that the longest one fits, so that nothing is written where there is no room.
+pub fn write(
+    height: usize,
+    width: usize,
+    cells: &[i64],
+    buffer: &mut [u8],
+) -> Result<usize, Unwritten>
     ensures { writing_says result buffer.new ≡ write height width cells.now buffer.old }
 {
-    let refusal = grid::grid_refusal(height, width, cells);
-    let number = refusal.number;
-    if number != 0 {
-        return Writing {
-            number,
-            index: refusal.index,
-            length: 0,
-        };
+    grid::grid_refusal(height, width, cells)?;
+    let text = text_of(height, width, cells);
+    let whole = text.as_bytes();
+    if buffer.len() < whole.len() {
+        return Err(Unwritten::NoRoom);
     }
-    let mut whole = [0; LONGEST_TEXT];
-    let length = put_grid(&mut whole, height, width, cells);
-    if buffer.len() < length {
-        return Writing {
-            number: 14,
-            index: 0,
-            length: 0,
-        };
-    }
-    text::put_word(buffer, 0, &whole[..length]);
-    Writing {
-        number: 0,
-        index: 0,
-        length,
-    }
+    buffer[..whole.len()].copy_from_slice(whole);
+    Ok(whole.len())
 }

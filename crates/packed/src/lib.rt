@@ -1,5 +1,5 @@
 // Reading packed decimal, as controller memories hold it: one byte H, one byte W, then five bytes for each pad, two digits to a byte. The
-// answer is that of a grid file: H, W and 256 cells, or one numbered refusal with its line and field. The whole answer is said by
+// answer is that of a grid file: H, W and 256 cells, or why the slice is declined with a line and a field. The whole answer is said by
 // `read_packed` of the crate `model`, specs/Packed.antt there.
 #![tactic(auto)]
 
@@ -7,10 +7,11 @@ ghost use Rattle.std.specs.Prelude.{◌≡◌, ◌==◌, true, [], ◌+◌, ◌*
 ghost use Rattle.std.specs.List.{list_all};
 ghost use Rattle.model.specs.Bounds.{is_size};
 ghost use Rattle.model.specs.Packed.{packed_pad, declined_pad, read_pads, read_packed};
+ghost use Rattle.gridfile.specs.Fields.{fault_number};
 ghost use Rattle.gridfile.specs.Answers.{reading_says};
 ghost use Rattle.packed.specs.Pads.{pad_says};
 
-use gridfile::{Fault, Reading};
+use gridfile::{Declined, Fault, Grid};
 
 // A pad has ten digits, two to a byte; a blank one has this byte five times.
 const PAD_BYTES: usize = 5;
@@ -51,15 +52,15 @@ fn pad_of(five: &[u8]) -> Result<i64, Fault>
 }
 
 // A refusal at a pad: the rows begin with line 2, and fields are counted from 1.
-fn declined_pad(number: u8, width: usize, index: usize) -> Reading
+fn declined_pad(fault: Fault, width: usize, index: usize) -> Declined
     requires { (is_size width ≡ true) × (index ≤ 256) }
-    ensures { reading_says result ≡ declined_pad number width index }
+    ensures { reading_says (Err result) ≡ declined_pad (fault_number fault) width index }
 {
-    gridfile::declined(number, 2 + index / width, 1 + index % width)
+    fault.at(2 + index / width, 1 + index % width)
 }
 
 // The pads of a slice whose length is that of its sizes, in index order.
-fn read_pads(bytes: &[u8], height: usize, width: usize) -> Reading
+fn read_pads(bytes: &[u8], height: usize, width: usize) -> Result<Grid, Declined>
     requires { (is_size height ≡ true) × (is_size width ≡ true) × (length bytes.now ≡ 2 + height * width * 5) }
     ensures { reading_says result ≡ read_pads height width (height * width) [] (drop 2 bytes.now) }
 {
@@ -68,41 +69,38 @@ fn read_pads(bytes: &[u8], height: usize, width: usize) -> Reading
         let from = 2 + index * PAD_BYTES;
         match pad_of(&bytes[from..from + PAD_BYTES]) {
             Ok(cell) => cells[index] = cell,
-            Err(fault) => return declined_pad(fault.number(), width, index),
+            Err(fault) => return Err(declined_pad(fault, width, index)),
         }
     }
-    Reading {
-        number: 0,
-        line: 0,
-        field: 0,
+    Ok(Grid {
         height,
         width,
         cells,
-    }
+    })
 }
 
 // The whole slice: two bytes at least, then the sizes, then the whole length, then the pads.
-pub fn read_packed(bytes: &[u8]) -> Reading
+pub fn read_packed(bytes: &[u8]) -> Result<Grid, Declined>
     ensures { reading_says result ≡ read_packed bytes.now }
 {
     if bytes.len() < 2 {
-        return gridfile::declined(6, 1, 1);
+        return Err(Fault::FileEnd.at(1, 1));
     }
     let height = usize::from(bytes[0]);
     let width = usize::from(bytes[1]);
     if !grid::is_size(height) {
-        return gridfile::declined(5, 1, 1);
+        return Err(Fault::BadSize.at(1, 1));
     }
     if !grid::is_size(width) {
-        return gridfile::declined(5, 1, 2);
+        return Err(Fault::BadSize.at(1, 2));
     }
     let pads = height * width;
     let whole = (bytes.len() - 2) / PAD_BYTES;
     if whole < pads {
-        return declined_pad(6, width, whole);
+        return Err(declined_pad(Fault::FileEnd, width, whole));
     }
     if bytes.len() - 2 > pads * PAD_BYTES {
-        return gridfile::declined(6, height + 2, 1);
+        return Err(Fault::FileEnd.at(height + 2, 1));
     }
     read_pads(bytes, height, width)
 }

@@ -1,23 +1,22 @@
 -- `gridfile::write` meets its contract: the grid is refused, the buffer is too short, or the text is copied. Assumes nothing.
-use Rattle.gridfile.proofs.WriteLaws.{refused, not_refused_grid, text_fits, too_short, long_within, copied}
-use lib.Seq.{length-take-le}
-use mathlib.Core.Path.{sym}
+use Rattle.gridfile.proofs.WriteLaws.{refused, not_refused_grid, text_fits, too_short, copied}
+use Rattle.std.proofs.lemmas.Result.{err_from_is_err_and}
+use mathlib.Core.Path.{ap, ◌∙◌}
+use mathlib.Core.List.{List, ◌++◌}
+use Prim.Native.Nat.{ℕ}
+use lib.ListN.{length, drop}
 use Rattle.gridfile.proofs.write.Goals as goal
 
-pub returns-then-number-ne0 : goal.returns-then-number-ne0
-returns-then-number-ne0 c = refused _ _ _ _ _ c.grid_refusal-refusal.ensures c.if-number-ne0.true _
+pub returns-in_err-grid_refusal : goal.returns-in_err-grid_refusal
+returns-in_err-grid_refusal c =
+    let p = err_from_is_err_and c.from_residual.result c.from_residual.ensures.1 in
+    rw (p.1, p.2) (refused _ _ _ _ c.in_err-grid_refusal.ensures _)
 
-pub put_grid-length-requires : goal.put_grid-length-requires
-put_grid-length-requires c = text_fits _ _ _ (not_refused_grid _ _ _ _ _ c.grid_refusal-refusal.ensures c.if-number-ne0.false)
+pub text_of-text-requires : goal.text_of-text-requires
+text_of-text-requires c = text_fits _ _ _ (not_refused_grid _ _ _ c.in_ok-grid_refusal.ensures)
 
-pub returns-then-buffer-length : goal.returns-then-buffer-length
-returns-then-buffer-length c = too_short _ _ _ (not_refused_grid _ _ _ _ _ c.grid_refusal-refusal.ensures c.if-number-ne0.false) c.put_grid-length.ensures _ c.if-buffer-length.true
-
-pub slice_bounds-whole-end : goal.slice_bounds-whole-end
-slice_bounds-whole-end c = long_within _ _ _ (not_refused_grid _ _ _ _ _ c.grid_refusal-refusal.ensures c.if-number-ne0.false) c.put_grid-length.ensures (text_fits _ _ _ (not_refused_grid _ _ _ _ _ c.grid_refusal-refusal.ensures c.if-number-ne0.false)).1
-
-pub slice_bounds-put_word-end : goal.slice_bounds-put_word-end
-slice_bounds-put_word-end c = sym (length-take-le _ _ (long_within _ _ _ (not_refused_grid _ _ _ _ _ c.grid_refusal-refusal.ensures c.if-number-ne0.false) c.put_grid-length.ensures (text_fits _ _ _ (not_refused_grid _ _ _ _ _ c.grid_refusal-refusal.ensures c.if-number-ne0.false)).1))
+pub returns-then-buffer-whole : goal.returns-then-buffer-whole
+returns-then-buffer-whole c = too_short _ _ _ (not_refused_grid _ _ _ c.in_ok-grid_refusal.ensures) (c.as_bytes-whole.ensures.same ∙ c.text_of-text.ensures) _ c.if-buffer-whole.true
 
 pub returns : goal.returns
-returns c = copied _ _ _ (not_refused_grid _ _ _ _ _ c.grid_refusal-refusal.ensures c.if-number-ne0.false) c.put_grid-length.ensures (text_fits _ _ _ (not_refused_grid _ _ _ _ _ c.grid_refusal-refusal.ensures c.if-number-ne0.false)).1 c.if-buffer-length.false c.put_word.ensures
+returns c = copied _ _ _ (not_refused_grid _ _ _ c.in_ok-grid_refusal.ensures) (c.as_bytes-whole.ensures.same ∙ c.text_of-text.ensures) _ c.if-buffer-whole.false (ap (λ (text : List ℕ). text ++ drop (length c.as_bytes-whole.result.now) c.args.buffer.now) c.copy_from_slice.ensures.after)

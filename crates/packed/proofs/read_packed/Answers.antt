@@ -8,16 +8,19 @@ use Rattle.reading.specs.PadSteps.{below_two}
 use Rattle.packed.proofs.SliceLaws.{pads_fit, bad_height, bad_width, short_slice, long_slice, whole_slice}
 use mathlib.Core.Path.{ap}
 use mathlib.Core.Bool.{not}
+use Rattle.std.specs.Prelude.{Err}
+use Rattle.gridfile.specs.declared.Declined.{Declined}
+use Rattle.gridfile.specs.Answers.{reading_says}
 use Rattle.packed.proofs.read_packed.Goals as goal
 
 pub returns-then-bytes-lt2 : goal.returns-then-bytes-lt2
-returns-then-bytes-lt2 c = c.declined.ensures ∙ sym (below_two _ c.if-bytes-lt2.true)
+returns-then-bytes-lt2 c = ap (λ (d : Declined). reading_says (Err d)) c.at.ensures ∙ sym (below_two _ c.if-bytes-lt2.true)
 
 pub returns-then-not-is_size : goal.returns-then-not-is_size
-returns-then-not-is_size c = c.declined-then-not-is_size.ensures ∙ bad_height _ c.if-bytes-lt2.false c.from-height.ensures c.from-width.ensures (sym c.is_size.ensures ∙ not-true _ (ap not c.if-not-is_size.true))
+returns-then-not-is_size c = ap (λ (d : Declined). reading_says (Err d)) c.at-then-not-is_size.ensures ∙ bad_height _ c.if-bytes-lt2.false c.from-height.ensures c.from-width.ensures (sym c.is_size.ensures ∙ not-true _ (ap not c.if-not-is_size.true))
 
 pub returns-then-not-is_size-2 : goal.returns-then-not-is_size-2
-returns-then-not-is_size-2 c = c.declined-then-not-is_size-2.ensures ∙ bad_width _ c.if-bytes-lt2.false c.from-height.ensures c.from-width.ensures (sym c.is_size.ensures ∙ not-false _ (ap not c.if-not-is_size.false)) (sym c.is_size-2.ensures ∙ not-true _ (ap not c.if-not-is_size-2.true))
+returns-then-not-is_size-2 c = ap (λ (d : Declined). reading_says (Err d)) c.at-then-not-is_size-2.ensures ∙ bad_width _ c.if-bytes-lt2.false c.from-height.ensures c.from-width.ensures (sym c.is_size.ensures ∙ not-false _ (ap not c.if-not-is_size.false)) (sym c.is_size-2.ensures ∙ not-true _ (ap not c.if-not-is_size-2.true))
 
 pub overflow_mul-pads : goal.overflow_mul-pads
 overflow_mul-pads c = omega (arith, pads_fit _ _ (sym c.is_size.ensures ∙ not-false _ (ap not c.if-not-is_size.false)) (sym c.is_size-2.ensures ∙ not-false _ (ap not c.if-not-is_size-2.false)))
@@ -32,7 +35,7 @@ pub overflow_add-height : goal.overflow_add-height
 overflow_add-height c = omega (arith, (size_of_test _ (sym c.is_size.ensures ∙ not-false _ (ap not c.if-not-is_size.false))).1)
 
 pub returns-then-bytes-pads : goal.returns-then-bytes-pads
-returns-then-bytes-pads c = c.declined-then-bytes-pads.ensures ∙ long_slice _ c.if-bytes-lt2.false c.from-height.ensures c.from-width.ensures (sym c.is_size.ensures ∙ not-false _ (ap not c.if-not-is_size.false)) (sym c.is_size-2.ensures ∙ not-false _ (ap not c.if-not-is_size-2.false)) c.if-bytes-pads.true
+returns-then-bytes-pads c = ap (λ (d : Declined). reading_says (Err d)) c.at-then-bytes-pads.ensures ∙ long_slice _ c.if-bytes-lt2.false c.from-height.ensures c.from-width.ensures (sym c.is_size.ensures ∙ not-false _ (ap not c.if-not-is_size.false)) (sym c.is_size-2.ensures ∙ not-false _ (ap not c.if-not-is_size-2.false)) c.if-bytes-pads.true
 
 pub read_pads-requires : goal.read_pads-requires
 read_pads-requires c = (sym c.is_size.ensures ∙ not-false _ (ap not c.if-not-is_size.false), sym c.is_size-2.ensures ∙ not-false _ (ap not c.if-not-is_size-2.false), omega (arith, c.if-bytes-lt2.false, c.if-whole-pads.false, c.if-bytes-pads.false))

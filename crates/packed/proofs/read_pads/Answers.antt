@@ -13,7 +13,7 @@ pub declined_pad-requires : goal.declined_pad-requires
 declined_pad-requires c = (c.requires.1, omega (arith, pads_fit _ _ c.requires.0 c.requires.1, c.loop-index-test.true))
 
 pub returns-in-Err : goal.returns-in-Err
-returns-in-Err c = (rw c.number.ensures at c.declined_pad.ensures) ∙ refused_here c.loop-index.invariant c.loop-index-test.true (pad_part (2 + c.loop-index.index * 5) c.args.bytes.now) (sym c.in-Err.ensures)
+returns-in-Err c = c.declined_pad.ensures ∙ refused_here c.loop-index.invariant c.loop-index-test.true (pad_part (2 + c.loop-index.index * 5) c.args.bytes.now) (sym c.in-Err.ensures)
 
 pub bounds-cells-index : goal.bounds-cells-index
 bounds-cells-index c = omega (arith, pads_fit _ _ c.requires.0 c.requires.1, c.loop-index-test.true)

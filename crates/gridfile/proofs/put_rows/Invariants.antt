@@ -1,7 +1,0 @@
--- `gridfile::put_rows` meets its contract. The loop keeps `RowsPut`: what was put and the text of the pads that are left make the text of
--- all. Assumes nothing.
-use Rattle.gridfile.proofs.WriteLaws.{RowsPut}
-use Rattle.gridfile.proofs.put_rows.Given as goal
-
-abbrev pub invariant-loop-cell : goal.invariant-loop-cell
-invariant-loop-cell l = RowsPut l.initial.out l.out l.at l.width l.cells l.next l.field l.cell-index
