@@ -1,6 +1,6 @@
 -- Why each call's answer says what the model's does: the declined calls, the checkpoint, the undo, the decision. It rests on Held.antt.
 use Prim.Native.Nat.{ℕ, suc, ◌+◌, ◌-◌, ◌%◌, ◌≤◌, ◌<◌}
-use Rattle.std.specs.Prelude.{◌≡◌, refl, length, set, get_or, ℤ}
+use Rattle.std.specs.Prelude.{◌≡◌, refl, length, set, get_or}
 use Rattle.std.proofs.Common.{ap, ◌∙◌, add-one, lt-ltb, le-ltb}
 use mathlib.Core.List.{List, [], ◌∷◌}
 use native.Mathlib.Omega.{arith}
@@ -10,7 +10,7 @@ use Rattle.model.specs.Board.{State}
 use Rattle.model.specs.Calls as model
 use Rattle.boardview.specs.declared.Arrays.{Arrays}
 use Rattle.boardview.specs.View.{logged, grid_in, Kinds, Ready, view}
-use Rattle.boardview.specs.Unwind.{before, back_to}
+use Rattle.boardview.specs.Unwind.{back_to}
 use Rattle.board.specs.Past.{Past, begun, marked, past_fresh, past_marked, same_many, as_many, standing_marks, one_more_mark}
 use Rattle.board.specs.Held.{arrays_of, Held, Says}
 use Rattle.board.specs.declared.Board.{Board}

@@ -6,8 +6,8 @@ use Rattle.rules.specs.Drawing.{num, on_left, on_right}
 use Rattle.model.specs.PadTests.{is_blank, is_clue, has_down}
 use Rattle.model.specs.Board.{has_side, barred}
 use Rattle.boardbare.specs.declared.Facts.{Facts}
-use Rattle.boardbare.specs.declared.Side.{Side}
-use Rattle.boardbare.specs.declared.Side.TheVariants.{Left, Right}
+use Rattle.boardparts.specs.declared.Side.{Side}
+use Rattle.boardparts.specs.declared.Side.TheVariants.{Left, Right}
 use Rattle.boardview.specs.View.{pick, has_bit, taken_bit, action_entry}
 
 -- FILLED: a list of this length, which from `start` up to `size` holds what f says. The kinds are filled from the last index down to 0.

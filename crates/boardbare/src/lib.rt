@@ -8,7 +8,7 @@ ghost use Rattle.boardview.specs.View.{bytes_equal, undecided_side, action_code,
 ghost use Rattle.boardbare.specs.BareArrays.{right_byte, down_byte, edge_byte, EdgesFrom, end_number_at, EndsFrom, CellsInRange, is_right, byte_of_facts, is_clue_at, is_taken, corner_test, barred_in, barred_below, bar_test, kind_from, table_byte, TableFrom, AllKinds};
 ghost use Rattle.boardbare.specs.BareView.{BareBoard};
 
-use boardparts::{BAR_LEFT, BAR_RIGHT, CORNER_LEFT, CORNER_RIGHT, TAKEN};
+use boardparts::{BAR_LEFT, BAR_RIGHT, CORNER_LEFT, CORNER_RIGHT, Side, TAKEN};
 use grid::{BLANK, Edge};
 use std::array;
 
@@ -99,13 +99,6 @@ fn taken_at(cells: &[i64], v: usize) -> bool
     ensures { result ≡ is_taken cells.now v }
 {
     cells[v] != BLANK
-}
-
-// A side of a pad: that of the edge which makes a corner with the edge downward.
-#[derive(Clone, Copy)]
-pub enum Side {
-    Left,
-    Right,
 }
 
 // Whether a pad has an edge downward and one to that side.

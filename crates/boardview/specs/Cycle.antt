@@ -1,7 +1,7 @@
 -- What the calls of the decision ask, and what its ways through give, in the shape in which the code's paths come to them: numbers as the
 -- code computed them, arrays as it left them. It rests on Items.antt, Check.antt and Geometry.antt.
 use Prim.Native.Nat.{ℕ, zero, suc, ◌+◌, ◌*◌, ◌-◌, ◌%◌, ◌/◌, ◌≤◌, ◌<◌}
-use Rattle.std.specs.Prelude.{◌≡◌, Bool, ◌&&◌, ltb, set, length, ℤ, pos}
+use Rattle.std.specs.Prelude.{◌≡◌, Bool, ◌&&◌, ltb, set, length, pos}
 use Rattle.std.proofs.Math.Path.{refl, sym}
 use Rattle.std.proofs.Common.{ap, ◌∙◌, subst}
 use Rattle.std.proofs.Math.Bool.{true, false}

@@ -18,10 +18,11 @@ use Rattle.rules.specs.Record.{undecided_byte, line_byte, drawing_of}
 use Rattle.rules.specs.Tests.{both, both_off, conflict}
 use Rattle.rules.proofs.Places.{row_of_pad, column_of_pad}
 use Rattle.rules.specs.CheckedListed.{has_corner, diagonal}
-use Rattle.boardbare.specs.declared.Side.{Side as CodeSide}
-use Rattle.boardbare.specs.declared.Side.TheVariants.{Left, Right}
+use Rattle.boardparts.specs.declared.Side.{Side as CodeSide}
+use Rattle.boardparts.specs.declared.Side.TheVariants.{Left, Right}
 use mathlib.Core.Logic.{◌⊎◌, inl, inr}
-use Rattle.judging.specs.Shape.{InColumn, side_of, taken_at, line_beside, lines_around, square_keeps, corner_keeps}
+use Rattle.boardparts.specs.Sides.{side_of}
+use Rattle.judging.specs.Shape.{InColumn, taken_at, line_beside, lines_around, square_keeps, corner_keeps}
 
 module _ (width y x : ℕ) (here : InColumn width y x) where
   -- a grid of this width

@@ -3,8 +3,8 @@
 use Rattle.std.specs.Prelude.{ℕ, ◌+◌, ◌*◌, ◌-◌, ◌%◌, ◌≤◌, ◌<◌, Bool, ◌&&◌, ◌||◌, not, List, leb, ltb, get_or, ℤ}
 use Rattle.rules.specs.Grid.{cell_of, blank_cell}
 use Rattle.rules.specs.Drawing.{Drawing, num, Side, on_left, on_right}
-use Rattle.boardbare.specs.declared.Side.{Side as CodeSide}
-use Rattle.boardbare.specs.declared.Side.TheVariants.{Left, Right}
+use Rattle.boardparts.specs.declared.Side.{Side as CodeSide}
+use Rattle.boardparts.specs.declared.Side.TheVariants.{Left, Right}
 use Rattle.rules.specs.CheckedListed.{has_corner, diagonal, not_blank}
 
 -- A COLUMN of a grid, in a row of it or in the one below its last
@@ -13,11 +13,6 @@ pub record InColumn (width y x : ℕ) : Type 0 where
   pub narrow : width ≤ 16
   pub low : y ≤ 16
   pub inside : x < width
-
--- a side of the code, as the rules have it
-abbrev pub side_of : CodeSide → Side
-side_of Left = on_left
-side_of Right = on_right
 
 -- the line beside a pad, on one side
 unfoldable pub line_beside : Side → Drawing → ℕ → Bool

@@ -12,9 +12,10 @@ ghost use Rattle.rules.specs.CheckedListed.{has_corner};
 ghost use Rattle.model.specs.Judge as model;
 ghost use Rattle.judging.specs.Judging.{judged_says, verdict_number, mark, answer};
 ghost use Rattle.judging.specs.Following.{InUse, Stepped, lines_in, FollowedOn, finished_at};
-ghost use Rattle.judging.specs.Shape.{InColumn, side_of, line_beside, taken_at, lines_around, square_keeps, corner_keeps, pad_keeps};
+ghost use Rattle.boardparts.specs.Sides.{side_of};
+ghost use Rattle.judging.specs.Shape.{InColumn, line_beside, taken_at, lines_around, square_keeps, corner_keeps, pad_keeps};
 
-use boardbare::Side;
+use boardparts::Side;
 use grid::{BLANK, Edge, HOLE, Pads, Refusal};
 
 // The bytes of an edge's states, as the edge type names them.

@@ -1,5 +1,5 @@
 -- `boardfresh::shut_holes` meets its contract: the holes before a pad are shut, and the pads left fall. Assumes nothing.
-use Prim.Native.Nat.{◌-◌, ◌≤◌}
+use Prim.Native.Nat.{◌≤◌}
 use mathlib.Core.Path.{◌≡◌}
 use Rattle.rules.specs.Grid.{pads}
 use Rattle.boardview.specs.View.{grid_in}

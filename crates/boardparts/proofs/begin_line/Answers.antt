@@ -5,7 +5,6 @@ use native.Mathlib.Omega.{arith}
 use lib.ListN.{set}
 use Rattle.rules.specs.Tests.{conflict}
 use Rattle.boardview.specs.declared.Arrays.{Arrays}
-use Rattle.boardview.specs.View.{stopped, going}
 use Rattle.boardview.specs.Signed.{end_copied}
 use Rattle.boardview.specs.Stores.{going_count}
 use Rattle.boardparts.proofs.begin_line.Goals as goal

@@ -4,8 +4,7 @@ use native.Mathlib.Omega.{arith}
 use Rattle.rules.specs.Grid.{right, down}
 use Rattle.boardparts.specs.Sides.{side_of}
 use Rattle.model.specs.PadTests.{on_board}
-use Rattle.boardview.specs.View.{grid_in, has_bit, going}
-use Rattle.boardview.specs.declared.Arrays.{Arrays}
+use Rattle.boardview.specs.View.{grid_in, has_bit}
 use Rattle.boardview.specs.Stores.{going_count}
 use Rattle.boardview.specs.Steps.{done_then, done_ended, slot_is_on, detour_off, detour_first, detour_both}
 use Rattle.boardview.specs.Items.{recount_decided, corner_off, corner_taken, corner_ends, corner_lines, bar_off, bar_none}

@@ -1,7 +1,7 @@
 -- The functions of the cycle meet their contracts: each path through the code does the items that the contract names, and the number falls.
 use Rattle.boardview.specs.View.{undecided_in}
 use Rattle.boardview.specs.Cycle.{Apart}
-use Prim.Native.Nat.{◌+◌, ◌*◌, ◌-◌}
+use Prim.Native.Nat.{◌+◌, ◌*◌}
 use Rattle.decision.proofs.+deciding.Given as goal
 
 abbrev pub decreases-bar : goal.decreases-bar

@@ -4,7 +4,7 @@ use native.Mathlib.Omega.{arith}
 use mathlib.Core.Path.{ap}
 use mathlib.Core.Logic.{inl, inr}
 use mathlib.Core.Bool.{not}
-use Rattle.judging.specs.Shape.{side_of}
+use Rattle.boardparts.specs.Sides.{side_of}
 use Rattle.judging.proofs.Drawn.{column_on_left, below_there, no_corner_keeps, taken_keeps, same_corner_keeps}
 use Rattle.judging.proofs.corner_keeps.Goals as goal
 use Rattle.judging.proofs.corner_keeps.Goals.{in-Left, in-Right}

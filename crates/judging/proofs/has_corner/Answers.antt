@@ -1,5 +1,5 @@
 -- `judging::has_corner` meets its contract: the line beside and the one downward. Assumes nothing.
-use Rattle.judging.specs.Shape.{side_of}
+use Rattle.boardparts.specs.Sides.{side_of}
 use Rattle.judging.proofs.Drawn.{corner_if, no_corner}
 use Rattle.judging.proofs.has_corner.Goals as goal
 
