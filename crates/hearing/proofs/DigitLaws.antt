@@ -14,7 +14,9 @@ use mathlib.Core.Logic.{◌⊎◌, inl, inr}
 use Rattle.rules.specs.Tests.{all_below}
 use Rattle.grid.specs.PadsAt.{pads_of, edge_beside, edge_above, edge_nowhere, told_place}
 use Rattle.grid.specs.declared.Pads.{Pads}
-use Rattle.grid.specs.declared.Pads.TheVariants.{Beside, Above, NoEdge}
+use Rattle.grid.specs.declared.Pads.TheVariants.{Beside, Above}
+use Rattle.std.specs.Prelude.{Option}
+use Rattle.std.proofs.Common.{Some, None}
 use Rattle.model.specs.JudgeText.{digit_at, coded, digit_fits, codes_fit, coded_bytes}
 
 -- ## A digit
@@ -55,12 +57,12 @@ module _ (height width : ℕ) (digits : List ℕ) where
 
 -- ## The byte at a place
 
-module _ (width : ℕ) (p : Place) (digits : List ℕ) {pads : Pads} (are : pads ≡ pads_of width p) where
-  pub byte_beside : {a b : ℕ} → pads ≡ Beside a b → {byte : ℕ} {line : Bool} → byte ≡ byte_of line → line ≡ coded digits (right a) → byte ≡ byte_at_place (coded_bytes digits) p
+module _ (width : ℕ) (p : Place) (digits : List ℕ) {pads : Option Pads} (are : pads ≡ pads_of width p) where
+  pub byte_beside : {a b : ℕ} → pads ≡ Some (Beside a b) → {byte : ℕ} {line : Bool} → byte ≡ byte_of line → line ≡ coded digits (right a) → byte ≡ byte_at_place (coded_bytes digits) p
   byte_beside is made says = made ∙ ap byte_of says ∙ ap (byte_at_place (coded_bytes digits)) (sym (edge_beside pads is) ∙ told_place width p are)
 
-  pub byte_above : {a b : ℕ} → pads ≡ Above a b → {byte : ℕ} {line : Bool} → byte ≡ byte_of line → line ≡ coded digits (down a) → byte ≡ byte_at_place (coded_bytes digits) p
+  pub byte_above : {a b : ℕ} → pads ≡ Some (Above a b) → {byte : ℕ} {line : Bool} → byte ≡ byte_of line → line ≡ coded digits (down a) → byte ≡ byte_at_place (coded_bytes digits) p
   byte_above is made says = made ∙ ap byte_of says ∙ ap (byte_at_place (coded_bytes digits)) (sym (edge_above pads is) ∙ told_place width p are)
 
-  pub byte_nowhere : pads ≡ NoEdge → 0 ≡ byte_at_place (coded_bytes digits) p
+  pub byte_nowhere : pads ≡ None → 0 ≡ byte_at_place (coded_bytes digits) p
   byte_nowhere none = ap (byte_at_place (coded_bytes digits)) (sym (edge_nowhere pads none) ∙ told_place width p are)

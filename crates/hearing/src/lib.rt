@@ -3,7 +3,7 @@
 // specs/JudgeText.antt there; specs/Whole.antt here says it of the bytes of standard input.
 #![tactic(auto)]
 
-ghost use Rattle.std.specs.Prelude.{◌≡◌, true, ◌||◌, not, ◌+◌, ◌*◌, ◌%◌, ◌≤◌, ◌<◌, ltb, length};
+ghost use Rattle.std.specs.Prelude.{◌≡◌, true, ◌||◌, not, ◌+◌, ◌*◌, ◌%◌, ◌≤◌, ◌<◌, ltb, length, Ok};
 ghost use Rattle.rules.specs.Grid.{right, down, field_side, places, place_at};
 ghost use Rattle.rules.specs.Record.{byte_of, byte_at_place, field};
 ghost use Rattle.rules.specs.RecordLaws.{field_row};
@@ -99,9 +99,9 @@ fn byte_at(digits: &[u8], width: usize, row: usize, column: usize) -> u8
     ensures { result ≡ byte_at_place (coded_bytes digits.now) (place_at width row column) }
 {
     match grid::pads_at(width, row, column) {
-        Pads::Beside(first, _) => byte_of(leads_right(digits, first)),
-        Pads::Above(first, _) => byte_of(leads_down(digits, first)),
-        Pads::NoEdge => Edge::UNDECIDED.0,
+        Some(Pads::Beside(first, _)) => byte_of(leads_right(digits, first)),
+        Some(Pads::Above(first, _)) => byte_of(leads_down(digits, first)),
+        None => Edge::UNDECIDED.0,
     }
 }
 
@@ -150,10 +150,10 @@ fn record_of_codes<'a>(
 
 // The verdict and the lines.
 fn judged_line(said: Judged) -> HeadLine
-    ensures { Written 67 (judged_line (judged_says said)) result.bytes result.length }
+    ensures { Written 67 (judged_line (judged_says (Ok said))) result.bytes result.length }
 {
     let mut bytes = [0; 67];
-    let verdict = said.verdict as u64;
+    let verdict = u64::from(u8::from(said.verdict));
     let lines = said.lines as u64;
     let first = text::put_field(&mut bytes, 0, verdict, COMMA);
     let length = text::put_field(&mut bytes, first, lines, LINE_END);
@@ -174,7 +174,7 @@ pub fn judged(file: &[u8], digits: &[u8]) -> HeadLine
     let pads = height * width;
     let mut room = [0; 961];
     let record = record_of_codes(&mut room, height, width, digits);
-    judged_line(judging::judge(height, width, &cells[..pads], record))
+    judged_line(judging::judge_record(height, width, &cells[..pads], record))
 }
 
 // The line that says how the program is called.

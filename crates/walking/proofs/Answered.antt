@@ -17,9 +17,12 @@ use Rattle.model.specs.RefusalLaws.{not_refused}
 use Rattle.model.specs.Runs as runs
 use Rattle.model.specs.Walk as model
 use Rattle.runs.specs.Progress.{advance, result_of}
-use Rattle.runs.specs.Layouts.{progress}
-use Rattle.tally.specs.declared.Tally.{Tally}
-use Rattle.tally.specs.Counts.{tally_says, Ready, counted_run}
+use Rattle.std.specs.Prelude.{Ok, Err}
+use Rattle.grid.specs.declared.Refusal.{Refusal}
+use Rattle.grid.specs.declared.Refusal.TheVariants.{Size, CellCount, Cell}
+use Rattle.grid.specs.Answers.{number_of, refusal_says}
+use Rattle.tally.specs.declared.Solved.{Solved}
+use Rattle.tally.specs.Counts.{progress_of, tally_says, from_empty, counted_run}
 use Rattle.tally.specs.Empty.{empty}
 use Rattle.everycode.specs.EveryCode.{every_code_exact, every_code_sized, walk_is_run, walk_is_declined}
 use Rattle.promises.specs.Contract.{promise}
@@ -48,21 +51,20 @@ zero_at n small i = elim (dec_lt i n) [
 ]
 
 -- THE WHOLE WALK over it
-module _ (height width : ℕ) (cells : List ℤ) (t : Tally) (buffer : List ℕ) (begins : Ready height width cells t buffer) where
+module _ (height width : ℕ) (cells : List ℤ) (buffer : List ℕ) (accepted : Accepted height width cells) where
   pub few : places height width ≤ 961
-  few = few_places height width begins.accepted.height_in_range.1 begins.accepted.width_in_range.1
+  few = few_places height width accepted.height_in_range.1 accepted.width_in_range.1
 
-  pub begun : Begun height width cells (zeros (places height width)) t.layouts buffer
-  begun = record { accepted = begins.accepted; long = zeros_long (places height width) few; inside = begins.inside }
+  pub begun : Begun height width cells (zeros (places height width)) 0 buffer
+  begun = record { accepted = accepted; long = zeros_long (places height width) few; inside = (from_empty height width cells buffer accepted).inside }
 
-  pub counted : (limit o tried layouts fewest_lines : ℕ) (bytes' buffer' : List ℕ)
-      → WalkedOn (grid_of height width cells) limit 0 (zeros (places height width)) (progress (places height width) 0 t.visited t.layouts t.fewest buffer) bytes' (progress (places height width) o tried layouts fewest_lines buffer')
-      → Counted height width cells limit t buffer (record { outcome = o; visited = tried; layouts = layouts; fewest = fewest_lines }) buffer'
+  pub counted : (limit : ℕ) (s : Solved) (bytes' buffer' : List ℕ)
+      → WalkedOn (grid_of height width cells) limit 0 (zeros (places height width)) (progress_of (places height width) (Ok tt) empty buffer) bytes' (tally_says height width s buffer')
+      → Counted height width cells limit empty buffer s buffer'
   unfolding grid_of model.every_code
-  counted limit o tried layouts fewest_lines bytes' buffer' walked = record {
+  counted limit s bytes' buffer' walked = record {
     advanced = walked.advanced model.no_lines nothing
-        ∙ ap (λ (n : ℕ). advance limit (places height width) (progress (places height width) 0 t.visited t.layouts t.fewest buffer) (model.walk_on (grid_of height width cells) n 0 model.no_lines)) all_pads
-        ∙ ap (λ (k : ℕ). advance limit (places height width) (progress (places height width) k t.visited t.layouts t.fewest buffer) (model.every_code (grid_of height width cells))) (sym begins.none_yet);
+        ∙ ap (λ (n : ℕ). advance limit (places height width) (progress_of (places height width) (Ok tt) empty buffer) (model.walk_on (grid_of height width cells) n 0 model.no_lines)) all_pads;
     same_length = walked.same_length;
   }
     where
@@ -75,30 +77,34 @@ module _ (height width : ℕ) (cells : List ℤ) (t : Tally) (buffer : List ℕ)
 -- THE MODEL'S RESULT
 module _ (height width : ℕ) (cells : List ℤ) (limit : ℕ) (buffer : List ℕ) where
   -- a refused grid: nothing is tried and no byte changes
-  pub walk_refused : (number index : ℕ) → ◌≡◌ {A = ℕ × ℕ} (number, index) (grid_refusal height width cells) → (number ≡ 0 → ⊥)
-      → Walks height width cells limit buffer (record { number = number; index = index; outcome = 0; layouts = 0; tried = 0; fewest = 481 }) buffer
-  walk_refused number index is bad = record {
+  pub walk_refused : (r : Refusal) → refusal_says (Err r) ≡ grid_refusal height width cells → Walks height width cells limit buffer (Err r) buffer
+  walk_refused r is = record {
     equal = (λ i. runs.declined_search (is i).0 (is i).1 buffer) ∙ sym (walk_is_declined height width cells not_zero limit buffer);
     of_run = λ e. absurd (not_zero e);
     promise = λ e. absurd (not_zero e);
   }
     where
+      some : (r : Refusal) → number_of r ≡ 0 → ⊥
+      some Size h = omega arith
+      some CellCount h = omega arith
+      some (Cell index) h = omega arith
+
       not_zero : (grid_refusal height width cells).0 ≡ 0 → ⊥
-      not_zero e = bad (ap (λ (p : ℕ × ℕ). p.0) is ∙ e)
+      not_zero e = some r (ap (λ (p : ℕ × ℕ). p.0) is ∙ e)
 
   -- an accepted one
-  pub walk_accepted : (grid_refusal height width cells).0 ≡ 0 → (t : Tally) (buffer' : List ℕ)
-      → Counted height width cells limit empty buffer t buffer'
-      → Walks height width cells limit buffer (record { number = 0; index = 0; outcome = t.outcome; layouts = t.layouts; tried = t.visited; fewest = t.fewest }) buffer'
+  pub walk_accepted : (0, 0) ≡ grid_refusal height width cells → (s : Solved) (buffer' : List ℕ)
+      → Counted height width cells limit empty buffer s buffer'
+      → Walks height width cells limit buffer (Ok s) buffer'
   unfolding grid_of
-  walk_accepted fine t buffer' counted = record {
+  walk_accepted fine s buffer' counted = record {
     equal = from_run ∙ sym (walk_is_run height width cells accepted limit buffer);
     of_run = λ e. from_run;
     promise = λ e. promise height width cells accepted (model.every_code (grid_of height width cells)) (every_code_exact (grid_of height width cells) (accepted_proper height width cells accepted)) limit (length buffer);
   }
     where
       accepted : Accepted height width cells
-      accepted = not_refused height width cells fine
+      accepted = not_refused height width cells (ap (λ (p : ℕ × ℕ). p.0) (sym fine))
 
-      from_run : result_of (tally_says height width t buffer') ≡ runs.solved (run_of height width cells limit buffer) buffer
-      from_run = counted_run (λ g. model.every_code g) height width cells limit buffer (every_code_sized (grid_of height width cells)) t buffer' counted
+      from_run : result_of (tally_says height width s buffer') ≡ runs.solved (run_of height width cells limit buffer) buffer
+      from_run = counted_run (λ g. model.every_code g) height width cells limit buffer (every_code_sized (grid_of height width cells)) s buffer' counted

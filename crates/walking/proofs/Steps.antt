@@ -16,6 +16,12 @@ use Rattle.runs.specs.Layouts.{progress, Added}
 use Rattle.walking.specs.Given.{PadOf, put_right, put_down, tested_record}
 use Rattle.walking.specs.GivenLaws.{right_length, down_length}
 use Rattle.walking.specs.Walked.{Begun, Gave, WalkedOn, Going}
+use Rattle.std.specs.Prelude.{Ok, Err}
+use Rattle.tally.specs.declared.Tally.{Tally}
+use Rattle.tally.specs.declared.Stop.{Stop}
+use Rattle.tally.specs.declared.Stop.TheVariants.{Spent, Full}
+use Rattle.tally.specs.Outcomes.{outcome_number}
+use Rattle.tally.specs.Counts.{progress_of}
 use Rattle.walking.specs.WalkLaws as law
 
 pub few_pads : (height width : ℕ) (cells : List ℤ) → Accepted height width cells → height * width ≤ 256
@@ -73,11 +79,12 @@ module _ (height width : ℕ) (cells : List ℤ) (bytes : List ℕ) (layouts : �
 
     -- ## A full drawing
 
-    pub all_given : v ≤ height * width → height * width ≤ v → (o layouts' fewest_lines' : ℕ) (buffer' : List ℕ)
-        → Added size (tested_record g bytes) layouts fewest_lines buffer o layouts' fewest_lines' buffer' → WalkedOn g limit v bytes P bytes (progress size o tried layouts' fewest_lines' buffer')
+    pub all_given : v ≤ height * width → height * width ≤ v → (o tried' layouts' fewest_lines' : ℕ) (buffer' : List ℕ)
+        → Added size (tested_record g bytes) layouts fewest_lines buffer o layouts' fewest_lines' buffer' → tried' ≡ tried → WalkedOn g limit v bytes P bytes (progress size o tried' layouts' fewest_lines' buffer')
     unfolding grid_of
-    all_given low high o layouts' fewest_lines' buffer' added =
-        law.all_given g begun.accepted.width_in_range.0 limit v bytes P begun.inside (omega arith) _ (added.advanced limit tried) added.inside added.same_length
+    all_given low high o tried' layouts' fewest_lines' buffer' added same =
+        law.all_given g begun.accepted.width_in_range.0 limit v bytes P begun.inside (omega arith) _
+        (ap (λ (n : ℕ). progress size o n layouts' fewest_lines' buffer') same ∙ added.advanced limit tried) added.inside added.same_length
 
     -- ## The four codes of a pad
 
@@ -90,12 +97,15 @@ module _ (height width : ℕ) (cells : List ℤ) (bytes : List ℕ) (layouts : �
       unfolding grid_of
       loop_over = law.loop_over g begun.accepted.width_in_range.0 limit v bytes P begun.inside low refl
 
-      module _ (m : ℕ) (less : m < 4) (bytes₁ bytes₂ : List ℕ) (Q : Progress) (o tried' layouts' fewest_lines' : ℕ) (buffer' : List ℕ)
-          (gave : Gave g limit v (eqb (m % 2) 1) (eqb (m / 2) 1) bytes₁ Q bytes₂ (progress size o tried' layouts' fewest_lines' buffer')) (going : Going g limit v (4 - m) m bytes P bytes₁ Q) where
-        pub stops_at : (o ≡ 0 → ⊥) → WalkedOn g limit v bytes P bytes₂ (progress size o tried' layouts' fewest_lines' buffer')
+      module _ (m : ℕ) (less : m < 4) (bytes₁ bytes₂ : List ℕ) (Q : Progress) (t : Tally) (buffer' : List ℕ) (going : Going g limit v (4 - m) m bytes P bytes₁ Q) where
+        pub stops_at : (s : Stop) → Gave g limit v (eqb (m % 2) 1) (eqb (m / 2) 1) bytes₁ Q bytes₂ (progress_of size (Err s) t buffer') → WalkedOn g limit v bytes P bytes₂ (progress_of size (Err s) t buffer')
         unfolding grid_of
-        stops_at = law.stops_at g begun.accepted.width_in_range.0 limit v bytes P begun.inside low refl m less bytes₁ bytes₂ Q o tried' layouts' fewest_lines' buffer' gave going
+        stops_at s gave = law.stops_at g begun.accepted.width_in_range.0 limit v bytes P begun.inside low refl m less bytes₁ bytes₂ Q _ _ _ _ buffer' gave going (stopped s)
+          where
+            stopped : (s : Stop) → outcome_number (Err s) ≡ 0 → ⊥
+            stopped Spent h = omega arith
+            stopped Full h = omega arith
 
-        pub next_one : o ≡ 0 → Going g limit v (4 - (m + 1)) (m + 1) bytes P bytes₂ (progress size 0 tried' layouts' fewest_lines' buffer')
+        pub next_one : Gave g limit v (eqb (m % 2) 1) (eqb (m / 2) 1) bytes₁ Q bytes₂ (progress_of size (Ok tt) t buffer') → Going g limit v (4 - (m + 1)) (m + 1) bytes P bytes₂ (progress_of size (Ok tt) t buffer')
         unfolding grid_of
-        next_one = law.next_one g begun.accepted.width_in_range.0 limit v bytes P begun.inside low refl m less bytes₁ bytes₂ Q o tried' layouts' fewest_lines' buffer' gave going
+        next_one gave = law.next_one g begun.accepted.width_in_range.0 limit v bytes P begun.inside low refl m less bytes₁ bytes₂ Q _ _ _ _ buffer' gave going refl

@@ -1,25 +1,29 @@
 -- What `walk` answers, as the model says it, and its whole promise in one record. `Walks` is the contract of `walk`; the equation with the model is
 -- its first part, and demands 2 and 3 are its second.
-use Rattle.std.specs.Prelude.{ℕ, ◌≡◌, List, length, ℤ}
+use Rattle.std.specs.Prelude.{ℕ, ◌≡◌, List, length, ℤ, Result, Ok, Err}
 use Rattle.rules.specs.Grid.{grid_of, places}
 use Rattle.model.specs.Refusals.{grid_refusal}
 use Rattle.model.specs.Runs as runs
 use Rattle.model.specs.Walk as model
-use Rattle.walking.specs.declared.Walked.{Walked}
+use Rattle.grid.specs.declared.Refusal.{Refusal}
+use Rattle.grid.specs.Answers.{number_of, index_of}
+use Rattle.tally.specs.declared.Solved.{Solved}
+use Rattle.tally.specs.Outcomes.{outcome_number}
 use Rattle.tally.specs.declared.Tally.{Tally}
 use Rattle.tally.specs.Counts as counts
 use Rattle.promises.specs.Contract.{Promise}
 
 -- the answer and the buffer after it, as the model's result: the tried codes stand in the place of visited boards
-abbrev pub answer_says : Walked → List ℕ → runs.Solved
-answer_says r buffer = record
-    { number = r.number; index = r.index; outcome = r.outcome; layouts = r.layouts; visited = r.tried; fewest_lines = r.fewest; buffer = buffer }
+abbrev pub answer_says : Result Solved Refusal → List ℕ → runs.Solved
+answer_says (Ok s) buffer = record
+    { number = 0; index = 0; outcome = outcome_number s.outcome; layouts = s.tally.layouts; visited = s.tally.visited; fewest_lines = s.tally.fewest; buffer = buffer }
+answer_says (Err refusal) buffer = runs.declined_search (number_of refusal) (index_of refusal) buffer
 
 -- the run of the walk with no code tried before
 abbrev pub run_of : ℕ → ℕ → List ℤ → ℕ → List ℕ → runs.Run
 run_of height width cells limit buffer = runs.scan limit (places height width) 0 (length buffer) (model.every_code (grid_of height width cells))
 
-pub record Walks (height width : ℕ) (cells : List ℤ) (limit : ℕ) (buffer : List ℕ) (r : Walked) (buffer' : List ℕ) : Type 0 where
+pub record Walks (height width : ℕ) (cells : List ℤ) (limit : ℕ) (buffer : List ℕ) (r : Result Solved Refusal) (buffer' : List ℕ) : Type 0 where
   -- the result and every byte of the buffer, for a refused grid too
   pub equal : answer_says r buffer' ≡ model.walk height width cells limit buffer
   -- where it is not refused they are those of this run
@@ -29,5 +33,5 @@ pub record Walks (height width : ℕ) (cells : List ℤ) (limit : ℕ) (buffer :
       → Promise (grid_of height width cells) (model.every_code (grid_of height width cells)) limit (length buffer) (run_of height width cells limit buffer)
 
 -- the tally and the buffer after the walk of the whole grid
-abbrev pub Counted : ℕ → ℕ → List ℤ → ℕ → Tally → List ℕ → Tally → List ℕ → Type 0
+abbrev pub Counted : ℕ → ℕ → List ℤ → ℕ → Tally → List ℕ → Solved → List ℕ → Type 0
 Counted = counts.Counted (λ g. model.every_code g)

@@ -4,20 +4,22 @@
 // (crate model, specs/Walk.antt), and demands 2 and 3 stand in the contract of `walk` as in that of `solve` (specs/Answers.antt, Walks).
 #![tactic(auto)]
 
-ghost use Rattle.std.specs.Prelude.{◌≡◌, not, ◌||◌, List, [], ◌∷◌, ◌+◌, ◌*◌, ◌-◌, ◌≤◌, ◌<◌, length, ℤ};
+ghost use Rattle.std.specs.Prelude.{◌≡◌, not, ◌||◌, List, [], ◌∷◌, ◌+◌, ◌*◌, ◌-◌, ◌≤◌, ◌<◌, length, ℤ, Ok};
 ghost use Rattle.rules.specs.Grid.{grid_of, places, Accepted};
 ghost use Rattle.rules.specs.Record.{byte_of, record_lines};
 ghost use Rattle.model.specs.Runs.{layout};
 ghost use Rattle.model.specs.Walk.{may_give};
-ghost use Rattle.runs.specs.Layouts.{progress, Added};
-ghost use Rattle.tally.specs.Counts as counts;
+ghost use Rattle.runs.specs.Layouts.{Added};
+ghost use Rattle.tally.specs.Outcomes.{outcome_number};
+ghost use Rattle.tally.specs.Counts.{progress_of};
 ghost use Rattle.tally.specs.Empty.{empty};
 ghost use Rattle.walking.specs.Given.{PadOf, put_right, put_down, tested_record};
 ghost use Rattle.walking.specs.Walked.{Begun, Gave, WalkedOn};
 ghost use Rattle.walking.specs.Answers as answers;
 
-use grid::Edge;
-use tally::Tally;
+use grid::{Edge, Refusal};
+use judging::Verdict;
+use tally::{Solved, Stop, Tally};
 
 // The bytes of an edge's states, as the edge type names them.
 const LINE: u8 = Edge::LINE.0;
@@ -67,49 +69,37 @@ fn set_down(bytes: &mut [u8], height: usize, width: usize, v: usize, line: bool)
 }
 
 // A layout is due: its record is put into the buffer and counted, or the buffer is full.
-fn add_record(
-    bytes: &[u8],
-    lines: usize,
-    buffer: &mut [u8],
-    layouts: &mut usize,
-    fewest: &mut usize,
-) -> u8
-    requires { (1 ≤ length bytes.now) × (lines ≡ record_lines bytes.now) × (layouts.old * length bytes.now ≤ length buffer.old) }
+fn add_record(bytes: &[u8], lines: usize, buffer: &mut [u8], tally: &mut Tally) -> Result<(), Stop>
+    requires { (1 ≤ length bytes.now) × (lines ≡ record_lines bytes.now) × (tally.old.layouts * length bytes.now ≤ length buffer.old) }
     ensures { Added (length bytes.now) (layout bytes.now ∷ [])
-        layouts.old fewest.old buffer.old
-        result layouts.new fewest.new buffer.new }
+        tally.old.layouts tally.old.fewest buffer.old
+        (outcome_number result) tally.new.layouts tally.new.fewest buffer.new × (tally.new.visited ≡ tally.old.visited) }
 {
-    let size = bytes.len();
-    let at = *layouts * size;
-    if buffer.len() - at < size {
-        return 2;
-    }
+    let at = tally.place(bytes.len(), buffer.len())?;
     text::put_word(buffer, at, bytes);
-    *fewest = tally::least(*fewest, lines);
-    *layouts += 1;
-    0
+    tally.add(lines);
+    Ok(())
 }
 
-// Every pad has its code: the drawing is a layout where the test of the rules marks it 2.
+// Every pad has its code: the drawing is a layout where the test of the rules finds it listed.
 fn test_drawing(
     height: usize,
     width: usize,
     cells: &[i64],
     bytes: &[u8],
     buffer: &mut [u8],
-    layouts: &mut usize,
-    fewest: &mut usize,
-) -> u8
-    requires { Begun height width cells.now bytes.now layouts.old buffer.old }
+    tally: &mut Tally,
+) -> Result<(), Stop>
+    requires { Begun height width cells.now bytes.now tally.old.layouts buffer.old }
     ensures { Added (places height width) (tested_record (grid_of height width cells.now) bytes.now)
-        layouts.old fewest.old buffer.old
-        result layouts.new fewest.new buffer.new }
+        tally.old.layouts tally.old.fewest buffer.old
+        (outcome_number result) tally.new.layouts tally.new.fewest buffer.new × (tally.new.visited ≡ tally.old.visited) }
 {
     let judged = judging::judge_record(height, width, cells, bytes);
-    if judged.verdict != 2 {
-        return 0;
+    match judged.verdict {
+        Verdict::NoLayout | Verdict::Ordinary => Ok(()),
+        Verdict::Listed => add_record(bytes, judged.lines, buffer, tally),
     }
-    add_record(bytes, judged.lines, buffer, layouts, fewest)
 }
 
 // One code at a pad: not tried with a line off the board; spent where it would pass the limit; else it is counted, and the walk goes on with it.
@@ -121,39 +111,26 @@ fn give(
     bytes: &mut [u8],
     limit: u64,
     buffer: &mut [u8],
-    tried: &mut u64,
-    layouts: &mut usize,
-    fewest: &mut usize,
+    tally: &mut Tally,
     v: usize,
     right: bool,
     down: bool,
-) -> u8
-    requires { Begun height width cells.now bytes.old layouts.old buffer.old × (v < height * width) }
+) -> Result<(), Stop>
+    requires { Begun height width cells.now bytes.old tally.old.layouts buffer.old × (v < height * width) }
     ensures { Gave (grid_of height width cells.now) limit v right down
-        bytes.old (progress (places height width) 0 tried.old layouts.old fewest.old buffer.old)
-        bytes.new (progress (places height width) result tried.new layouts.new fewest.new buffer.new) }
+        bytes.old (progress_of (places height width) (Ok tt) tally.old buffer.old)
+        bytes.new (progress_of (places height width) result tally.new buffer.new) }
 {
     if !may_be_given(height, width, v, right, down) {
-        return 0;
+        return Ok(());
     }
-    if *tried >= limit {
-        return 1;
+    if tally.visited >= limit {
+        return Err(Stop::Spent);
     }
-    *tried += 1;
+    tally.visited += 1;
     set_right(bytes, height, width, v, right);
     set_down(bytes, height, width, v, down);
-    walk_on(
-        height,
-        width,
-        cells,
-        bytes,
-        limit,
-        buffer,
-        tried,
-        layouts,
-        fewest,
-        v + 1,
-    )
+    walk_on(height, width, cells, bytes, limit, buffer, tally, v + 1)
 }
 
 // The walk from a pad on: behind the last one the drawing is full and is tested; else the codes m = 0 to 3.
@@ -165,69 +142,42 @@ fn walk_on(
     bytes: &mut [u8],
     limit: u64,
     buffer: &mut [u8],
-    tried: &mut u64,
-    layouts: &mut usize,
-    fewest: &mut usize,
+    tally: &mut Tally,
     v: usize,
-) -> u8
-    requires { Begun height width cells.now bytes.old layouts.old buffer.old × (v ≤ height * width) }
+) -> Result<(), Stop>
+    requires { Begun height width cells.now bytes.old tally.old.layouts buffer.old × (v ≤ height * width) }
     ensures { WalkedOn (grid_of height width cells.now) limit v
-        bytes.old (progress (places height width) 0 tried.old layouts.old fewest.old buffer.old)
-        bytes.new (progress (places height width) result tried.new layouts.new fewest.new buffer.new) }
+        bytes.old (progress_of (places height width) (Ok tt) tally.old buffer.old)
+        bytes.new (progress_of (places height width) result tally.new buffer.new) }
 {
     if v >= height * width {
-        return test_drawing(height, width, cells, bytes, buffer, layouts, fewest);
+        return test_drawing(height, width, cells, bytes, buffer, tally);
     }
     for m in 0..4u8 {
-        let outcome = give(
+        give(
             height,
             width,
             cells,
             bytes,
             limit,
             buffer,
-            tried,
-            layouts,
-            fewest,
+            tally,
             v,
             m % 2 == 1,
             m / 2 == 1,
-        );
-        if outcome != 0 {
-            return outcome;
-        }
+        )?;
     }
-    0
+    Ok(())
 }
 
-// What `walk` answers: the grid's refusal with its index, and the counts.
-#[derive(Clone, Copy)]
-pub struct Walked {
-    pub number: u8,
-    pub index: usize,
-    pub outcome: u8,
-    pub layouts: usize,
-    pub tried: u64,
-    pub fewest: usize,
-}
-
-// Walks a whole grid and counts on from the tally. No pad has a code yet, so any bytes of edges will do.
-fn walk_from(
-    tally: Tally,
-    cells: &[i64],
-    buffer: &mut [u8],
-    height: usize,
-    width: usize,
-    limit: u64,
-) -> Tally
-    requires { counts.Ready height width cells.now tally buffer.old }
-    ensures { answers.Counted height width cells.now limit tally buffer.old result buffer.new }
+// Walks a whole grid with a tally of its own, which is lent down the walk and handed back. No pad has a code yet, so any bytes of edges will do.
+fn walk_grid(height: usize, width: usize, cells: &[i64], limit: u64, buffer: &mut [u8]) -> Solved
+    requires { Accepted height width cells.now }
+    ensures { answers.Counted height width cells.now limit empty buffer.old result buffer.new }
 {
     let mut bytes = [0u8; 961];
     let size = (2 * height - 1) * (2 * width - 1);
-    let mut tried = tally.visited;
-    let mut layouts = tally.layouts;
-    let mut fewest = tally.fewest;
+    let mut tally = Tally::EMPTY;
     let outcome = walk_on(
         height,
         width,
@@ -235,67 +185,22 @@ fn walk_from(
         &mut bytes[..size],
         limit,
         buffer,
-        &mut tried,
-        &mut layouts,
-        &mut fewest,
+        &mut tally,
         0,
     );
-    Tally {
-        outcome,
-        visited: tried,
-        layouts,
-        fewest,
-    }
-}
-
-// The same with the tally lent: the codes tried are counted up in it.
-fn walk_lent(
-    tally: &mut Tally,
-    cells: &[i64],
-    buffer: &mut [u8],
-    height: usize,
-    width: usize,
-    limit: u64,
-)
-    requires { counts.Ready height width cells.now tally.old buffer.old }
-    ensures { answers.Counted height width cells.now limit tally.old buffer.old tally.new buffer.new }
-{
-    *tally = walk_from(*tally, cells, buffer, height, width, limit);
-}
-
-// Walks a whole grid with a tally of its own, which is lent down the walk and handed back.
-fn walk_grid(cells: &[i64], buffer: &mut [u8], height: usize, width: usize, limit: u64) -> Tally
-    requires { Accepted height width cells.now }
-    ensures { answers.Counted height width cells.now limit empty buffer.old result buffer.new }
-{
-    let mut tally = Tally::EMPTY;
-    walk_lent(&mut tally, cells, buffer, height, width, limit);
-    tally
+    Solved { outcome, tally }
 }
 
 // Lists the wirings of a grid into the lent buffer, by trying every code at every pad.
-pub fn walk(height: usize, width: usize, cells: &[i64], limit: u64, buffer: &mut [u8]) -> Walked
+pub fn walk(
+    height: usize,
+    width: usize,
+    cells: &[i64],
+    limit: u64,
+    buffer: &mut [u8],
+) -> Result<Solved, Refusal>
     ensures { answers.Walks height width cells.now limit buffer.old result buffer.new }
 {
-    let refusal = grid::grid_refusal(height, width, cells);
-    let number = refusal.number;
-    if number != 0 {
-        return Walked {
-            number,
-            index: refusal.index,
-            outcome: 0,
-            layouts: 0,
-            tried: 0,
-            fewest: 481,
-        };
-    }
-    let counted = walk_grid(cells, buffer, height, width, limit);
-    Walked {
-        number: 0,
-        index: 0,
-        outcome: counted.outcome,
-        layouts: counted.layouts,
-        tried: counted.visited,
-        fewest: counted.fewest,
-    }
+    grid::grid_refusal(height, width, cells)?;
+    Ok(walk_grid(height, width, cells, limit, buffer))
 }

@@ -4,7 +4,7 @@ use mathlib.Core.Path.{◌≡◌, sym}
 use native.Mathlib.Omega.{arith}
 use lib.Seq.{length-take-le}
 use Rattle.reading.specs.ReadingLaws.{pads_fit, cells_fit}
-use Rattle.hearing.proofs.TextLaws.{refused_text, tall, wide, accepted_text}
+use Rattle.hearing.proofs.TextLaws.{refused_text, tall, wide, accepted_text, accepted_grid}
 use Rattle.hearing.proofs.judged.Goals as goal
 
 pub returns-then-reading-ne0 : goal.returns-then-reading-ne0
@@ -22,12 +22,15 @@ record_of_codes-record-requires c =
 pub slice_bounds-cells-end : goal.slice_bounds-cells-end
 slice_bounds-cells-end c = let same = c.read-reading.ensures in omega (arith, pads_fit _ _ same, cells_fit _ _ same)
 
-pub slice_bounds-judge-end : goal.slice_bounds-judge-end
-slice_bounds-judge-end c =
+pub slice_bounds-judge_record-end : goal.slice_bounds-judge_record-end
+slice_bounds-judge_record-end c =
     let same = c.read-reading.ensures in
     sym (length-take-le _ _ (omega (arith, pads_fit _ _ same, cells_fit _ _ same)))
+
+pub judge_record-requires : goal.judge_record-requires
+judge_record-requires c = accepted_grid _ _ c.read-reading.ensures (omega (arith, c.if-reading-ne0.false))
 
 pub returns : goal.returns
 returns c =
     let same = c.read-reading.ensures in
-    accepted_text _ _ same (omega (arith, c.if-reading-ne0.false)) _ c.record_of_codes-record.ensures c.judge.ensures c.judged_line.ensures
+    accepted_text _ _ same (omega (arith, c.if-reading-ne0.false)) _ c.record_of_codes-record.ensures c.judge_record.ensures c.judged_line.ensures

@@ -7,6 +7,7 @@ use borrow.Author.Tests.{not-true, not-false}
 use Rattle.walking.proofs.Steps.{few_pads, pad_of, right_long, down_same, written_begun, not_tried, spent, went_on, all_given, none_yet, loop_over, stops_at, next_one}
 use mathlib.Core.Path.{ap}
 use mathlib.Core.Bool.{not}
+use Rattle.std.proofs.lemmas.Result.{err_from_is_err_and}
 use Rattle.walking.proofs.+give_walk_on.Goals as goal
 
 pub give-may_be_given-requires : goal.give-may_be_given-requires
@@ -15,11 +16,11 @@ give-may_be_given-requires t c = pad_of _ _ _ _ c.requires.0.accepted c.requires
 pub give-returns-then-not-may_be_given : goal.give-returns-then-not-may_be_given
 give-returns-then-not-may_be_given t c = not_tried _ _ _ _ _ _ c.requires.0 _ _ _ _ _ _ _ c.may_be_given.ensures (not-true _ (ap not c.if-not-may_be_given.true))
 
-pub give-returns-then-tried-limit : goal.give-returns-then-tried-limit
-give-returns-then-tried-limit t c = spent _ _ _ _ _ _ c.requires.0 _ _ _ _ _ _ _ c.may_be_given.ensures (not-false _ (ap not c.if-not-may_be_given.false)) c.if-tried-limit.true
+pub give-returns-then-tally-limit : goal.give-returns-then-tally-limit
+give-returns-then-tally-limit t c = spent _ _ _ _ _ _ c.requires.0 _ _ _ _ _ _ _ c.may_be_given.ensures (not-false _ (ap not c.if-not-may_be_given.false)) c.if-tally-limit.true
 
-pub give-overflow_add-tried : goal.give-overflow_add-tried
-give-overflow_add-tried t c = omega (arith, c.if-tried-limit.false)
+pub give-overflow_add-tally : goal.give-overflow_add-tally
+give-overflow_add-tally t c = omega (arith, c.if-tally-limit.false)
 
 pub give-set_right-requires : goal.give-set_right-requires
 give-set_right-requires t c = (pad_of _ _ _ _ c.requires.0.accepted c.requires.1, c.requires.0.long)
@@ -40,7 +41,7 @@ pub give-shape_of-buffer : goal.give-shape_of-buffer
 give-shape_of-buffer t c = c.walk_on.ensures.same_length
 
 pub give-returns : goal.give-returns
-give-returns t c = went_on _ _ _ _ _ _ c.requires.0 _ _ _ _ _ _ _ c.may_be_given.ensures (not-false _ (ap not c.if-not-may_be_given.false)) c.requires.1 c.if-tried-limit.false _ _ _ _ c.set_right.ensures c.set_down.ensures c.walk_on.ensures
+give-returns t c = went_on _ _ _ _ _ _ c.requires.0 _ _ _ _ _ _ _ c.may_be_given.ensures (not-false _ (ap not c.if-not-may_be_given.false)) c.requires.1 c.if-tally-limit.false _ _ _ _ c.set_right.ensures c.set_down.ensures c.walk_on.ensures
 
 pub walk_on-overflow_mul-height : goal.walk_on-overflow_mul-height
 walk_on-overflow_mul-height t c = omega (arith, few_pads _ _ _ c.requires.0.accepted)
@@ -52,28 +53,24 @@ pub walk_on-shape_of-bytes-then-v-height : goal.walk_on-shape_of-bytes-then-v-he
 walk_on-shape_of-bytes-then-v-height t c = refl
 
 pub walk_on-shape_of-buffer-then-v-height : goal.walk_on-shape_of-buffer-then-v-height
-walk_on-shape_of-buffer-then-v-height t c = c.test_drawing.ensures.same_length
+walk_on-shape_of-buffer-then-v-height t c = c.test_drawing.ensures.0.same_length
 
 pub walk_on-returns-then-v-height : goal.walk_on-returns-then-v-height
-walk_on-returns-then-v-height t c = all_given _ _ _ _ _ _ c.requires.0 _ _ _ _ c.requires.1 c.if-v-height.true _ _ _ _ c.test_drawing.ensures
+walk_on-returns-then-v-height t c = all_given _ _ _ _ _ _ c.requires.0 _ _ _ _ c.requires.1 c.if-v-height.true _ _ _ _ _ c.test_drawing.ensures.0 c.test_drawing.ensures.1
 
 pub walk_on-loop-m-init : goal.walk_on-loop-m-init
 walk_on-loop-m-init t c = (omega arith, none_yet _ _ _ _ _ _ c.requires.0 _ _ _ _ c.if-v-height.false)
 
-pub walk_on-give-outcome-requires : goal.walk_on-give-outcome-requires
-walk_on-give-outcome-requires t c = (omega (arith, c.decreases), (record { accepted = c.requires.0.accepted; long = c.loop-m.invariant.1.same_size ∙ c.requires.0.long; inside = c.loop-m.invariant.1.inside }, c.if-v-height.false))
+pub walk_on-give-requires : goal.walk_on-give-requires
+walk_on-give-requires t c = (omega (arith, c.decreases), (record { accepted = c.requires.0.accepted; long = c.loop-m.invariant.1.same_size ∙ c.requires.0.long; inside = c.loop-m.invariant.1.inside }, c.if-v-height.false))
 
-pub walk_on-shape_of-bytes-then-outcome-ne0 : goal.walk_on-shape_of-bytes-then-outcome-ne0
-walk_on-shape_of-bytes-then-outcome-ne0 t c = c.give-outcome.ensures.same_size ∙ c.loop-m.invariant.1.same_size
-
-pub walk_on-shape_of-buffer-then-outcome-ne0 : goal.walk_on-shape_of-buffer-then-outcome-ne0
-walk_on-shape_of-buffer-then-outcome-ne0 t c = c.give-outcome.ensures.same_length ∙ c.loop-m.invariant.1.same_length
-
-pub walk_on-returns-then-outcome-ne0 : goal.walk_on-returns-then-outcome-ne0
-walk_on-returns-then-outcome-ne0 t c = stops_at _ _ _ _ _ _ c.requires.0 _ _ _ _ c.if-v-height.false c.loop-m.m c.loop-m-test.true _ _ _ _ _ _ _ _ c.give-outcome.ensures c.loop-m.invariant.1 c.if-outcome-ne0.true
+pub walk_on-returns-in_err-give : goal.walk_on-returns-in_err-give
+walk_on-returns-in_err-give t c =
+    let p = err_from_is_err_and c.from_residual.result c.from_residual.ensures.1 in
+    rw (p.1, p.2) (stops_at _ _ _ _ _ _ c.requires.0 _ _ _ _ c.if-v-height.false c.loop-m.m c.loop-m-test.true _ _ _ _ _ c.loop-m.invariant.1 _ c.in_err-give.ensures)
 
 pub walk_on-loop-m-preserved : goal.walk_on-loop-m-preserved
-walk_on-loop-m-preserved t c = (omega (arith, c.loop-m-test.true), next_one _ _ _ _ _ _ c.requires.0 _ _ _ _ c.if-v-height.false c.loop-m.m c.loop-m-test.true _ _ _ _ _ _ _ _ c.give-outcome.ensures c.loop-m.invariant.1 c.if-outcome-ne0.false)
+walk_on-loop-m-preserved t c = (omega (arith, c.loop-m-test.true), next_one _ _ _ _ _ _ c.requires.0 _ _ _ _ c.if-v-height.false c.loop-m.m c.loop-m-test.true _ _ _ _ _ c.loop-m.invariant.1 c.in_ok-give.ensures)
 
 pub walk_on-shape_of-bytes : goal.walk_on-shape_of-bytes
 walk_on-shape_of-bytes t c = c.loop-m.invariant.1.same_size

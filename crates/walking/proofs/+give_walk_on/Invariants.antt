@@ -2,7 +2,8 @@
 -- Assumes nothing.
 use Prim.Native.Nat.{◌+◌, ◌*◌, ◌-◌, ◌≤◌}
 use Rattle.rules.specs.Grid.{grid_of, places}
-use Rattle.runs.specs.Layouts.{progress}
+use Rattle.std.specs.Prelude.{Ok}
+use Rattle.tally.specs.Counts.{progress_of}
 use Rattle.walking.specs.Walked.{Going}
 use Rattle.walking.proofs.+give_walk_on.Given as goal
 
@@ -14,4 +15,4 @@ decreases-walk_on l = 2 * (l.height * l.width - l.v) + 1
 
 abbrev pub invariant-walk_on-loop-m : goal.invariant-walk_on-loop-m
 invariant-walk_on-loop-m l =
-    (l.m ≤ 4) × Going (grid_of l.height l.width l.cells) l.limit l.v (4 - l.m) l.m l.initial.bytes (progress (places l.height l.width) 0 l.initial.tried l.initial.layouts l.initial.fewest l.initial.buffer) l.bytes (progress (places l.height l.width) 0 l.tried l.layouts l.fewest l.buffer)
+    (l.m ≤ 4) × Going (grid_of l.height l.width l.cells) l.limit l.v (4 - l.m) l.m l.initial.bytes (progress_of (places l.height l.width) (Ok tt) l.initial.tally l.initial.buffer) l.bytes (progress_of (places l.height l.width) (Ok tt) l.tally l.buffer)

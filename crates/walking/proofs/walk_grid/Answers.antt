@@ -2,19 +2,19 @@
 use mathlib.Core.Path.{sym}
 use native.Mathlib.Omega.{arith}
 use Rattle.walking.proofs.Answered.{zeros_long, few, begun, counted}
-use Rattle.walking.proofs.walk_from.Goals as goal
+use Rattle.walking.proofs.walk_grid.Goals as goal
 
 pub overflow_mul-size-3 : goal.overflow_mul-size-3
-overflow_mul-size-3 c = omega (arith, few _ _ _ _ _ c.requires)
+overflow_mul-size-3 c = omega (arith, few _ _ _ c.args.buffer.now c.requires)
 
 pub slice_bounds-bytes-end : goal.slice_bounds-bytes-end
-slice_bounds-bytes-end c = few _ _ _ _ _ c.requires
+slice_bounds-bytes-end c = few _ _ _ c.args.buffer.now c.requires
 
 pub slice_bounds-walk_on-end : goal.slice_bounds-walk_on-end
-slice_bounds-walk_on-end c = sym (zeros_long _ (few _ _ _ _ _ c.requires))
+slice_bounds-walk_on-end c = sym (zeros_long _ (few _ _ _ c.args.buffer.now c.requires))
 
 pub walk_on-outcome-requires : goal.walk_on-outcome-requires
-walk_on-outcome-requires c = (begun _ _ _ _ _ c.requires, omega arith)
+walk_on-outcome-requires c = (begun _ _ _ c.args.buffer.now c.requires, omega arith)
 
 pub returns : goal.returns
-returns c = counted _ _ _ _ _ c.requires _ _ _ _ _ _ _ c.walk_on-outcome.ensures
+returns c = counted _ _ _ _ c.requires _ _ _ _ c.walk_on-outcome.ensures
