@@ -1,15 +1,19 @@
 -- What each function for other languages returns and leaves in the slices that were lent to it. It rests on the model's definitions of the
 -- same calls; the numbers stand in the order that hunekowha.h gives them. A slice that is too short is left as it was, and so is every other.
 use Rattle.std.specs.Prelude.{if◌then◌else◌}
-use Rattle.std.specs.Prelude.{ℕ, ◌*◌, ◌&&◌, List, [], ◌∷◌, ◌++◌, leb, length, drop, ℤ}
+use Rattle.std.specs.Prelude.{ℕ, ◌*◌, ◌&&◌, List, [], ◌∷◌, ◌++◌, leb, length, drop, ℤ, Result, Ok}
 use Rattle.model.specs.GridFile.{Reading}
 use Rattle.model.specs.Writing.{Writing, write}
 use Rattle.model.specs.Records.{record_length, has_record}
 use Rattle.model.specs.Judge.{Judged, judge}
-use Rattle.model.specs.Runs.{Solved}
-use Rattle.model.specs.Common.{common}
-use Rattle.solver.specs.declared.Solved.{Solved as Answered}
-use Rattle.solver.specs.Answers.{answer_says}
+use Rattle.model.specs.Runs.{Solved, declined_search}
+use Rattle.model.specs.Common.{common, with_number}
+use Rattle.grid.specs.declared.Refusal.{Refusal}
+use Rattle.tally.specs.declared.Solved.{Solved as Counted}
+use Rattle.tally.specs.declared.Tally.{Tally}
+use Rattle.tally.specs.Answers.{answer_says}
+use Rattle.copper.specs.declared.NoTable.{NoTable}
+use Rattle.copper.specs.Answers.{search_says}
 
 -- a list whose first elements were overwritten
 abbrev pub written : {A : Type 0} → List A → List A → List A
@@ -86,9 +90,17 @@ pub record ListingGives : Type 0 where
 abbrev pub solve_numbers : Solved → List ℕ
 solve_numbers r = r.number ∷ r.index ∷ r.outcome ∷ r.layouts ∷ r.visited ∷ r.fewest_lines ∷ []
 
--- the same numbers of what the search answers
-abbrev pub search_numbers : Answered → List ℕ
+-- the same numbers of what the search answers, and the walk
+abbrev pub search_numbers : Result Counted Refusal → List ℕ
 search_numbers r = solve_numbers (answer_says r [])
+
+-- of what a search has counted, behind a number
+abbrev pub counted_numbers : ℕ → Counted → List ℕ
+counted_numbers number found = solve_numbers (with_number number (answer_says (Ok found) []))
+
+-- where nothing was searched
+abbrev pub declined_numbers : ℕ → ℕ → List ℕ
+declined_numbers number index = solve_numbers (declined_search number index [])
 
 unfoldable pub listing_gives : Solved → List ℕ → List ℕ → ListingGives
 listing_gives listed buffer answer =
@@ -96,7 +108,10 @@ listing_gives listed buffer answer =
     then record { returned = 6; buffer = listed.buffer; answer = written (solve_numbers listed) answer }
     else record { returned = 0; buffer = buffer; answer = answer }
 
--- COMMON: what is returned, the buffer, the table and the numbers after the call
+-- COMMON: the numbers of what it answers; what is returned, the buffer, the table and the numbers after the call
+abbrev pub table_numbers : Result Tally NoTable → List ℕ
+table_numbers r = solve_numbers (search_says r [])
+
 pub record CommonGives : Type 0 where
   pub returned : ℕ
   pub buffer : List ℕ

@@ -4,26 +4,55 @@
 // what specs/Lent.antt says. No function asks anything of its caller beyond what the types say.
 #![tactic(auto)]
 
-ghost use Rattle.std.specs.Prelude.{◌≡◌, ◌≤◌, length};
+ghost use Rattle.std.specs.Prelude.{◌≡◌, ◌≤◌, length, []};
 ghost use Rattle.model.specs.Calls as model;
 ghost use Rattle.model.specs.GridFile.{read};
 ghost use Rattle.model.specs.Packed.{read_packed};
 ghost use Rattle.model.specs.Search.{solve};
 ghost use Rattle.model.specs.Walk.{walk};
-ghost use Rattle.gridfile.specs.Answers.{reading_says};
+ghost use Rattle.gridfile.specs.Answers.{reading_says, writing_says};
+ghost use Rattle.judging.specs.Judging.{judged_says};
 ghost use Rattle.board.specs.Held.{Held, IsBoard, Says};
 ghost use Rattle.hunekowha.specs.Replay.{state_asked, called, block, block_size, all_blocks, Writable, Replayable};
 ghost use Rattle.std.proofs.Math.Seq.{paste};
-ghost use Rattle.hunekowha.specs.Lent.{reading_gives, write_gives, record_gives, judge_gives, search_numbers, listing_gives, common_gives};
+ghost use Rattle.hunekowha.specs.Lent.{read_numbers, reading_gives, write_numbers, write_gives, record_gives, judge_numbers, judge_gives, counted_numbers, declined_numbers, search_numbers, listing_gives, table_numbers, common_gives};
 ghost use Rattle.hunekowha.specs.Replay.{replay_gives};
 
 use board::{Answer, Board};
-use grid::Edge;
-use gridfile::Reading;
-use solver::Solved;
+use copper::NoTable;
+use grid::{Edge, Refusal};
+use gridfile::{Declined, Grid, Unwritten};
+use judging::Judged;
+use tally::{Solved, Tally};
+
+// The five numbers of a reading: 0 beside the sizes of the grid, or the fault with its line and field.
+fn reading_numbers(reading: Result<Grid, Declined>) -> [u64; 5]
+    ensures { result ≡ read_numbers (reading_says reading) }
+{
+    match reading {
+        Ok(grid) => [0, 0, 0, grid.height as u64, grid.width as u64],
+        Err(declined) => [
+            u64::from(declined.fault.number()),
+            declined.line as u64,
+            declined.field as u64,
+            0,
+            0,
+        ],
+    }
+}
+
+// The cells of a reading: those of the grid, and blank ones where there is none.
+fn reading_cells(reading: Result<Grid, Declined>) -> [i64; 256]
+    ensures { result ≡ (reading_says reading).cells }
+{
+    match reading {
+        Ok(grid) => grid.cells,
+        Err(_) => gridfile::no_cells(),
+    }
+}
 
 // Writes what a reading gives: five numbers and 256 cells.
-fn put_reading(reading: Reading, answer: &mut [u64], cells: &mut [i64]) -> usize
+fn put_reading(reading: Result<Grid, Declined>, answer: &mut [u64], cells: &mut [i64]) -> usize
     ensures { reading_gives (reading_says reading) answer.old cells.old ≡ record { returned = result; answer = answer.new; cells = cells.new } }
 {
     if answer.len() < 5 {
@@ -32,16 +61,8 @@ fn put_reading(reading: Reading, answer: &mut [u64], cells: &mut [i64]) -> usize
     if cells.len() < 256 {
         return 0;
     }
-    let numbers = [
-        reading.number as u64,
-        reading.line as u64,
-        reading.field as u64,
-        reading.height as u64,
-        reading.width as u64,
-    ];
-    lend::put(answer, 0, &numbers);
-    let read_cells = reading.cells;
-    lend::put(cells, 0, &read_cells);
+    lend::put(answer, 0, &reading_numbers(reading));
+    lend::put(cells, 0, &reading_cells(reading));
     5
 }
 
@@ -65,6 +86,16 @@ pub extern "C" fn hunekowha_read_packed(
     put_reading(packed::read_packed(bytes), answer, cells)
 }
 
+// The three numbers of a writing: 0 beside the length of the text, or why nothing was written, with the index of the first bad cell.
+fn writing_numbers(writing: Result<usize, Unwritten>) -> [u64; 3]
+    ensures { result ≡ write_numbers (writing_says writing []) }
+{
+    match writing {
+        Ok(length) => [0, 0, length as u64],
+        Err(unwritten) => [u64::from(unwritten.number()), unwritten.index() as u64, 0],
+    }
+}
+
 // Writes a grid as a grid file into the lent text, and three numbers.
 #[unsafe(no_mangle)]
 pub extern "C" fn hunekowha_write(
@@ -79,12 +110,7 @@ pub extern "C" fn hunekowha_write(
     if answer.len() < 3 {
         return 0;
     }
-    let writing = gridfile::write(height, width, cells, text);
-    let numbers = [
-        writing.number as u64,
-        writing.index as u64,
-        writing.length as u64,
-    ];
+    let numbers = writing_numbers(gridfile::write(height, width, cells, text));
     lend::put(answer, 0, &numbers);
     3
 }
@@ -110,6 +136,21 @@ pub extern "C" fn hunekowha_record(
     2
 }
 
+// The four numbers of a judge: 0 beside the verdict and the lines of the drawing, or the refusal of the grid.
+fn judged_numbers(answer: Result<Judged, Refusal>) -> [u64; 4]
+    ensures { result ≡ judge_numbers (judged_says answer) }
+{
+    match answer {
+        Ok(judged) => [
+            0,
+            0,
+            u64::from(u8::from(judged.verdict)),
+            judged.lines as u64,
+        ],
+        Err(refusal) => [u64::from(refusal.number()), refusal.index() as u64, 0, 0],
+    }
+}
+
 // Judges a drawing of a grid, held as a record, and writes four numbers.
 #[unsafe(no_mangle)]
 pub extern "C" fn hunekowha_judge(
@@ -124,13 +165,7 @@ pub extern "C" fn hunekowha_judge(
     if answer.len() < 4 {
         return 0;
     }
-    let judged = judging::judge(height, width, cells, bytes);
-    let numbers = [
-        judged.number as u64,
-        judged.index as u64,
-        judged.verdict as u64,
-        judged.lines as u64,
-    ];
+    let numbers = judged_numbers(judging::judge(height, width, cells, bytes));
     lend::put(answer, 0, &numbers);
     4
 }
@@ -256,20 +291,54 @@ pub extern "C" fn hunekowha_replay(
     count * size
 }
 
-// Writes the six numbers of a search or a walk.
-fn put_solved(answer: &mut [u64], solved: Solved)
-    requires { 6 ≤ length answer.old }
-    ensures { answer.new ≡ paste answer.old 0 (search_numbers solved) 6 }
+// The six numbers of a grid that was searched, or walked, to an outcome, behind a number.
+fn counted_numbers(number: u64, solved: Solved) -> [u64; 6]
+    ensures { result ≡ counted_numbers number solved }
 {
-    let numbers = [
-        solved.number as u64,
-        solved.index as u64,
-        solved.outcome as u64,
-        solved.layouts as u64,
-        solved.visited,
-        solved.fewest as u64,
-    ];
-    lend::put(answer, 0, &numbers);
+    let counted = solved.tally;
+    [
+        number,
+        0,
+        u64::from(tally::outcome_number(solved.outcome)),
+        counted.layouts as u64,
+        counted.visited,
+        counted.fewest as u64,
+    ]
+}
+
+// The six numbers where nothing was searched: why, with the index of the first bad cell, beside an empty tally.
+fn declined_numbers(number: u64, index: usize) -> [u64; 6]
+    ensures { result ≡ declined_numbers number index }
+{
+    [number, index as u64, 0, 0, 0, Tally::EMPTY.fewest as u64]
+}
+
+// The six numbers of a search or a walk.
+fn search_numbers(answer: Result<Solved, Refusal>) -> [u64; 6]
+    ensures { result ≡ search_numbers answer }
+{
+    match answer {
+        Ok(solved) => counted_numbers(0, solved),
+        Err(refusal) => declined_numbers(u64::from(refusal.number()), refusal.index()),
+    }
+}
+
+// The six numbers of a search for the copper common to all layouts: 14 where the lent table is too short, 16 where the list isn't complete.
+fn table_numbers(answer: Result<Tally, NoTable>) -> [u64; 6]
+    ensures { result ≡ table_numbers answer }
+{
+    match answer {
+        Ok(tally) => counted_numbers(
+            0,
+            Solved {
+                outcome: Ok(()),
+                tally,
+            },
+        ),
+        Err(NoTable::Grid(refusal)) => search_numbers(Err(refusal)),
+        Err(NoTable::Short) => declined_numbers(14, 0),
+        Err(NoTable::Incomplete(found)) => counted_numbers(16, found),
+    }
 }
 
 // Lists the layouts of a grid into the buffer, and writes six numbers.
@@ -287,8 +356,8 @@ pub extern "C" fn hunekowha_solve(
     if answer.len() < 6 {
         return 0;
     }
-    let solved = solver::solve(height, width, cells, limit, buffer);
-    put_solved(answer, solved);
+    let numbers = search_numbers(solver::solve(height, width, cells, limit, buffer));
+    lend::put(answer, 0, &numbers);
     6
 }
 
@@ -307,16 +376,8 @@ pub extern "C" fn hunekowha_walk(
     if answer.len() < 6 {
         return 0;
     }
-    let walked = walking::walk(height, width, cells, limit, buffer);
-    let solved = Solved {
-        number: walked.number,
-        index: walked.index,
-        outcome: walked.outcome,
-        layouts: walked.layouts,
-        visited: walked.tried,
-        fewest: walked.fewest,
-    };
-    put_solved(answer, solved);
+    let numbers = search_numbers(walking::walk(height, width, cells, limit, buffer));
+    lend::put(answer, 0, &numbers);
     6
 }
 
@@ -336,7 +397,7 @@ pub extern "C" fn hunekowha_common(
     if answer.len() < 6 {
         return 0;
     }
-    let solved = copper::common(height, width, cells, limit, buffer, table);
-    put_solved(answer, solved);
+    let numbers = table_numbers(copper::common(height, width, cells, limit, buffer, table));
+    lend::put(answer, 0, &numbers);
     6
 }

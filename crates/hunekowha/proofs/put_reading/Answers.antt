@@ -1,5 +1,5 @@
 -- `hunekowha::put_reading` meets its contract: a slice is too short, or the reading is written. Assumes nothing.
-use Rattle.hunekowha.proofs.Short.{read_short_answer, read_short_cells, read_whole}
+use Rattle.hunekowha.proofs.Short.{put_front, read_short_answer, read_short_cells, read_whole}
 use lib.ListN.{length}
 use native.Mathlib.Omega.{arith}
 use mathlib.Core.Path.{◌≡◌}
@@ -13,7 +13,7 @@ pub returns-then-cells-lt256 : goal.returns-then-cells-lt256
 returns-then-cells-lt256 c = read_short_cells _ _ _ c.if-answer-lt5.false c.if-cells-lt256.true
 
 pub put-requires-2 : goal.put-requires-2
-put-requires-2 c = let long : length c.args.reading.cells ≡ 256 = search rules in omega arith
+put-requires-2 c = let long : length c.reading_cells.result ≡ 256 = search rules in omega arith
 
 pub returns : goal.returns
-returns c = read_whole _ _ _ c.if-answer-lt5.false c.if-cells-lt256.false _ _ c.put.ensures c.put-2.ensures
+returns c = read_whole _ _ _ c.if-answer-lt5.false c.if-cells-lt256.false _ _ (put_front _ c.reading_numbers.ensures c.put.ensures) (put_front _ c.reading_cells.ensures c.put-2.ensures)
