@@ -3,7 +3,7 @@ use Rattle.std.specs.Prelude.{ℕ, List, Result, Ok, Err}
 use Rattle.model.specs.GridFile as model
 use Rattle.model.specs.Writing as writer
 use Rattle.grid.specs.Answers.{number_of, index_of}
-use Rattle.gridfile.specs.declared.Grid.{Grid}
+use Rattle.gridfile.specs.declared.sized.Grid.{Grid}
 use Rattle.gridfile.specs.declared.Declined.{Declined}
 use Rattle.gridfile.specs.declared.Unwritten.{Unwritten}
 use Rattle.gridfile.specs.declared.Unwritten.TheVariants.{BadGrid, NoRoom}

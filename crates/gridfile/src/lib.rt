@@ -17,6 +17,10 @@ ghost use Rattle.gridfile.specs.declared.Unwritten.TheVariants.{BadGrid};
 use grid::Refusal;
 use text::Line;
 
+mod sized;
+
+pub use sized::Grid;
+
 // The bytes that part fields and end lines, the sign of a hole, and the most digits of a field.
 const COMMA: u8 = 44;
 
@@ -34,14 +38,6 @@ const MOST_DIGITS: usize = 10;
 pub const LONGEST_TEXT: usize = 2822;
 
 type Text = Line<LONGEST_TEXT>;
-
-// A grid that was read: H, W and 256 cells, blank ones behind the last pad's.
-#[derive(Clone, Copy)]
-pub struct Grid {
-    pub height: usize,
-    pub width: usize,
-    pub cells: [i64; 256],
-}
 
 // Why a file, or a slice of packed decimal, is declined.
 #[derive(Clone, Copy, PartialEq, Eq)]

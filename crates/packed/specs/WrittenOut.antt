@@ -9,7 +9,7 @@ use Rattle.reading.specs.WrittenBack.{pads_read}
 use Rattle.reading.specs.SlicesAndFiles.{WrittenAndRead, slice_written}
 use Rattle.reading.proofs.SlicesAndFiles.{slice_to_any}
 use Rattle.grid.specs.declared.Refusal.TheVariants.{Size, CellCount, Cell}
-use Rattle.gridfile.specs.declared.Grid.{Grid}
+use Rattle.gridfile.specs.declared.sized.Grid.{Grid}
 use Rattle.gridfile.specs.declared.Declined.{Declined}
 use Rattle.gridfile.specs.declared.Unwritten.{Unwritten}
 use Rattle.gridfile.specs.declared.Unwritten.TheVariants.{BadGrid, NoRoom}

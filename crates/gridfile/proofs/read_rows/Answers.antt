@@ -67,3 +67,6 @@ returns-then-at-bytes c = ap (λ (d : Declined). reading_says (Err d)) c.at-then
 
 pub returns : goal.returns
 returns c = file_ends _ _ _ _ _ _ _ _ _ c.loop-line.invariant c.loop-line-test.false c.if-at-bytes.false
+
+pub invariant_of-result : goal.invariant_of-result
+invariant_of-result c = record { few = ((size_of_test _ c.requires.0).1, (size_of_test _ c.requires.1).1) }
