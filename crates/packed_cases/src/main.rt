@@ -3,13 +3,11 @@
 // and what must be printed.
 #![tactic(auto)]
 
-use reader_cases::Reader;
-
 // The number of standard input.
 const STDIN_FILENO: i32 = 0;
 
 fn main() {
     let mut input = io::large_buffer();
     let n = io::read_full(STDIN_FILENO, &mut input);
-    reader_cases::run_all(&input[..n], Reader::Packed);
+    reader_cases::run_all(&input[..n], packed::read_packed);
 }
