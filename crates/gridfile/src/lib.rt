@@ -366,8 +366,8 @@ fn text_of(height: usize, width: usize, cells: &[i64]) -> Text
     text
 }
 
-// A grid into a lent buffer: the grid's refusals first, then none where the buffer is shorter than the text; the text's length. The text is
-// made in an array that the longest one fits, so that nothing is written where there is no room.
+// A grid into a lent buffer, and its text's length: the grid's refusals come first, then no room where the buffer is shorter than the text.
+// The text is made in an array that the longest one fits, so that nothing is written where there is no room.
 pub fn write(
     height: usize,
     width: usize,
