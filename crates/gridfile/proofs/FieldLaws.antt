@@ -9,27 +9,18 @@ use native.Mathlib.Numerals.{add-one}
 use native.Mathlib.Omega.{arith}
 use lib.ListN.{length, get_or, drop, drop_of_length-le, get_or-eq_default}
 use lib.Seq.{drop-cons}
-use lib.Dec.{eqb, ltb}
+use lib.Dec.{ltb}
 use borrow.Author.Tests.{ltb-true, ltb-false, lt-ltb, le-ltb, ne_eqb, eq-eqb, not-true, not-false}
 use Rattle.rules.specs.Grid.{largest_code}
 use Rattle.rules.specs.Tests.{conflict}
 use Rattle.model.specs.Bounds.{most_digits}
-use Rattle.model.specs.GridFile.{is_digit, is_comma, is_line_end, is_hole_sign, disallowed_number, is_zero_alone}
-use Rattle.std.specs.Prelude.{Ok, Err, if◌then◌else◌}
+use Rattle.model.specs.GridFile.{is_digit, is_comma, is_line_end, is_hole_sign, is_zero_alone}
+use Rattle.std.specs.Prelude.{Ok, Err}
 use Rattle.reading.specs.FieldSteps.{digit_bounds}
-use Rattle.gridfile.specs.Fields.{fault_number, disallowed, ended_field, field_from, field_at, hole_from, row_field_at}
-use Rattle.gridfile.specs.declared.Fault.TheVariants.{StrayByte, EleventhDigit, LargeCode, FileEnd, ByteAfterDigit, LeadingZero}
+use Rattle.gridfile.specs.Fields.{disallowed, ended_field, field_from, field_at, hole_from, row_field_at}
+use Rattle.gridfile.specs.declared.Fault.TheVariants.{EleventhDigit, LargeCode, FileEnd, LeadingZero}
 
 -- ## The end of a field
-
--- the documents' number of a disallowed byte
-pub disallowed_is : (digits : ℕ) → fault_number (disallowed digits) ≡ disallowed_number digits
-unfolding disallowed disallowed_number
-disallowed_is digits = go (eqb digits 0)
-  where
-    go : (first : Bool) → fault_number (if first then StrayByte else ByteAfterDigit) ≡ (if first then 1 else 13)
-    go true = refl
-    go false = refl
 
 module _ (byte digits value at : ℕ) where
   pub neither : (byte ≡ 44 → ⊥) → (byte ≡ 10 → ⊥) → Err (disallowed digits) ≡ ended_field byte digits value at
@@ -128,9 +119,6 @@ unfolding field_at
 none_passed bytes from = record { begun = omega arith; short = omega arith; small = rw sub_self (omega arith); left = rw sub_self refl }
 
 module _ (bytes : List ℕ) (from at value : ℕ) (p : Passed bytes from at value) (h : at < length bytes) (d : is_digit (get_or bytes at 0) ≡ true) (n : at - from ≡ 10 → ⊥) where
-  pub value_fits : value * 10 + (get_or bytes at 0 - 48) < 10000000000
-  value_fits = ten_digits _ (at - from + 1) (digit_more value (at - from) _ p.small (omega (arith, (digit_bounds _ d).1))) (omega (arith, n))
-
   pub one_passed : is_zero_alone (at - from) value ≡ false → Passed bytes from (at + 1) (value * 10 + (get_or bytes at 0 - 48))
   one_passed z = record { begun = omega arith; short = omega arith; small = rw longer (digit_more value (at - from) _ p.small (omega (arith, (digit_bounds _ d).1))); left = rw longer (sym (field_goes_on bytes at (at - from) value h d z n) ∙ p.left) }
     where

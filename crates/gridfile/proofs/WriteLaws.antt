@@ -9,10 +9,10 @@ use native.Mathlib.Omega.{arith}
 use lib.ListN.{length, get_or, drop, length-append, drop_of_length-le}
 use lib.Seq.{drop-cons}
 use lib.IntN.{ℤ, pos, negsuc, nat_abs}
-use lib.Signed.{lt_z, non_neg}
-use lib.Dec.{T, eqb}
+use lib.Signed.{lt_z}
+use lib.Dec.{eqb}
 use mir.Syntax.{w64}
-use mir.Val.{Fits, SFits, to_z, of_z}
+use mir.Val.{SFits, to_z, of_z}
 use mir.ValLaws.{to_z-of_z}
 use borrow.Author.Tests.{ltb-true, eqb-true, eqb-false, ne_eqb, eq-eqb}
 use Rattle.rules.specs.Grid.{Accepted}
@@ -49,13 +49,6 @@ module _ (z : ℤ) (f : SFits w64 z) where
       go (pos code) n h = absurd (omega (arith, ltb-true code 0 h))
       go (negsuc zero) n h = absurd (n refl)
       go (negsuc (suc below)) n h = refl
-
-  pub a_code : lt_z (to_z w64 (of_z w64 z)) (pos 0) ≡ false → T (non_neg (to_z w64 (of_z w64 z))) × Fits w64 (nat_abs (to_z w64 (of_z w64 z)))
-  a_code h = rw back (go z f (rw back at h))
-    where
-      go : (z : ℤ) → SFits w64 z → lt_z z (pos 0) ≡ false → T (non_neg z) × Fits w64 (nat_abs z)
-      go (pos n) f h = (tt, record { fits = omega (arith, f.sfits) })
-      go (negsuc n) f h = absurd (true≢false h)
 
   pub its_digits : lt_z (to_z w64 (of_z w64 z)) (pos 0) ≡ false → decimal (nat_abs (to_z w64 (of_z w64 z))) ≡ cell_text z
   unfolding cell_text

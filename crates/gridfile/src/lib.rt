@@ -4,14 +4,15 @@
 // `write` of the crate `model`, specs/Writing.antt there.
 #![tactic(auto)]
 
-ghost use Rattle.std.specs.Prelude.{◌≡◌, true, ◌++◌, ◌+◌, ◌-◌, ◌*◌, ◌≤◌, ◌<◌, length, get_or, drop, set};
+ghost use Rattle.std.specs.Prelude.{◌≡◌, ℕ, true, MatchResult, ◌++◌, ◌+◌, ◌-◌, ◌*◌, ◌≤◌, ◌<◌, length, get_or, drop, set};
 ghost use Rattle.rules.specs.Grid.{largest_code};
 ghost use Rattle.model.specs.Bounds.{is_size};
-ghost use Rattle.model.specs.GridFile.{is_digit, is_hole_sign, is_zero_alone, no_cells, read_from, read};
+ghost use Rattle.model.specs.GridFile.{Reading, is_digit, is_hole_sign, is_zero_alone, no_cells, read_from, read};
 ghost use Rattle.model.specs.Writing.{cell_text, rows_text, grid_text, write};
 ghost use Rattle.reading.specs.FieldSteps.{field_start, cell_of};
 ghost use Rattle.gridfile.specs.Fields.{fault_number, disallowed, field_at, row_field_at, ended_field, located, part_of};
 ghost use Rattle.gridfile.specs.Answers.{unwritten_number, unwritten_index, reading_says, writing_says};
+ghost use Rattle.gridfile.specs.Rows.{Reached};
 ghost use Rattle.gridfile.specs.declared.Unwritten.TheVariants.{BadGrid};
 
 use grid::Refusal;
@@ -252,36 +253,44 @@ fn store_cell(cells: &mut [i64; 256], index: usize, hole: bool, digits: usize, v
     }
 }
 
+// One row of a file from a place on, W fields of it: their cells are stored; the place behind the row.
+fn read_row(
+    bytes: &[u8],
+    from: usize,
+    width: usize,
+    row: usize,
+    cells: &mut [i64; 256],
+) -> Result<usize, Declined>
+    requires { (is_size width ≡ true) × (row < 16) }
+    ensures { (height : ℕ) (answer : Reading) → row < height → Reached bytes.now height width row 0 cells.old from answer → MatchResult result (λ next. Reached bytes.now height width (row + 1) 0 cells.new next answer) (λ declined. reading_says (Err declined) ≡ answer) }
+{
+    let mut at = from;
+    for column in 0..width {
+        let Field { value, end } = located(row_field_at(bytes, at), row + 2, column + 1)?;
+        let index = row * width + column;
+        store_cell(cells, index, is_hole(bytes, at), end - at, value);
+        let ends = bytes[end] == LINE_END;
+        let is_last = column + 1 == width;
+        if ends != is_last {
+            return Err(Fault::FieldCount.at(row + 2, column + 1));
+        }
+        at = end + 1;
+    }
+    Ok(at)
+}
+
 // The rows of a file whose header has been read: from a place on, H rows of W fields each, and nothing after them.
 fn read_rows(bytes: &[u8], from: usize, height: usize, width: usize) -> Result<Grid, Declined>
     requires { (is_size height ≡ true) × (is_size width ≡ true) × (from ≤ length bytes.now) }
     ensures { reading_says result ≡ read_from (field_start 2 1 height width no_cells) (drop from bytes.now) }
 {
     let mut cells = no_cells();
-    let mut index = 0;
     let mut at = from;
-    let mut line = 2;
-    let mut field = 1;
-    while line < height + 2 {
-        let Field { value, end } = located(row_field_at(bytes, at), line, field)?;
-        store_cell(&mut cells, index, is_hole(bytes, at), end - at, value);
-        index += 1;
-        at = end + 1;
-        if bytes[end] == LINE_END {
-            if field < width {
-                return Err(Fault::FieldCount.at(line, field));
-            }
-            line += 1;
-            field = 1;
-        } else {
-            if field == width {
-                return Err(Fault::FieldCount.at(line, field));
-            }
-            field += 1;
-        }
+    for row in 0..height {
+        at = read_row(bytes, at, width, row, &mut cells)?;
     }
     if at < bytes.len() {
-        return Err(Fault::FileEnd.at(line, field));
+        return Err(Fault::FileEnd.at(height + 2, 1));
     }
     Ok(Grid {
         height,
@@ -357,8 +366,8 @@ fn text_of(height: usize, width: usize, cells: &[i64]) -> Text
     text
 }
 
-// A grid into a lent buffer: the grid's refusals first, then none where the buffer is shorter than the text; the text's length. The text is
-// made in an array that the longest one fits, so that nothing is written where there is no room.
+// A grid into a lent buffer, and its text's length: the grid's refusals come first, then no room where the buffer is shorter than the text.
+// The text is made in an array that the longest one fits, so that nothing is written where there is no room.
 pub fn write(
     height: usize,
     width: usize,

@@ -5,9 +5,9 @@ use mathlib.Core.Bool.{true, false}
 use mathlib.Core.Logic.{inl, inr}
 use mathlib.Core.List.{List, [], ◌∷◌, ◌++◌, append_assoc}
 use Prim.Native.Nat.{ℕ, suc, ◌+◌, ◌*◌, ◌-◌, ◌/◌, ◌≤◌, ◌<◌}
-use native.Mathlib.Nat.{mul-le-mul, sub-zero, min-le_left}
+use native.Mathlib.Nat.{mul-le-mul, sub-zero}
 use native.Mathlib.Omega.{arith}
-use lib.ListN.{length, get_or, take, drop, set, replicate, length-append, length-take, length-drop}
+use lib.ListN.{length, get_or, take, drop, set, replicate, length-append, length-drop}
 use lib.Seq.{set_at, drop-drop}
 use lib.IntN.{ℤ}
 use mir.Syntax.{w64}
@@ -28,9 +28,6 @@ module _ (from : ℕ) (bytes : List ℕ) where
     where
       five : from + 5 - from ≡ 5
       five = omega arith
-
-  pub part_short : length (take (from + 5 - from) (drop from bytes)) ≤ 5
-  part_short = rw (pad_part, length-take) (min-le_left 5 (length (drop from bytes)))
 
 -- ## What a pad's answer tells
 

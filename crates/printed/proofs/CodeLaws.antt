@@ -78,9 +78,6 @@ module _ (height width : ℕ) (layout : List ℕ) where
   codes_length (suc more) index = ap suc (codes_length more (index + 1))
 
 module _ (height width : ℕ) (h : is_size height ≡ true) (w : is_size width ≡ true) where
-  pub some_columns : 0 < width
-  some_columns = omega (arith, (size_of_test width w).0)
-
   pub all_pads : height * width ≤ 256
   all_pads = mul-le-mul (size_of_test height h).1 (size_of_test width w).1
 

@@ -63,9 +63,8 @@ fn codes_of(height: usize, width: usize, layout: &[u8]) -> [u8; 256]
     requires { (is_size height ≡ true) × (is_size width ≡ true) }
     ensures { CodesOf height width layout.now result }
 {
-    let places = (2 * height - 1) * (2 * width - 1);
     let mut codes = [0; 256];
-    for i in 0..places {
+    for i in 0..records::record_length(height, width) {
         if let Some(pads) = line_at(layout, width, i) {
             add_line(&mut codes, pads);
         }

@@ -1,33 +1,25 @@
 // Runs the cases of a reader, that of grid files or that of packed decimal: takes the slices of an input, each behind its length in
-// two bytes, and prints the answer of each: the line of a refused slice, or the grid as it is written back. It rests on this, that
-// what either reader gives is sound (crate `reading`, specs/ReadingLaws.antt and proofs/PackedSlices.antt there): 256 cells, and
-// the pads among them.
+// two bytes, and prints the answer of each: the line of a refused slice, or the grid as it is written back. It is safe for any reader,
+// since a grid that was read lends the cells of its pads.
 #![tactic(auto)]
 
 ghost use Rattle.std.specs.Prelude.{IfSome, ◌<◌, length};
-ghost use Rattle.reading.specs.ReadingLaws.{SoundReading};
-ghost use Rattle.gridfile.specs.Answers.{reading_says};
 
-use gridfile::Reading;
-
-// Which reader is asked: that of grid files, or that of packed decimal.
-#[derive(Clone, Copy)]
-pub enum Reader {
-    File,
-    Packed,
-}
+use gridfile::{Declined, Grid};
 
 // The line of a refused slice. What cannot be written is passed over, here as below.
-fn print_refusal(rt: &impl Print, number: u8, line: usize, field: usize) {
-    let text = printed::refusal_line(number, line as u64, field as u64);
-    let _ = rt.write_all(&text.bytes[..text.length]);
+fn print_refusal(rt: &impl Print, declined: Declined) {
+    let number = declined.fault.number();
+    let line = printed::refusal_line(number, declined.line as u64, declined.field as u64);
+    let _ = rt.write_all(line.as_bytes());
 }
 
-// The grid of an accepted slice, as it is written back.
+// The grid of an accepted slice, as it is written back; nothing where it cannot be.
 fn print_grid(rt: &impl Print, height: usize, width: usize, cells: &[i64]) {
     let mut text = [0; gridfile::LONGEST_TEXT];
-    let writing = gridfile::write(height, width, cells, &mut text);
-    let _ = rt.write_all(&text[..writing.length]);
+    if let Ok(length) = gridfile::write(height, width, cells, &mut text) {
+        let _ = rt.write_all(&text[..length]);
+    }
 }
 
 // A line for each cell past the pads that is not blank.
@@ -39,26 +31,15 @@ fn print_past(rt: &impl Print, cells: &[i64], pads: usize) {
     }
 }
 
-// What the reader that is asked gives for a slice.
-fn ask(bytes: &[u8], reader: Reader) -> Reading
-    ensures { SoundReading (reading_says result) }
-{
-    match reader {
-        Reader::File => gridfile::read(bytes),
-        Reader::Packed => packed::read_packed(bytes),
+fn print_answer(rt: &impl Print, answer: Result<Grid, Declined>) {
+    match answer {
+        Ok(read) => {
+            let pads = read.pads();
+            print_grid(rt, read.height, read.width, pads);
+            print_past(rt, &read.cells, pads.len());
+        }
+        Err(declined) => print_refusal(rt, declined),
     }
-}
-
-fn print_answer(rt: &impl Print, bytes: &[u8], reader: Reader) {
-    let reading = ask(bytes, reader);
-    if reading.number != 0 {
-        print_refusal(rt, reading.number, reading.line, reading.field);
-        return;
-    }
-    let cells = reading.cells;
-    let pads = reading.height * reading.width;
-    print_grid(rt, reading.height, reading.width, &cells[..pads]);
-    print_past(rt, &cells, pads);
 }
 
 // The first case of an input and what comes after it; none where the input stops short.
@@ -69,11 +50,13 @@ fn split_case(input: &[u8]) -> Option<(&[u8], &[u8])>
     rest.split_at_checked(usize::from(u16::from_be_bytes(*long)))
 }
 
-// Every case of the input, in order.
-pub fn run_all(rt: &impl Print, input: &[u8], reader: Reader) {
+// Every case of the input, in order, by a reader.
+pub fn run_all<F: Fn(&[u8]) -> Result<Grid, Declined>>(rt: &impl Print, input: &[u8], read: F)
+    requires { F.IsAlwaysCallable read }
+{
     let mut rest = input;
     while let Some((case, after)) = split_case(rest) {
-        print_answer(rt, case, reader);
+        print_answer(rt, read(case));
         rest = after;
     }
 }

@@ -10,7 +10,7 @@ ghost use Rattle.rules.specs.Record.{record_lines};
 use grid::Edge;
 
 // The bytes of a record: the field of 2H-1 by 2W-1 places.
-fn record_length(height: usize, width: usize) -> usize
+pub fn record_length(height: usize, width: usize) -> usize
     requires { (is_size height ≡ true) × (is_size width ≡ true) }
     ensures { result ≡ record_length height width }
 {

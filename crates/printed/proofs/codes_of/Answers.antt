@@ -1,41 +1,29 @@
 -- `printed::codes_of` meets its contract. The loop's invariant: the codes are those of the layout's first i bytes. Assumes nothing.
 use Rattle.printed.proofs.CodedLaws.{row_inside, first_small, none_added, line_taken, no_line_taken, all_added}
-use Rattle.rules.specs.Places.{few_places}
-use Rattle.model.specs.RefusalLaws.{size_of_test}
+use Rattle.model.specs.Records.{record_length}
 use mathlib.Core.Path.{refl, sym, ◌∙◌}
 use native.Mathlib.Omega.{arith}
 use Rattle.printed.proofs.codes_of.Goals as goal
 use Rattle.printed.proofs.codes_of.Goals.{in-Some, in_default}
 
-pub overflow_mul-places : goal.overflow_mul-places
-overflow_mul-places c = omega (arith, (size_of_test _ c.requires.0).1)
-
-pub overflow_sub-places : goal.overflow_sub-places
-overflow_sub-places c = omega (arith, (size_of_test _ c.requires.0).0)
-
-pub overflow_mul-places-2 : goal.overflow_mul-places-2
-overflow_mul-places-2 c = omega (arith, (size_of_test _ c.requires.1).1)
-
-pub overflow_sub-places-2 : goal.overflow_sub-places-2
-overflow_sub-places-2 c = omega (arith, (size_of_test _ c.requires.1).0)
-
-pub overflow_mul-places-3 : goal.overflow_mul-places-3
-overflow_mul-places-3 c = omega (arith, few_places _ _ (size_of_test _ c.requires.0).1 (size_of_test _ c.requires.1).1)
-
 pub loop-i-init : goal.loop-i-init
 loop-i-init c = none_added _ _ c.requires.0 c.requires.1 c.args.layout.now refl
 
 pub line_at-requires : goal.line_at-requires
-line_at-requires c = (c.requires.1, row_inside _ _ c.requires.0 c.requires.1 c.args.layout.now _ c.loop-i-test.true)
+unfolding record_length
+line_at-requires c = (c.requires.1, row_inside _ _ c.requires.0 c.requires.1 c.args.layout.now _ (rw c.record_length-i-end.ensures at c.loop-i-test.true))
 
 pub add_line-requires : goal.add_line-requires
-add_line-requires c = (first_small _ _ c.requires.0 c.requires.1 _ _ c.loop-i-test.true c.in-Some.ensures, c.loop-i.invariant.are)
+unfolding record_length
+add_line-requires c = (first_small _ _ c.requires.0 c.requires.1 _ _ (rw c.record_length-i-end.ensures at c.loop-i-test.true) c.in-Some.ensures, c.loop-i.invariant.are)
 
 pub loop-i-preserved : goal.loop-i-preserved
+unfolding record_length
 loop-i-preserved c = elim c.match-line_at.branch [
-  | in-Some w ↦ rw w.codes-is (line_taken _ _ c.requires.0 c.requires.1 _ _ c.loop-i-test.true c.loop-i.invariant w.in-Some.ensures w.add_line.ensures)
-  | in_default w ↦ rw w.codes-is (no_line_taken _ _ c.requires.0 c.requires.1 _ _ c.loop-i-test.true c.loop-i.invariant (sym w.in_default.is ∙ c.line_at.ensures))
+  | in-Some w ↦ rw w.codes-is (line_taken _ _ c.requires.0 c.requires.1 _ _ (rw c.record_length-i-end.ensures at c.loop-i-test.true) c.loop-i.invariant w.in-Some.ensures w.add_line.ensures)
+  | in_default w ↦ rw w.codes-is (no_line_taken _ _ c.requires.0 c.requires.1 _ _ (rw c.record_length-i-end.ensures at c.loop-i-test.true) c.loop-i.invariant (sym w.in_default.is ∙ c.line_at.ensures))
 ]
 
 pub returns : goal.returns
-returns c = all_added _ _ c.requires.0 c.requires.1 _ c.loop-i.i (omega arith) c.loop-i.invariant
+unfolding record_length
+returns c = all_added _ _ c.requires.0 c.requires.1 _ c.loop-i.i (omega (arith, c.record_length-i-end.ensures)) c.loop-i.invariant
