@@ -8,7 +8,7 @@ ghost use Rattle.std.specs.Prelude.{IfSome, ◌<◌, length};
 ghost use Rattle.reading.specs.ReadingLaws.{SoundReading};
 ghost use Rattle.gridfile.specs.Answers.{reading_says};
 
-use gridfile::Reading;
+use gridfile::{Declined, Grid};
 
 // Which reader is asked: that of grid files, or that of packed decimal.
 #[derive(Clone, Copy)]
@@ -18,16 +18,18 @@ pub enum Reader {
 }
 
 // The line of a refused slice. What cannot be written is passed over, here as below.
-fn print_refusal(rt: &impl Print, number: u8, line: usize, field: usize) {
-    let text = printed::refusal_line(number, line as u64, field as u64);
-    let _ = rt.write_all(&text.bytes[..text.length]);
+fn print_refusal(rt: &impl Print, declined: Declined) {
+    let number = declined.fault.number();
+    let line = printed::refusal_line(number, declined.line as u64, declined.field as u64);
+    let _ = rt.write_all(line.as_bytes());
 }
 
-// The grid of an accepted slice, as it is written back.
+// The grid of an accepted slice, as it is written back; nothing where it cannot be.
 fn print_grid(rt: &impl Print, height: usize, width: usize, cells: &[i64]) {
     let mut text = [0; gridfile::LONGEST_TEXT];
-    let writing = gridfile::write(height, width, cells, &mut text);
-    let _ = rt.write_all(&text[..writing.length]);
+    if let Ok(length) = gridfile::write(height, width, cells, &mut text) {
+        let _ = rt.write_all(&text[..length]);
+    }
 }
 
 // A line for each cell past the pads that is not blank.
@@ -40,7 +42,7 @@ fn print_past(rt: &impl Print, cells: &[i64], pads: usize) {
 }
 
 // What the reader that is asked gives for a slice.
-fn ask(bytes: &[u8], reader: Reader) -> Reading
+fn ask(bytes: &[u8], reader: Reader) -> Result<Grid, Declined>
     ensures { SoundReading (reading_says result) }
 {
     match reader {
@@ -50,15 +52,14 @@ fn ask(bytes: &[u8], reader: Reader) -> Reading
 }
 
 fn print_answer(rt: &impl Print, bytes: &[u8], reader: Reader) {
-    let reading = ask(bytes, reader);
-    if reading.number != 0 {
-        print_refusal(rt, reading.number, reading.line, reading.field);
-        return;
+    match ask(bytes, reader) {
+        Ok(grid) => {
+            let pads = grid.height * grid.width;
+            print_grid(rt, grid.height, grid.width, &grid.cells[..pads]);
+            print_past(rt, &grid.cells, pads);
+        }
+        Err(declined) => print_refusal(rt, declined),
     }
-    let cells = reading.cells;
-    let pads = reading.height * reading.width;
-    print_grid(rt, reading.height, reading.width, &cells[..pads]);
-    print_past(rt, &cells, pads);
 }
 
 // The first case of an input and what comes after it; none where the input stops short.

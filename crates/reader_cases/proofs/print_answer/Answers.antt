@@ -5,10 +5,7 @@ use native.Mathlib.Omega.{arith}
 use Rattle.reader_cases.proofs.print_answer.Goals as goal
 
 pub overflow_mul-pads : goal.overflow_mul-pads
-overflow_mul-pads g c = omega arith
-
-pub slice_bounds-cells-end : goal.slice_bounds-cells-end
-slice_bounds-cells-end g c = omega arith
+overflow_mul-pads g c = record { fits = omega (arith, c.in-Ok.ensures.pads_in_cells) }
 
 pub slice_bounds-print_grid-end : goal.slice_bounds-print_grid-end
-slice_bounds-print_grid-end g c = sym (length-take-le _ _ (omega arith))
+slice_bounds-print_grid-end g c = sym (length-take-le _ _ (omega (arith, c.in-Ok.ensures.pads_in_cells, c.in-Ok.ensures.cell_count)))
