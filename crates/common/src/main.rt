@@ -11,8 +11,7 @@ use std::os::fd::AsRawFd;
 
 // The line of row k. What cannot be written is passed over, here as below.
 fn print_row(rt: &impl Print, table: &[u8], width: usize, rows: usize, k: usize) {
-    let text = tabling::row(table, width, rows, k);
-    let _ = rt.write_all(&text.bytes[..text.length]);
+    let _ = rt.write_all(tabling::row(table, width, rows, k).as_bytes());
 }
 
 // The lines of the rows, in order.
@@ -28,8 +27,10 @@ fn print_table(rt: &impl Print, file: &[u8], buffer: &mut [u8], table: &mut [u8]
     requires { (length file.now ≤ 4096) × (length buffer.old ≡ routes_room) × (961 ≤ length table.old) }
 {
     let head = tabling::head(file, buffer, table);
-    let _ = rt.write_all(&head.bytes[..head.length]);
-    print_rows(rt, table, head.width, head.rows);
+    let _ = rt.write_all(listing::head_line(head.map(|heading| heading.found)).as_bytes());
+    if let Ok(heading) = head {
+        print_rows(rt, table, heading.width, heading.rows);
+    }
 }
 
 fn main(rt: HostRuntime) {

@@ -2,7 +2,7 @@
 -- text (`limit_prints`, `no_limit_prints`). The program hands over the first 4,096 bytes of standard input, an argument that is longer than its
 -- buffer as none, and lends 3,936,256 bytes. It rests on listing's Whole.antt and on what is a limit (the model's LimitLaws.antt).
 use Rattle.std.specs.Prelude.{if◌then◌else◌}
-use Rattle.std.specs.Prelude.{ℕ, ◌≡◌, Bool, List, [], length, take}
+use Rattle.std.specs.Prelude.{ℕ, ◌≡◌, Bool, List, [], length, take, Result}
 use Rattle.std.proofs.Math.Path.{refl, sym}
 use Rattle.std.proofs.Common.{◌∙◌, arith}
 use Rattle.std.proofs.Math.Bool.{true, false}
@@ -11,9 +11,9 @@ use borrow.Author.Tests.{leb-false}
 use Rattle.model.specs.Printed.{handed_over}
 use Rattle.model.specs.RoutesTo.{boards, no_limit, is_limit, limit_of, limit_line, routes_to_room, routes_to_text}
 use Rattle.model.proofs.LimitLaws.{too_long}
-use Rattle.printed.specs.declared.LayoutLine.{LayoutLine}
+use Rattle.gridfile.specs.declared.Declined.{Declined}
 use Rattle.listing.specs.declared.Heading.{Heading}
-use Rattle.listing.specs.Listing.{Headed, Lined}
+use Rattle.listing.specs.Listing.{line_text, height_of, width_of, layouts_of, Headed}
 use Rattle.listing.specs.Whole.{all_bytes, list_whole}
 
 nothing : limit_of [] ≡ no_limit
@@ -31,8 +31,8 @@ module _ (argument input : List ℕ) where
       go false h = nothing ∙ sym (too_long argument (omega (arith, leb-false (length argument) 4096 h)))
 
   -- a limit: the head and the lines
-  module _ (limit : ℕ) (given : limit_of (handed_over argument) ≡ boards limit) (buffer : List ℕ) (r : Heading) (buffer' : List ℕ)
-      (headed : Headed limit (take 4096 input) buffer r buffer') (line : ℕ → LayoutLine) (lined : (k : ℕ) → Lined buffer' r.height r.width r.layouts k (line k)) where
+  module _ (limit : ℕ) (given : limit_of (handed_over argument) ≡ boards limit) (buffer : List ℕ) (r : Result Heading Declined) (buffer' : List ℕ)
+      (headed : Headed limit (take 4096 input) buffer r buffer') (line : ℕ → List ℕ) (lined : (k : ℕ) → line k ≡ line_text (height_of r) (width_of r) (layouts_of r) k buffer') where
     pub limit_prints : length buffer ≡ routes_to_room → all_bytes limit (take 4096 input) buffer r buffer' headed line lined ≡ routes_to_text argument input
     unfolding routes_to_text
     limit_prints room = rw (sym same_limit ∙ given, routes_to_text) (list_whole limit input buffer r buffer' headed line lined routes_to_room room)

@@ -4,12 +4,14 @@
 // specs/HeadAgain.antt). And how the limit is read from an argument. specs/Whole.antt says what a program prints with these.
 #![tactic(auto)]
 
-ghost use Rattle.std.specs.Prelude.{◌≡◌};
+ghost use Rattle.std.specs.Prelude.{◌≡◌, ◌↔◌, IsTrue};
 ghost use Rattle.model.specs.RoutesTo.{limit_of, limit_line};
-ghost use Rattle.listing.specs.Listing.{Headed};
+ghost use Rattle.listing.specs.Listing.{outcome_of, Headed};
 ghost use Rattle.growing.specs.Limits.{says, first_limit, next_limit};
 
+use gridfile::Declined;
 use listing::Heading;
+use tally::Stop;
 
 const ZERO: u8 = 48;
 
@@ -20,9 +22,6 @@ const MOST_DIGITS: usize = 20;
 const FIRST_LIMIT: u64 = 1000000;
 
 const TIMES: u64 = 4;
-
-// The outcome of a run that stopped at its limit.
-const SPENT: u8 = 1;
 
 // The limit of visited boards that a text says, in 1 to 20 digits.
 pub fn limit_of(text: &[u8]) -> Option<u64>
@@ -65,29 +64,39 @@ fn next_limit(reached: u64, limit: u64) -> u64
 
 // Says how far a run has come. What cannot be written is passed over.
 fn print_progress(progress: &impl Print, visited: u64, layouts: u64) {
-    let text = printed::progress_line(visited, layouts);
-    let _ = progress.write_all(&text.bytes[..text.length]);
+    let _ = progress.write_all(printed::progress_line(visited, layouts).as_bytes());
 }
 
 // One run, of which it is said how far it has come; nothing is said of a refused file.
-fn run(progress: &impl Print, file: &[u8], limit: u64, buffer: &mut [u8]) -> Heading
+fn run(progress: &impl Print, file: &[u8], limit: u64, buffer: &mut [u8]) -> Result<Heading, Declined>
     ensures { Headed limit file.now buffer.old result buffer.new }
 {
     let head = listing::head(file, limit, buffer);
-    if head.number == 0 {
-        print_progress(progress, head.visited, head.layouts as u64);
+    if let Ok(heading) = head {
+        let tally = heading.found.tally;
+        print_progress(progress, tally.visited, tally.layouts as u64);
     }
     head
 }
 
+// Whether a run stopped at its limit.
+fn is_spent(head: Result<Heading, Declined>) -> bool
+    ensures { IsTrue result ↔ (outcome_of head ≡ 1) }
+{
+    match head {
+        Ok(heading) => heading.found.outcome == Err(Stop::Spent),
+        Err(_) => false,
+    }
+}
+
 // Reads the file, searches its grid into the buffer with growing limits, and gives the head of the text. It ends with a run that is not spent, since
 // a higher limit changes nothing then, or with the limit that is asked for.
-pub fn head(progress: &impl Print, file: &[u8], limit: u64, buffer: &mut [u8]) -> Heading
+pub fn head(progress: &impl Print, file: &[u8], limit: u64, buffer: &mut [u8]) -> Result<Heading, Declined>
     ensures { Headed limit file.now buffer.old result buffer.new }
 {
     let mut reached = first_limit(limit);
     let mut head = run(progress, file, reached, buffer);
-    while head.outcome == SPENT && reached < limit {
+    while is_spent(head) && reached < limit {
         reached = next_limit(reached, limit);
         head = run(progress, file, reached, buffer);
     }

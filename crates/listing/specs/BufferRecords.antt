@@ -15,7 +15,7 @@ use Rattle.model.specs.HasRecord.{HasRecord, what_a_record_has, record_is_there}
 use Rattle.model.proofs.HasRecord.{that_part, this_record, record_here}
 use Rattle.model.specs.Runs.{concat}
 use Rattle.model.specs.Printed.{layout_line, layout_lines}
-use Rattle.printed.specs.Written.{Written, layout_text}
+use Rattle.printed.specs.Written.{layout_text}
 use Rattle.listing.specs.Listing.{line_text}
 
 -- ## The line of record k
@@ -48,11 +48,11 @@ module _ (height width count k : ℕ) (buffer : List ℕ) where
       go true h = what_a_record_has _ _ _ _ _ h
       go false h = absurd (e (rw h refl))
 
-  -- and an array that holds the line of this part holds that of record k
-  pub line_written : {part : List ℕ} → part ≡ record_at height width count k buffer → HasRecord height width count k (length buffer) → {bytes : List ℕ} {long : ℕ}
-      → Written 299 (layout_text height width (k + 1) part) bytes long → Written 299 (line_text height width count k buffer) bytes long
+  -- and the line of this part is that of record k
+  pub line_written : {part : List ℕ} → part ≡ record_at height width count k buffer → HasRecord height width count k (length buffer)
+      → layout_text height width (k + 1) part ≡ line_text height width count k buffer
   unfolding layout_text
-  line_written e t written = rw (that_line t) (rw (t.tall, t.wide, e) at written)
+  line_written e t = rw (that_line t, e, t.tall, t.wide) refl
 
 -- ## Records one after the other
 

@@ -2,7 +2,7 @@
 -- limit into the buffer as it was at first (`headed_again`). And a run that is not spent has the head and the buffer of any higher limit
 -- (`headed_last`). Both rest on what a second run keeps of the first (runs' TwoRuns.antt).
 use Prim.Native.Nat.{ℕ, zero, suc, ◌*◌, ◌≤◌}
-use Rattle.std.specs.Prelude.{◌≡◌, List, [], ◌++◌, take, drop}
+use Rattle.std.specs.Prelude.{◌≡◌, List, [], ◌++◌, take, drop, Result}
 use Rattle.std.proofs.Math.Path.{refl}
 use Rattle.std.proofs.Common.{ap, ◌∙◌, arith, length-append, length-drop, drop-drop}
 use Rattle.std.proofs.Math.ListN.{length}
@@ -19,7 +19,8 @@ use Rattle.runs.specs.TwoRuns.{Continued, continued}
 use Rattle.promises.specs.HeldRecords.{records_long}
 use Rattle.reading.specs.ReadingLaws.{SoundReading, read_sound}
 use Rattle.listing.specs.declared.Heading.{Heading}
-use Rattle.listing.specs.Listing.{grid_found, reading_found, reading_head, put_records, Headed}
+use Rattle.gridfile.specs.declared.Declined.{Declined}
+use Rattle.listing.specs.Listing.{grid_found, reading_found, reading_head, put_records, outcome_of, Headed}
 
 -- ## Records put into a buffer
 
@@ -71,11 +72,11 @@ module _ (limit limit' : ℕ) (higher : limit ≤ limit') (room : ℕ) (reading 
 
 -- ## Heads
 
-module _ (limit : ℕ) (file buffer : List ℕ) (r : Heading) (buffer' : List ℕ) (headed : Headed limit file buffer r buffer') where
+module _ (limit : ℕ) (file buffer : List ℕ) (r : Result Heading Declined) (buffer' : List ℕ) (headed : Headed limit file buffer r buffer') where
   pub same_room : length buffer' ≡ length buffer
   same_room = ap length headed.after ∙ put_length _ buffer (found_fits (read file) (read_sound file) buffer limit)
 
-  pub headed_again : (limit' : ℕ) → limit ≤ limit' → (r' : Heading) (buffer'' : List ℕ) → Headed limit' file buffer' r' buffer'' → Headed limit' file buffer r' buffer''
+  pub headed_again : (limit' : ℕ) → limit ≤ limit' → (r' : Result Heading Declined) (buffer'' : List ℕ) → Headed limit' file buffer' r' buffer'' → Headed limit' file buffer r' buffer''
   headed_again limit' higher r' buffer'' again = let begins = found_begins limit limit' higher (length buffer) (read file) in record {
     text = rw same_room at again.text;
     number = again.number;
@@ -87,7 +88,7 @@ module _ (limit : ℕ) (file buffer : List ℕ) (r : Heading) (buffer' : List �
     after = again.after ∙ rw (same_room, headed.after, begins.parted) (put_again (reading_found limit (length buffer) (read file)).records begins.rest buffer);
   }
 
-  pub headed_last : (limit' : ℕ) → limit ≤ limit' → (r.outcome ≡ 1 → ⊥) → Headed limit' file buffer r buffer'
+  pub headed_last : (limit' : ℕ) → limit ≤ limit' → (outcome_of r ≡ 1 → ⊥) → Headed limit' file buffer r buffer'
   headed_last limit' higher ended = let (found, head) = found_last limit limit' higher (length buffer) (read file) (λ spent. ended (headed.outcome ∙ spent)) in record {
     text = rw head headed.text;
     number = headed.number;

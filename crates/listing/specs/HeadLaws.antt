@@ -1,23 +1,37 @@
 -- The head of the text, from what the reader and the search answer: `refused_head` for a refused file, `accepted_head` for an accepted one.
 -- They rest on the laws of the reader and on the contract of `solve`.
 use Prim.Native.Nat.{ℕ, zero, suc, ◌*◌}
-use Rattle.std.specs.Prelude.{◌≡◌, Bool, true, false, List, [], ◌∷◌, take, ℤ}
+use Rattle.std.specs.Prelude.{◌≡◌, Bool, true, false, List, [], ◌∷◌, take, ℤ, Result, Ok, Err}
 use Rattle.std.proofs.Math.Path.{refl, sym, ap}
-use Rattle.std.proofs.Common.{◌∙◌}
+use Rattle.std.proofs.Common.{◌∙◌, arith}
 use Rattle.model.specs.Refusals.{grid_refusal}
 use Rattle.model.specs.RefusalLaws.{accepted_is_not_refused}
 use Rattle.model.specs.Runs as runs
 use Rattle.model.specs.GridFile.{Reading, Standing, read, read_from, start, accepted, declined, refusal, is_complete, after}
 use Rattle.model.specs.Printed.{summary_line}
 use Rattle.model.specs.Routes.{found_within}
-use Rattle.printed.specs.Written.{Written}
-use Rattle.reading.specs.ReadingLaws.{read_sound}
-use Rattle.solver.specs.declared.Solved.{Solved}
-use Rattle.solver.specs.Answers.{Solves, answer_says, run_of}
+use Rattle.reading.specs.ReadingLaws.{SoundReading, read_sound}
+use Rattle.grid.specs.declared.Refusal.{Refusal}
+use Rattle.grid.specs.declared.Refusal.TheVariants.{Size, CellCount, Cell}
+use Rattle.grid.specs.Answers.{number_of}
+use Rattle.gridfile.specs.declared.Grid.{Grid}
+use Rattle.gridfile.specs.declared.Declined.{Declined}
+use Rattle.gridfile.specs.declared.Fault.{Fault}
+use Rattle.gridfile.specs.declared.Fault.TheVariants.{StrayByte, EleventhDigit, LargeCode, FieldCount, BadSize, FileEnd, ByteAfterDigit, LeadingZero, HalfByte}
+use Rattle.gridfile.specs.Fields.{fault_number}
+use Rattle.gridfile.specs.Answers.{reading_says}
+use Rattle.tally.specs.declared.Solved.{Solved}
+use Rattle.tally.specs.Answers.{answer_says}
+use Rattle.solver.specs.Answers.{Solves, run_of}
 use Rattle.listing.specs.declared.Heading.{Heading}
-use Rattle.listing.specs.Listing.{grid_found, reading_found, reading_head, put_records, Refused, Headed}
+use Rattle.listing.specs.Listing.{grid_found, reading_found, reading_head, put_records, Headed}
 
 -- ## A refused file
+
+some_number : (refusal : Refusal) → number_of refusal ≡ 0 → ⊥
+some_number Size is = omega arith
+some_number CellCount is = omega arith
+some_number (Cell index) is = omega arith
 
 -- a declined grid is 0 by 0
 pub declined_sizes : (s : Standing) (bytes : List ℕ) → ((read_from s bytes).number ≡ 0 → ⊥) → ((read_from s bytes).height ≡ 0) × ((read_from s bytes).width ≡ 0)
@@ -34,56 +48,63 @@ declined_sizes s (byte ∷ bytes) n = go (refusal s byte) refl (declined_sizes (
     go zero h rest = rw (h, read_from) (rest (rw (h, read_from) at n))
     go (suc m) h rest = rw (h, read_from) (refl, refl)
 
-module _ (file : List ℕ) (reading : Reading) (same : reading ≡ read file) where
-  refused_sizes : (reading.number ≡ 0 → ⊥) → (reading.height ≡ 0) × (reading.width ≡ 0)
-  unfolding read
-  refused_sizes n = rw same (declined_sizes start file (rw same at n))
+pub some_fault : (fault : Fault) → fault_number fault ≡ 0 → ⊥
+some_fault StrayByte is = omega arith
+some_fault EleventhDigit is = omega arith
+some_fault LargeCode is = omega arith
+some_fault FieldCount is = omega arith
+some_fault BadSize is = omega arith
+some_fault FileEnd is = omega arith
+some_fault ByteAfterDigit is = omega arith
+some_fault LeadingZero is = omega arith
+some_fault HalfByte is = omega arith
 
-  module _ (limit : ℕ) (buffer : List ℕ) (refuses : reading.number ≡ 0 → ⊥) (r : Heading) (refused : Refused reading.number reading.line reading.field r) where
-    pub refused_head : Headed limit file buffer r buffer
+module _ (file : List ℕ) where
+  module _ (limit : ℕ) (buffer : List ℕ) (declined : Declined) (same : reading_says (Err declined) ≡ read file) where
+    pub refused_head : Headed limit file buffer (Err declined) buffer
     unfolding reading_head reading_found put_records runs.concat
-    refused_head = go reading.number refl
+    refused_head = go (fault_number declined.fault) refl
       where
-        go : (m : ℕ) → reading.number ≡ m → Headed limit file buffer r buffer
-        go zero e = absurd (refuses e)
+        go : (m : ℕ) → fault_number declined.fault ≡ m → Headed limit file buffer (Err declined) buffer
+        go zero e = absurd (some_fault declined.fault e)
         go (suc m) e = record {
-          text = rw (← same, e) (rw e at refused.text);
-          number = rw (← same) refused.its_number;
-          height = rw (← same) (refused.height ∙ sym (refused_sizes refuses).0);
-          width = rw (← same) (refused.width ∙ sym (refused_sizes refuses).1);
-          outcome = rw (← same, e) refused.outcome;
-          layouts = rw (← same, e) refused.layouts;
-          visited = rw (← same, e) refused.visited;
+          text = rw (← same, e) refl;
+          number = rw (← same) refl;
+          height = rw (← same) refl;
+          width = rw (← same) refl;
+          outcome = rw (← same, e) refl;
+          layouts = rw (← same, e) refl;
+          visited = rw (← same, e) refl;
           after = rw (← same, e) refl;
         }
 
   -- ## An accepted file
 
-  module _ (limit : ℕ) (buffer : List ℕ) (accepts : reading.number ≡ 0) (found : Solved) (buffer' : List ℕ)
-      (solves : Solves reading.height reading.width (take (reading.height * reading.width) reading.cells) limit buffer found buffer') where
+  module _ (limit : ℕ) (buffer : List ℕ) (grid : Grid) (same : reading_says (Ok grid) ≡ read file) where
     abbrev cells : List ℤ
-    cells = take (reading.height * reading.width) reading.cells
+    cells = take (grid.height * grid.width) grid.cells
 
     abbrev run : runs.Run
-    run = run_of reading.height reading.width cells limit buffer
+    run = run_of grid.height grid.width cells limit buffer
 
-    not_refused : (grid_refusal reading.height reading.width cells).0 ≡ 0
-    not_refused = ap (λ (x : ℕ × ℕ). x.0) (accepted_is_not_refused reading.height reading.width cells (rw same ((read_sound file).in_range (rw same at accepts))))
+    not_refused : (grid_refusal grid.height grid.width cells).0 ≡ 0
+    not_refused = let sound : SoundReading (reading_says (Ok grid)) = rw same (read_sound file) in
+        ap (λ (x : ℕ × ℕ). x.0) (accepted_is_not_refused grid.height grid.width cells (sound.in_range refl))
 
-    says : answer_says found buffer' ≡ runs.solved run buffer
-    says = solves.of_run not_refused
+    -- the grid of an accepted file is not declined
+    pub never_declined : (refusal : Refusal) (buffer' : List ℕ) → Solves grid.height grid.width cells limit buffer (Err refusal) buffer' → ⊥
+    never_declined refusal buffer' solves = some_number refusal (ap (λ (s : runs.Solved). s.number) (solves.of_run not_refused))
 
-    pub accepted_head : (bytes : List ℕ) (long : ℕ) → Written 67 (summary_line found.layouts found.visited found.fewest found.outcome) bytes long
-        → Headed limit file buffer (record
-        { bytes = bytes; length = long; number = 0; height = reading.height; width = reading.width; outcome = found.outcome; layouts = found.layouts; visited = found.visited }) buffer'
+    pub accepted_head : (found : Solved) (buffer' : List ℕ) → Solves grid.height grid.width cells limit buffer (Ok found) buffer'
+        → Headed limit file buffer (Ok (record { height = grid.height; width = grid.width; found = found })) buffer'
     unfolding reading_head reading_found put_records grid_found found_within
-    accepted_head bytes long written = record {
-      text = rw (← same, accepts) (rw (ap (λ (s : runs.Solved). s.layouts) says, ap (λ (s : runs.Solved). s.visited) says, ap (λ (s : runs.Solved). s.fewest_lines) says, ap (λ (s : runs.Solved). s.outcome) says) at written);
-      number = rw (← same) (sym accepts);
+    accepted_head found buffer' solves = let told : answer_says (Ok found) buffer' ≡ runs.solved run buffer = solves.of_run not_refused in record {
+      text = rw (← same) (rw (ap (λ (s : runs.Solved). s.layouts) told, ap (λ (s : runs.Solved). s.visited) told, ap (λ (s : runs.Solved). s.fewest_lines) told, ap (λ (s : runs.Solved). s.outcome) told) refl);
+      number = rw (← same) refl;
       height = rw (← same) refl;
       width = rw (← same) refl;
-      outcome = rw (← same, accepts) (ap (λ (s : runs.Solved). s.outcome) says);
-      layouts = rw (← same, accepts) (ap (λ (s : runs.Solved). s.layouts) says);
-      visited = rw (← same, accepts) (ap (λ (s : runs.Solved). s.visited) says);
-      after = rw (← same, accepts) (ap (λ (s : runs.Solved). s.buffer) says);
+      outcome = rw (← same) (ap (λ (s : runs.Solved). s.outcome) told);
+      layouts = rw (← same) (ap (λ (s : runs.Solved). s.layouts) told);
+      visited = rw (← same) (ap (λ (s : runs.Solved). s.visited) told);
+      after = rw (← same) (ap (λ (s : runs.Solved). s.buffer) told);
     }

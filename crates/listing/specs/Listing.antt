@@ -2,14 +2,16 @@
 -- line of layout k of the buffer that the search left. It rests on the model's Printed.antt and Routes.antt; Whole.antt shows that the parts
 -- together are the model's text.
 use Rattle.std.specs.Prelude.{if◌then◌else◌}
-use Rattle.std.specs.Prelude.{ℕ, zero, suc, ◌+◌, ◌*◌, ◌≡◌, List, [], ◌++◌, length, take, drop}
+use Rattle.std.specs.Prelude.{ℕ, zero, suc, ◌+◌, ◌*◌, ◌≡◌, List, [], ◌++◌, length, take, drop, Result, Ok, Err}
 use Rattle.model.specs.Runs.{no_fewest, concat}
 use Rattle.model.specs.Records.{has_record, record_at}
 use Rattle.model.specs.GridFile.{Reading, read}
 use Rattle.model.specs.Printed.{Found, summary_line, refusal_line, layout_line, reading_text}
 use Rattle.model.specs.Routes.{found_within, text_within}
-use Rattle.printed.specs.Written.{Written}
-use Rattle.printed.specs.declared.LayoutLine.{LayoutLine}
+use Rattle.gridfile.specs.declared.Declined.{Declined}
+use Rattle.gridfile.specs.Fields.{fault_number}
+use Rattle.tally.specs.declared.Solved.{Solved}
+use Rattle.tally.specs.Outcomes.{outcome_number}
 use Rattle.listing.specs.declared.Heading.{Heading}
 
 -- ## What is found and printed
@@ -50,29 +52,53 @@ line_text height width layouts k buffer =
     then layout_line height width (k + 1) (record_at height width layouts k buffer)
     else []
 
--- ## The contracts
+-- ## What `head` answers
 
--- the head for a refused file
-pub record Refused (number line field : ℕ) (r : Heading) : Type 0 where
-  pub text : Written 67 (refusal_line number line field) r.bytes r.length
-  pub its_number : r.number ≡ number
-  pub height : r.height ≡ 0
-  pub width : r.width ≡ 0
-  pub outcome : r.outcome ≡ 0
-  pub layouts : r.layouts ≡ 0
-  pub visited : r.visited ≡ 0
+-- the file's number, 0 where it is accepted
+abbrev pub number_of : Result Heading Declined → ℕ
+number_of (Ok heading) = 0
+number_of (Err declined) = fault_number declined.fault
 
--- HEAD: the head of the text; the file's number, H and W (0 where it is refused); what was found; and every byte of the buffer
-pub record Headed (limit : ℕ) (file buffer : List ℕ) (r : Heading) (buffer' : List ℕ) : Type 0 where
-  pub text : Written 67 (reading_head limit (length buffer) (read file)) r.bytes r.length
-  pub number : r.number ≡ (read file).number
-  pub height : r.height ≡ (read file).height
-  pub width : r.width ≡ (read file).width
-  pub outcome : r.outcome ≡ (reading_found limit (length buffer) (read file)).outcome
-  pub layouts : r.layouts ≡ (reading_found limit (length buffer) (read file)).layouts
-  pub visited : r.visited ≡ (reading_found limit (length buffer) (read file)).visited
+-- H and W, 0 where the file is refused
+abbrev pub height_of : Result Heading Declined → ℕ
+height_of (Ok heading) = heading.height
+height_of (Err declined) = 0
+
+abbrev pub width_of : Result Heading Declined → ℕ
+width_of (Ok heading) = heading.width
+width_of (Err declined) = 0
+
+-- what was found, nothing where the file is refused
+abbrev pub outcome_of : Result Heading Declined → ℕ
+outcome_of (Ok heading) = outcome_number heading.found.outcome
+outcome_of (Err declined) = 0
+
+abbrev pub layouts_of : Result Heading Declined → ℕ
+layouts_of (Ok heading) = heading.found.tally.layouts
+layouts_of (Err declined) = 0
+
+abbrev pub visited_of : Result Heading Declined → ℕ
+visited_of (Ok heading) = heading.found.tally.visited
+visited_of (Err declined) = 0
+
+-- the line of the head
+abbrev pub head_text : Result Solved Declined → List ℕ
+head_text (Ok found) = summary_line found.tally.layouts found.tally.visited found.tally.fewest (outcome_number found.outcome)
+head_text (Err declined) = refusal_line (fault_number declined.fault) declined.line declined.field
+
+abbrev pub text_of : Result Heading Declined → List ℕ
+text_of (Ok heading) = head_text (Ok heading.found)
+text_of (Err declined) = head_text (Err declined)
+
+-- ## The contract
+
+-- HEAD: the line of the head; the file's number, H and W (0 where it is refused); what was found; and every byte of the buffer
+pub record Headed (limit : ℕ) (file buffer : List ℕ) (r : Result Heading Declined) (buffer' : List ℕ) : Type 0 where
+  pub text : text_of r ≡ reading_head limit (length buffer) (read file)
+  pub number : number_of r ≡ (read file).number
+  pub height : height_of r ≡ (read file).height
+  pub width : width_of r ≡ (read file).width
+  pub outcome : outcome_of r ≡ (reading_found limit (length buffer) (read file)).outcome
+  pub layouts : layouts_of r ≡ (reading_found limit (length buffer) (read file)).layouts
+  pub visited : visited_of r ≡ (reading_found limit (length buffer) (read file)).visited
   pub after : buffer' ≡ put_records (reading_found limit (length buffer) (read file)).records buffer
-
--- LINE: the line of layout k
-abbrev pub Lined : List ℕ → ℕ → ℕ → ℕ → ℕ → LayoutLine → Type 0
-Lined buffer height width layouts k r = Written 299 (line_text height width layouts k buffer) r.bytes r.length

@@ -2,7 +2,7 @@
 -- and every file (`whole_file`); and for the first 4,096 bytes of any standard input (`list_whole`), which is what the programs `routes` and
 -- `routes_to` print. It rests on the contracts of `head` and `line` (Listing.antt), on BufferRecords.antt, and on the laws of the reader.
 use Prim.Native.Nat.{ℕ, zero, suc, ◌+◌, ◌*◌}
-use Rattle.std.specs.Prelude.{◌≡◌, true, length, take}
+use Rattle.std.specs.Prelude.{◌≡◌, true, length, take, Result}
 use Rattle.std.proofs.Math.Path.{refl, ap}
 use Rattle.std.proofs.Common.{sym, ◌∙◌, arith}
 use mathlib.Core.List.{List, [], ◌++◌, append-nil, Memᴰ}
@@ -12,19 +12,18 @@ use Rattle.model.specs.RefusalLaws.{test_of_size}
 use Rattle.model.specs.GridFile.{Reading, read}
 use Rattle.model.specs.Printed.{Found, layout_lines, found_text, reading_text, printed}
 use Rattle.model.specs.Routes.{found_within, text_within, list_text}
-use Rattle.printed.specs.Written.{text_of_bytes}
 use Rattle.reading.specs.ReadingLaws.{SoundReading, read_sound}
 use Rattle.reading.specs.LongFiles.{first_bytes_suffice}
 use Rattle.promises.specs.HeldRecords.{records_long}
-use Rattle.printed.specs.declared.LayoutLine.{LayoutLine}
+use Rattle.gridfile.specs.declared.Declined.{Declined}
 use Rattle.listing.specs.declared.Heading.{Heading}
-use Rattle.listing.specs.Listing.{grid_found, reading_found, file_text, reading_head, put_records, Headed, Lined}
+use Rattle.listing.specs.Listing.{grid_found, reading_found, file_text, reading_head, put_records, line_text, height_of, width_of, layouts_of, text_of, Headed}
 use Rattle.listing.specs.BufferRecords.{lines_from, lines_there}
 
--- the bytes of so many lines from layout k on, each up to its length
-unfoldable pub line_bytes : (ℕ → LayoutLine) → ℕ → ℕ → List ℕ
+-- the bytes of so many lines from layout k on
+unfoldable pub line_bytes : (ℕ → List ℕ) → ℕ → ℕ → List ℕ
 line_bytes line zero k = []
-line_bytes line (suc more) k = take (line k).length (line k).bytes ++ line_bytes line more (k + 1)
+line_bytes line (suc more) k = line k ++ line_bytes line more (k + 1)
 
 -- what head and lines say of a reading
 module _ (limit : ℕ) (reading : Reading) (sound : SoundReading reading) (buffer : List ℕ) where
@@ -59,21 +58,21 @@ module _ (limit : ℕ) (reading : Reading) (sound : SoundReading reading) (buffe
       go (suc n) e = rw e (append-nil _)
 
 -- THE WHOLE TEXT, over the contracts alone: what `head` answers, and what `line` answers for each layout
-module _ (limit : ℕ) (file buffer : List ℕ) (r : Heading) (buffer' : List ℕ) (headed : Headed limit file buffer r buffer')
-    (line : ℕ → LayoutLine) (lined : (k : ℕ) → Lined buffer' r.height r.width r.layouts k (line k)) where
+module _ (limit : ℕ) (file buffer : List ℕ) (r : Result Heading Declined) (buffer' : List ℕ) (headed : Headed limit file buffer r buffer')
+    (line : ℕ → List ℕ) (lined : (k : ℕ) → line k ≡ line_text (height_of r) (width_of r) (layouts_of r) k buffer') where
   -- the bytes of the head, and after them the bytes of the lines of the layouts 0, 1, .. in this order
   unfoldable pub all_bytes : List ℕ
-  all_bytes = take r.length r.bytes ++ line_bytes line r.layouts 0
+  all_bytes = text_of r ++ line_bytes line (layouts_of r) 0
 
-  same_lines : (more k : ℕ) → line_bytes line more k ≡ lines_from r.height r.width r.layouts buffer' more k
+  same_lines : (more k : ℕ) → line_bytes line more k ≡ lines_from (height_of r) (width_of r) (layouts_of r) buffer' more k
   unfolding line_bytes lines_from
   same_lines zero k = refl
-  same_lines (suc more) k = rw (text_of_bytes (lined k), same_lines more (k + 1)) refl
+  same_lines (suc more) k = rw (lined k, same_lines more (k + 1)) refl
 
   -- for every file, every limit and every buffer
   pub whole : all_bytes ≡ file_text limit (length buffer) file
   unfolding all_bytes file_text
-  whole = rw (same_lines r.layouts 0, text_of_bytes headed.text, headed.height, headed.width, headed.layouts, headed.after) (reading_whole limit (read file) (read_sound file) buffer)
+  whole = rw (same_lines (layouts_of r) 0, headed.text, headed.height, headed.width, headed.layouts, headed.after) (reading_whole limit (read file) (read_sound file) buffer)
 
   -- for a buffer of so many bytes: what is printed for a file, however long
   pub whole_file : (room : ℕ) → length buffer ≡ room → all_bytes ≡ list_text limit room file
@@ -82,8 +81,8 @@ module _ (limit : ℕ) (file buffer : List ℕ) (r : Heading) (buffer' : List �
 
 -- WHAT A PROGRAM PRINTS, for every standard input, that hands over its first 4,096 bytes and lends so many: `routes` with its limit and its room,
 -- `routes_to` with its own
-module _ (limit : ℕ) (input buffer : List ℕ) (r : Heading) (buffer' : List ℕ) (headed : Headed limit (take 4096 input) buffer r buffer')
-    (line : ℕ → LayoutLine) (lined : (k : ℕ) → Lined buffer' r.height r.width r.layouts k (line k)) where
+module _ (limit : ℕ) (input buffer : List ℕ) (r : Result Heading Declined) (buffer' : List ℕ) (headed : Headed limit (take 4096 input) buffer r buffer')
+    (line : ℕ → List ℕ) (lined : (k : ℕ) → line k ≡ line_text (height_of r) (width_of r) (layouts_of r) k buffer') where
   pub list_whole : (room : ℕ) → length buffer ≡ room → all_bytes limit (take 4096 input) buffer r buffer' headed line lined ≡ list_text limit room input
   unfolding file_text list_text printed
   list_whole room same = whole limit (take 4096 input) buffer r buffer' headed line lined ∙ ap (λ (n : ℕ). file_text limit n (take 4096 input)) same

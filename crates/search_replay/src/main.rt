@@ -5,6 +5,7 @@
 
 use std::os::fd::AsRawFd;
 use stream::{byte_at, cells_at, later, number_at, replay_all, taken_bytes};
+use tally::{Solved, Tally, outcome_number};
 
 // No stream is longer.
 const LONGEST: usize = 65536;
@@ -14,6 +15,12 @@ const LARGEST_ROOM: usize = 61504;
 
 // The byte that fills the room before a run.
 const FILL: u8 = 7;
+
+// What is found in a declined grid.
+const NOTHING: Solved = Solved {
+    outcome: Ok(()),
+    tally: Tally::EMPTY,
+};
 
 // One run: the grid's number, outcome, layouts, visited, fewest, and the checksum of the whole room.
 fn print_run(
@@ -26,11 +33,13 @@ fn print_run(
     room: &mut [u8],
 ) {
     room.fill(FILL);
-    let solved = solver::solve(height, width, cells, limit, room);
-    let outcome = solved.outcome;
-    let layouts = solved.layouts;
-    let visited = solved.visited;
-    let fewest = solved.fewest;
+    let found = solver::solve(height, width, cells, limit, room).unwrap_or(NOTHING);
+    let outcome = outcome_number(found.outcome);
+    let Tally {
+        visited,
+        layouts,
+        fewest,
+    } = found.tally;
     let sum = taken_bytes(1, room);
     let _ = println!(rt; "{grid},{outcome},{layouts},{visited},{fewest},{sum}");
 }

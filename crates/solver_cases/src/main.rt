@@ -6,7 +6,8 @@
 
 ghost use Rattle.std.specs.Prelude.{◌≤◌, length};
 
-use solver::Solved;
+use grid::Refusal;
+use tally::{Solved, Tally, outcome_number};
 
 fn sum(bytes: &[u8]) -> u64
     requires { length bytes.now ≤ 40 }
@@ -14,16 +15,23 @@ fn sum(bytes: &[u8]) -> u64
     bytes.iter().map(|byte| u64::from(*byte)).sum()
 }
 
-// A line; what cannot be written is passed over.
-fn show(rt: &impl Print, r: Solved, total: u64) {
-    let Solved {
-        number,
-        index,
-        outcome,
-        layouts,
+// A line: the refusal's number and index, 0 for an accepted grid, and what was found, nothing in a declined one. What cannot be written is
+// passed over.
+fn show(rt: &impl Print, answer: Result<Solved, Refusal>, total: u64) {
+    let (number, index) = match answer {
+        Ok(_) => (0, 0),
+        Err(refusal) => (refusal.number(), refusal.index()),
+    };
+    let Solved { outcome, tally } = answer.unwrap_or(Solved {
+        outcome: Ok(()),
+        tally: Tally::EMPTY,
+    });
+    let outcome = outcome_number(outcome);
+    let Tally {
         visited,
+        layouts,
         fewest,
-    } = r;
+    } = tally;
     let _ = println!(rt; "{number},{index},{outcome},{layouts},{visited},{fewest},{total}");
 }
 

@@ -3,7 +3,7 @@
 -- (specs/Tabling.antt), on TableRows.antt, on the model's CommonLaws.antt, on promises' TableLaws.antt (the table's bytes) and on the laws of the
 -- reader. What is proved of the definitions in specs/Whole.antt.
 use Prim.Native.Nat.{ℕ, zero, suc, ◌+◌, ◌*◌, ◌≤◌}
-use Rattle.std.specs.Prelude.{◌≡◌, Bool, List, ◌++◌, map, length, take, drop, ℤ}
+use Rattle.std.specs.Prelude.{◌≡◌, Bool, List, ◌++◌, map, length, take, drop, ℤ, Result}
 use Rattle.std.proofs.Math.Path.{refl, ap}
 use Rattle.std.proofs.Common.{sym, ◌∙◌, append-nil, arith, eqb-true}
 use Rattle.std.proofs.Math.Bool.{true, false}
@@ -23,12 +23,11 @@ use Rattle.model.specs.Common.{common_table, common}
 use Rattle.model.specs.CommonLaws.{stopped_list, complete_list}
 use Rattle.model.specs.CommonText.{row_lines, table_lines, common_found_text, common_text}
 use Rattle.promises.specs.TableLaws.{table_length, table_bytes_small}
-use Rattle.printed.specs.Written.{text_of_bytes}
 use Rattle.reading.specs.ReadingLaws.{SoundReading, read_sound}
 use Rattle.reading.specs.LongFiles.{first_bytes_suffice}
+use Rattle.gridfile.specs.declared.Declined.{Declined}
 use Rattle.tabling.specs.declared.Heading.{Heading}
-use Rattle.tabling.specs.declared.RowLine.{RowLine}
-use Rattle.tabling.specs.Tabling.{rows_printed, common_head, reading_head, Headed, Lined}
+use Rattle.tabling.specs.Tabling.{rows_printed, common_head, reading_head, row_text, text_of, width_of, rows_of, Headed}
 use Rattle.tabling.specs.TableRows.{rows_from, small_digits}
 use Rattle.tabling.specs.Whole.{head_text, grid_text, row_bytes, all_bytes}
 use Rattle.tabling.proofs.TableRows.{all_rows}
@@ -83,16 +82,16 @@ module _ (buffer table : List ℕ) (room : length buffer ≡ routes_room) (long 
 -- ## The whole text, over the contracts alone
 
 -- what `head` answers, and what `row` answers for each row
-module _ (file buffer table : List ℕ) (r : Heading) (buffer' table' : List ℕ) (headed : Headed file buffer table r buffer' table')
-    (row : ℕ → RowLine) (lined : (k : ℕ) → Lined table' r.width r.rows k (row k)) where
-  same_rows : (more k : ℕ) → row_bytes row more k ≡ rows_from r.width r.rows table' more k
+module _ (file buffer table : List ℕ) (r : Result Heading Declined) (buffer' table' : List ℕ) (headed : Headed file buffer table r buffer' table')
+    (row : ℕ → List ℕ) (lined : (k : ℕ) → row k ≡ row_text (width_of r) (rows_of r) k table') where
+  same_rows : (more k : ℕ) → row_bytes row more k ≡ rows_from (width_of r) (rows_of r) table' more k
   unfolding row_bytes rows_from
   same_rows zero k = refl
-  same_rows (suc more) k = rw (text_of_bytes (lined k), same_rows more (k + 1)) refl
+  same_rows (suc more) k = rw (lined k, same_rows more (k + 1)) refl
 
   made_bytes : all_bytes file buffer table r buffer' table' headed row lined ≡ head_text (reading_head (read file) buffer table)
   unfolding all_bytes head_text
-  made_bytes = rw (same_rows r.rows 0, text_of_bytes headed.text, headed.width, headed.rows, headed.table_after) refl
+  made_bytes = rw (same_rows (rows_of r) 0, headed.text, headed.width, headed.rows, headed.table_after) refl
 
   module _ (room : length buffer ≡ routes_room) (long : 961 ≤ length table) where
     -- the text for the grid that was read
@@ -105,8 +104,8 @@ module _ (file buffer table : List ℕ) (r : Heading) (buffer' table' : List ℕ
     whole_file = whole ∙ ap (reading_text grid_text) (sym (first_bytes_suffice file))
 
 -- WHAT `common` PRINTS, for every standard input: it hands over the first 4,096 bytes, and lends 61,504 bytes and 961
-module _ (input buffer table : List ℕ) (r : Heading) (buffer' table' : List ℕ) (headed : Headed (take 4096 input) buffer table r buffer' table')
-    (row : ℕ → RowLine) (lined : (k : ℕ) → Lined table' r.width r.rows k (row k)) where
+module _ (input buffer table : List ℕ) (r : Result Heading Declined) (buffer' table' : List ℕ) (headed : Headed (take 4096 input) buffer table r buffer' table')
+    (row : ℕ → List ℕ) (lined : (k : ℕ) → row k ≡ row_text (width_of r) (rows_of r) k table') where
   pub common_whole : length buffer ≡ routes_room → 961 ≤ length table → all_bytes (take 4096 input) buffer table r buffer' table' headed row lined ≡ common_text input
   unfolding common_text printed
   common_whole = whole (take 4096 input) buffer table r buffer' table' headed row lined

@@ -2,7 +2,7 @@
 -- row k of a table. It rests on the model's Common.antt, Printed.antt and Routes.antt; Whole.antt shows that the parts together are the
 -- model's text.
 use Rattle.std.specs.Prelude.{if◌then◌else◌}
-use Rattle.std.specs.Prelude.{ℕ, zero, suc, ◌*◌, ◌/◌, ◌%◌, ◌≡◌, Bool, ◌&&◌, List, [], ◌++◌, map, eqb, ltb, length, take, drop}
+use Rattle.std.specs.Prelude.{ℕ, zero, suc, ◌*◌, ◌/◌, ◌%◌, ◌≡◌, Bool, ◌&&◌, List, [], ◌++◌, map, eqb, ltb, length, take, drop, Result, Ok, Err}
 use Rattle.rules.specs.Grid.{field_side}
 use Rattle.model.specs.Bounds.{is_size}
 use Rattle.model.specs.Text.{line_end}
@@ -11,9 +11,14 @@ use Rattle.model.specs.GridFile.{Reading, read}
 use Rattle.model.specs.Printed.{summary_line, refusal_line}
 use Rattle.model.specs.Routes.{routes_limit}
 use Rattle.model.specs.Common.{Common, common}
-use Rattle.printed.specs.Written.{Written}
+use Rattle.gridfile.specs.declared.Declined.{Declined}
+use Rattle.tally.specs.declared.Tally.{Tally}
+use Rattle.tally.specs.declared.Solved.{Solved}
+use Rattle.tally.specs.Empty.{empty}
+use Rattle.copper.specs.declared.NoTable.{NoTable}
+use Rattle.copper.specs.declared.NoTable.TheVariants.{Grid, Short, Incomplete}
+use Rattle.listing.specs.Listing as listing
 use Rattle.tabling.specs.declared.Heading.{Heading}
-use Rattle.tabling.specs.declared.RowLine.{RowLine}
 
 -- ## The head
 
@@ -65,27 +70,40 @@ row_text width rows k table =
     then map table_digit (take (field_side width) (drop (k * field_side width) table)) ++ line_end
     else []
 
--- ## The contracts
+-- ## What `head` answers
 
--- the head for a refused file
-pub record Refused (number line field : ℕ) (r : Heading) : Type 0 where
-  pub text : Written 67 (refusal_line number line field) r.bytes r.length
-  pub width : r.width ≡ 0
-  pub rows : r.rows ≡ 0
+-- what was found, with a table and without one; nothing where nothing was searched
+abbrev pub found_in : Result Tally NoTable → Solved
+found_in (Ok tally) = record { outcome = Ok tt; tally = tally }
+found_in (Err (Grid refusal)) = record { outcome = Ok tt; tally = empty }
+found_in (Err Short) = record { outcome = Ok tt; tally = empty }
+found_in (Err (Incomplete found)) = found
 
--- how many rows are printed, case by case
-pub record RowsPrinted (number height r : ℕ) : Type 0 where
-  pub complete : number ≡ 0 → r ≡ field_side height
-  pub other : (number ≡ 0 → ⊥) → r ≡ 0
+-- how many rows are printed: those of the field where there is a table
+abbrev pub rows_in : Result Tally NoTable → ℕ → ℕ
+rows_in (Ok tally) height = field_side height
+rows_in (Err none) height = 0
 
--- HEAD: the head of the text, W and the rows that are printed, and every byte of the answer buffer and of the table
-pub record Headed (file buffer table : List ℕ) (r : Heading) (buffer' table' : List ℕ) : Type 0 where
-  pub text : Written 67 (reading_head (read file) buffer table).text r.bytes r.length
-  pub width : r.width ≡ (reading_head (read file) buffer table).width
-  pub rows : r.rows ≡ (reading_head (read file) buffer table).rows
+-- the line of the head, as `listing` has it
+abbrev pub text_of : Result Heading Declined → List ℕ
+text_of (Ok heading) = listing.head_text (Ok heading.found)
+text_of (Err declined) = listing.head_text (Err declined)
+
+-- W and the rows, none where the file is refused
+abbrev pub width_of : Result Heading Declined → ℕ
+width_of (Ok heading) = heading.width
+width_of (Err declined) = 0
+
+abbrev pub rows_of : Result Heading Declined → ℕ
+rows_of (Ok heading) = heading.rows
+rows_of (Err declined) = 0
+
+-- ## The contract
+
+-- HEAD: the line of the head, W and the rows that are printed, and every byte of the answer buffer and of the table
+pub record Headed (file buffer table : List ℕ) (r : Result Heading Declined) (buffer' table' : List ℕ) : Type 0 where
+  pub text : text_of r ≡ (reading_head (read file) buffer table).text
+  pub width : width_of r ≡ (reading_head (read file) buffer table).width
+  pub rows : rows_of r ≡ (reading_head (read file) buffer table).rows
   pub buffer_after : buffer' ≡ (reading_head (read file) buffer table).buffer
   pub table_after : table' ≡ (reading_head (read file) buffer table).table
-
--- ROW: the line of row k
-abbrev pub Lined : List ℕ → ℕ → ℕ → ℕ → RowLine → Type 0
-Lined table width rows k r = Written 32 (row_text width rows k table) r.bytes r.length

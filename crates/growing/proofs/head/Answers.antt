@@ -1,6 +1,7 @@
 -- `growing::head` meets its contract. The loop keeps: head and buffer are those of one run with the limit that has been reached, into the buffer as it was
 -- at first. It ends, since the limits grow up to the last. Assumes nothing.
-use mathlib.Core.Path.{sym, subst}
+use mathlib.Core.Path.{sym, subst, ◌∙◌}
+use Rattle.std.proofs.lemmas.Bool.{false≢true}
 use Rattle.listing.specs.HeadAgain.{same_room}
 use Rattle.growing.specs.Limits.{Reached, first_reached}
 use Rattle.growing.proofs.LoopLaws.{kept_first, kept_next, less_left, kept_ended, kept_last}
@@ -25,4 +26,4 @@ pub shape_of-buffer-after-loop-head : goal.shape_of-buffer-after-loop-head
 shape_of-buffer-after-loop-head g c = same_room _ _ _ _ _ (c.loop-head.invariant.is_run _ c.run-head.ensures)
 
 pub returns-after-loop-head : goal.returns-after-loop-head
-returns-after-loop-head g c = kept_ended _ _ _ _ _ _ _ _ c.loop-head.invariant _ c.run-head.ensures c.loop-head-test.false
+returns-after-loop-head g c = kept_ended _ _ _ _ _ _ _ _ c.loop-head.invariant _ c.run-head.ensures (λ spent. false≢true (sym c.loop-head-test.false ∙ c.is_spent.ensures.1 spent))

@@ -1,23 +1,22 @@
--- `listing::head` meets its contract: a refused file gives the refusal's line, an accepted one the summary of the search of its first HW
--- cells. Assumes nothing.
-use mathlib.Core.Path.{sym}
+-- `listing::head` meets its contract: a refused file is told by why and where, and an accepted one with what the search of its first HW cells
+-- finds, which is not declined. Assumes nothing.
 use native.Mathlib.Omega.{arith}
-use lib.Seq.{length-take-le}
+use Rattle.std.proofs.lemmas.Result.{err_from_is_err_and}
 use Rattle.reading.specs.ReadingLaws.{pads_fit, cells_fit}
-use Rattle.listing.specs.HeadLaws.{refused_head, accepted_head}
+use Rattle.listing.specs.HeadLaws.{refused_head, accepted_head, never_declined}
 use Rattle.listing.proofs.head.Goals as goal
 
-pub returns-then-reading-ne0 : goal.returns-then-reading-ne0
-returns-then-reading-ne0 c = refused_head _ _ c.read-reading.ensures _ _ c.if-reading-ne0.true _ c.refused.ensures
+pub returns-in_err-grid : goal.returns-in_err-grid
+returns-in_err-grid c = let p = err_from_is_err_and c.from_residual.result c.from_residual.ensures.1 in rw (p.1, p.2) (refused_head _ _ _ _ c.in_err-grid.ensures)
 
 pub overflow_mul-pads : goal.overflow_mul-pads
-overflow_mul-pads c = record { fits = omega (arith, pads_fit _ _ c.read-reading.ensures) }
+overflow_mul-pads c = record { fits = omega (arith, pads_fit _ _ c.in_ok-grid.ensures) }
 
-pub slice_bounds-cells-end : goal.slice_bounds-cells-end
-slice_bounds-cells-end c = omega (arith, pads_fit _ _ c.read-reading.ensures, cells_fit _ _ c.read-reading.ensures)
+pub shared_ref_as_front-solve : goal.shared_ref_as_front-solve
+shared_ref_as_front-solve c = omega (arith, pads_fit _ _ c.in_ok-grid.ensures, cells_fit _ _ c.in_ok-grid.ensures)
 
-pub slice_bounds-solve-end : goal.slice_bounds-solve-end
-slice_bounds-solve-end c = sym (length-take-le _ _ (omega (arith, pads_fit _ _ c.read-reading.ensures, cells_fit _ _ c.read-reading.ensures)))
+pub unreachable-requires : goal.unreachable-requires
+unreachable-requires c = never_declined _ _ _ _ c.in_ok-grid.ensures _ _ c.in-Err.ensures
 
 pub returns : goal.returns
-returns c = accepted_head _ _ c.read-reading.ensures _ _ c.if-reading-ne0.false _ _ c.solve-found.ensures _ _ c.summary_line-text.ensures
+returns c = accepted_head _ _ _ _ c.in_ok-grid.ensures _ _ c.in-Ok.ensures

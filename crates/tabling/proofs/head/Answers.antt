@@ -1,28 +1,22 @@
--- `tabling::head` meets its contract: a refused file gives the refusal's line, an accepted one the summary of what `common` answers for its
--- first HW cells. Assumes nothing.
-use mathlib.Core.Path.{sym}
+-- `tabling::head` meets its contract: a refused file is told by why and where, and an accepted one with what `common` answers for its first HW
+-- cells. Assumes nothing.
 use native.Mathlib.Omega.{arith}
-use lib.Seq.{length-take-le}
+use Rattle.std.proofs.lemmas.Result.{err_from_is_err_and}
 use Rattle.reading.specs.ReadingLaws.{pads_fit, cells_fit}
 use Rattle.tabling.specs.HeadLaws.{refused_head, tall, accepted_head}
 use Rattle.tabling.proofs.head.Goals as goal
 
-pub returns-then-reading-ne0 : goal.returns-then-reading-ne0
-returns-then-reading-ne0 c = refused_head _ _ c.read-reading.ensures _ _ (λ none. omega (arith, c.if-reading-ne0.true)) _ c.refused.ensures
+pub returns-in_err-grid : goal.returns-in_err-grid
+returns-in_err-grid c = let p = err_from_is_err_and c.from_residual.result c.from_residual.ensures.1 in rw (p.1, p.2) (refused_head _ _ _ _ c.in_err-grid.ensures)
 
 pub overflow_mul-pads : goal.overflow_mul-pads
-overflow_mul-pads c = record { fits = omega (arith, pads_fit _ _ c.read-reading.ensures) }
+overflow_mul-pads c = record { fits = omega (arith, pads_fit _ _ c.in_ok-grid.ensures) }
 
-pub slice_bounds-cells-end : goal.slice_bounds-cells-end
-slice_bounds-cells-end c = omega (arith, pads_fit _ _ c.read-reading.ensures, cells_fit _ _ c.read-reading.ensures)
+pub shared_ref_as_front-cells : goal.shared_ref_as_front-cells
+shared_ref_as_front-cells c = omega (arith, pads_fit _ _ c.in_ok-grid.ensures, cells_fit _ _ c.in_ok-grid.ensures)
 
-pub slice_bounds-common-end : goal.slice_bounds-common-end
-slice_bounds-common-end c = sym (length-take-le _ _ (omega (arith, pads_fit _ _ c.read-reading.ensures, cells_fit _ _ c.read-reading.ensures)))
-
-pub rows_printed-rows-requires : goal.rows_printed-rows-requires
-rows_printed-rows-requires c = tall _ _ c.read-reading.ensures (omega (arith, c.if-reading-ne0.false))
+pub rows_in-requires : goal.rows_in-requires
+rows_in-requires c = tall _ _ c.in_ok-grid.ensures
 
 pub returns : goal.returns
-returns c =
-    accepted_head _ _ c.read-reading.ensures (omega (arith, c.if-reading-ne0.false)) _ _ _ _ _ c.common-found.ensures
-    _ _ c.summary_line-text.ensures _ c.rows_printed-rows.ensures
+returns c = rw (c.found_in.ensures, c.rows_in.ensures) (accepted_head _ _ c.in_ok-grid.ensures _ _ _ _ _ c.common-common.ensures)
