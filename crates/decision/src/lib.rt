@@ -28,7 +28,7 @@ const NONE: u8 = Edge::NONE.0;
 
 // Steps a, b and f: an edge is to have no line. At a slot off the board nothing changes.
 #[cycle(deciding)]
-#[inline(always)]
+#[inline]
 pub fn decide_none(board: &mut Arrays, kind: &[u8; 1024], slot: usize)
     requires { (slot < 1024) × Kinds kind.now × Ready (grid_in kind.now) board.old }
     ensures { NoneAt (grid_in kind.now) board.old slot board.new }
