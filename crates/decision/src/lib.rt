@@ -96,7 +96,7 @@ fn shape(board: &mut Arrays, kind: &[u8; 1024], direction: Direction, v: usize)
     }
 }
 
-// Steps d and e of a line to the right.
+// Steps d and e of a line to the right. Each direction has a function of its own, since slots, corners and bars are others in each.
 #[cycle(deciding)]
 #[inline]
 fn shape_right(board: &mut Arrays, kind: &[u8; 1024], v: usize)
