@@ -28,7 +28,7 @@ const NONE: u8 = Edge::NONE.0;
 
 // Steps a, b and f: an edge is to have no line. At a slot off the board nothing changes.
 #[cycle(deciding)]
-#[inline(always)]
+#[inline]
 pub fn decide_none(board: &mut Arrays, kind: &[u8; 1024], slot: usize)
     requires { (slot < 1024) × Kinds kind.now × Ready (grid_in kind.now) board.old }
     ensures { NoneAt (grid_in kind.now) board.old slot board.new }
@@ -96,7 +96,7 @@ fn shape(board: &mut Arrays, kind: &[u8; 1024], direction: Direction, v: usize)
     }
 }
 
-// Steps d and e of a line to the right.
+// Steps d and e of a line to the right. Each direction has a function of its own, since slots, corners and bars are others in each.
 #[cycle(deciding)]
 #[inline]
 fn shape_right(board: &mut Arrays, kind: &[u8; 1024], v: usize)
