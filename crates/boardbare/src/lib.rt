@@ -191,7 +191,8 @@ fn bytes_equal(left: u8, right: u8, up: u8, down: u8, byte: u8) -> u8
     u8::from(left == byte) + u8::from(right == byte) + u8::from(up == byte) + u8::from(down == byte)
 }
 
-// The side of a pad's first undecided edge: 0 left, 1 right, 2 up, 3 down.
+// The side of a pad's first undecided edge: 0 left, 1 right, 2 up, 3 down. A number and no enum: it is added into a byte of the pad check's
+// table, as `action_code` of boardview's View.antt has it.
 fn undecided_side(left: u8, right: u8, up: u8) -> u8
     ensures { (result ≡ undecided_side left right up) × (result ≤ 3) }
 {
