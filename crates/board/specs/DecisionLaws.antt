@@ -2,7 +2,7 @@
 -- and whether each pad is blank, a clue or a hole, and so does the model's (boardview's SameKinds.antt); the number of undecided edges keeps
 -- it from needing more than the model's bound (boardview's Undecided.antt).
 use Prim.Native.Nat.{ℕ, ◌+◌, ◌*◌}
-use Rattle.std.specs.Prelude.{◌≡◌, refl, true, false, List, [], ◌∷◌, length, ℤ}
+use Rattle.std.specs.Prelude.{◌≡◌, refl, true, false, List, [], ◌∷◌, length, ℤ, Ok, Err}
 use Rattle.std.proofs.Math.Path.{sym, ap}
 use Rattle.std.proofs.Common.{◌∙◌, arith}
 use borrow.Author.Tests.{eq-eqb, ne_eqb}
@@ -13,6 +13,9 @@ use Rattle.model.specs.Bounds.{is_size}
 use Rattle.model.specs.Refusals.{is_cell, first_bad_cell, grid_refusal}
 use Rattle.model.specs.RefusalLaws.{not_refused}
 use Rattle.model.specs.Calls as model
+use Rattle.grid.specs.declared.Refusal.{Refusal}
+use Rattle.grid.specs.declared.Refusal.TheVariants.{Size, CellCount, Cell}
+use Rattle.grid.specs.Answers.{number_of, index_of, refusal_says}
 use Rattle.boardview.specs.declared.Arrays.{Arrays}
 use Rattle.boardview.specs.View.{view, flag_in, grid_in, Decided}
 use Rattle.boardfresh.specs.FreshView.{FreshBoard}
@@ -106,18 +109,23 @@ fresh_held g edges ends kind count log marks new long many = record {
 }
 
 module _ (height width : ℕ) (cells : List ℤ) where
-  pub refused : (number index : ℕ) → (number, index) ≡ grid_refusal height width cells → (number ≡ 0 → ⊥) → {b : Board} → Held b model.blank_board
-      → Says (record { number = number; answer = index; board = b }) (model.new height width cells)
+  pub refused : (refusal : Refusal) → refusal_says (Err refusal) ≡ grid_refusal height width cells → {b : Board} → Held b model.blank_board
+      → Says (record { number = number_of refusal; answer = index_of refusal; board = b }) (model.new height width cells)
   unfolding model.new
-  refused number index is some held = rw (← is, ne_eqb number 0 some, model.new) (record { number = ap (λ (p : ℕ × ℕ). p.0) is; answer = ap (λ (p : ℕ × ℕ). p.1) is; board = held })
+  refused refusal is held = rw (← is, ne_eqb (number_of refusal) 0 (some_number refusal), model.new) (record { number = ap (λ (p : ℕ × ℕ). p.0) is; answer = ap (λ (p : ℕ × ℕ). p.1) is; board = held })
+    where
+      some_number : (r : Refusal) → number_of r ≡ 0 → ⊥
+      some_number Size e = omega arith
+      some_number CellCount e = omega arith
+      some_number (Cell index) e = omega arith
 
-  pub accepted : (number index : ℕ) → (number, index) ≡ grid_refusal height width cells → number ≡ 0 → {b : Board} → Held b (model.fresh_board (grid_of height width cells))
+  pub accepted : refusal_says (Ok tt) ≡ grid_refusal height width cells → {b : Board} → Held b (model.fresh_board (grid_of height width cells))
       → Says (record { number = 0; answer = 0; board = b }) (model.new height width cells)
   unfolding model.new
-  accepted number index is zero_number held = rw (← is, eq-eqb number 0 zero_number, model.new) (record { number = refl; answer = refl; board = held })
+  accepted is held = rw (← is, model.new) (record { number = refl; answer = refl; board = held })
 
-  pub accepted_grid : (number index : ℕ) → (number, index) ≡ grid_refusal height width cells → number ≡ 0 → Accepted height width cells
-  accepted_grid number index is zero_number = not_refused height width cells (ap (λ (p : ℕ × ℕ). p.0) (sym is) ∙ zero_number)
+  pub accepted_grid : refusal_says (Ok tt) ≡ grid_refusal height width cells → Accepted height width cells
+  accepted_grid is = not_refused height width cells (ap (λ (p : ℕ × ℕ). p.0) (sym is))
 
 -- the fresh 2 by 2 blank board
 pub blank_accepted : Accepted 2 2 (blank_cell ∷ blank_cell ∷ blank_cell ∷ blank_cell ∷ [])

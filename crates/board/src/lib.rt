@@ -8,7 +8,7 @@ ghost use Rattle.rules.specs.Grid.{OnBoard, Accepted, grid_of, places};
 ghost use Rattle.rules.specs.Drawing.{num};
 ghost use Rattle.model.specs.Board.{line_or_none};
 ghost use Rattle.model.specs.Calls as model;
-ghost use Rattle.grid.specs.PadsAt.{pads_of, place_of, IfEdge};
+ghost use Rattle.grid.specs.PadsAt.{pads_of, edge_of};
 ghost use Rattle.boardview.specs.View.{flag_in, grid_in, Kinds, Ready, Decided};
 ghost use Rattle.boardview.specs.ShownRecord.{record_shown};
 ghost use Rattle.board.specs.Held.{Held, IsBoard, Says, Shows, declined_with};
@@ -52,29 +52,28 @@ pub struct Shown {
 }
 
 // The pads that a place joins, any numbers; outside the field there are none.
-fn pads_at(kind: &[u8; 1024], y: usize, x: usize) -> Pads
+fn pads_at(kind: &[u8; 1024], y: usize, x: usize) -> Option<Pads>
     requires { Kinds kind.now }
     ensures { result ≡ pads_of (grid_in kind.now).width (model.edge_at (grid_in kind.now) y x) }
 {
     let width = boardparts::width(kind);
     if y >= 2 * boardparts::height(kind) - 1 {
-        return Pads::NoEdge;
+        return None;
     }
     if x >= 2 * width - 1 {
-        return Pads::NoEdge;
+        return None;
     }
     grid::pads_at(width, y, x)
 }
 
-// Decides the edge between two pads of the board; where there is none, nothing changes.
+// Decides the edge between two pads of the board.
 fn decide_pads(arrays: &mut Arrays, kind: &[u8; 1024], pads: Pads, line: bool)
-    requires { IfEdge (place_of pads) (λ e. OnBoard (grid_in kind.now) e) × Kinds kind.now × Ready (grid_in kind.now) arrays.old }
-    ensures { IfEdge (place_of pads) (λ e. Decided (grid_in kind.now) arrays.old e (line_or_none line) arrays.new) }
+    requires { OnBoard (grid_in kind.now) (edge_of pads) × Kinds kind.now × Ready (grid_in kind.now) arrays.old }
+    ensures { Decided (grid_in kind.now) arrays.old (edge_of pads) (line_or_none line) arrays.new }
 {
     match pads {
         Pads::Beside(v, _) => decision::decide(arrays, kind, Direction::Right, v, line),
         Pads::Above(v, _) => decision::decide(arrays, kind, Direction::Down, v, line),
-        Pads::NoEdge => (),
     }
 }
 
@@ -123,8 +122,8 @@ fn blank() -> Board
 
 // The board and the flag after the edge between two pads is decided.
 fn decided(board: Board, pads: Pads, line: bool) -> Answer
-    requires { IsBoard board × IfEdge (place_of pads) (λ e. OnBoard (grid_in board.kind) e) }
-    ensures { (B : model.Board) → Held board B → IfEdge (place_of pads) (λ e. Says result (model.decided B e (line_or_none line))) }
+    requires { IsBoard board × OnBoard (grid_in board.kind) (edge_of pads) }
+    ensures { (B : model.Board) → Held board B → Says result (model.decided B (edge_of pads) (line_or_none line)) }
 {
     let mut after = board;
     decide_pads(&mut after.arrays, &after.kind, pads, line);
@@ -172,18 +171,17 @@ impl Board {
     pub fn new(height: usize, width: usize, cells: &[i64]) -> Answer
         ensures { Says result (model.new height width cells.now) }
     {
-        let refusal = grid::grid_refusal(height, width, cells);
-        if refusal.number != 0 {
-            return Answer {
-                number: refusal.number,
-                answer: refusal.index,
+        match grid::grid_refusal(height, width, cells) {
+            Ok(()) => Answer {
+                number: 0,
+                answer: 0,
+                board: fresh(height, width, cells),
+            },
+            Err(refusal) => Answer {
+                number: refusal.number(),
+                answer: refusal.index(),
                 board: blank(),
-            };
-        }
-        Answer {
-            number: 0,
-            answer: 0,
-            board: fresh(height, width, cells),
+            },
         }
     }
 
@@ -192,15 +190,13 @@ impl Board {
         requires { IsBoard self }
         ensures { (B : model.Board) → Held self B → Says result (model.decide_edge B y x state.0) }
     {
-        let kind = self.kind;
-        let pads = pads_at(&kind, y, x);
-        if !grid::is_edge(pads) {
+        let Some(pads) = pads_at(&self.kind, y, x) else {
             return declined(self, 10);
-        }
-        if state.0 == Edge::LINE.0 {
+        };
+        if state == Edge::LINE {
             return decided(self, pads, true);
         }
-        if state.0 == Edge::NONE.0 {
+        if state == Edge::NONE {
             return decided(self, pads, false);
         }
         declined(self, 11)
@@ -211,16 +207,13 @@ impl Board {
         requires { IsBoard self }
         ensures { (B : model.Board) → Held self B → Says result (model.read_edge B y x) }
     {
-        let kind = self.kind;
-        let edges = self.arrays.edges;
-        let pads = pads_at(&kind, y, x);
-        if !grid::is_edge(pads) {
+        let Some(pads) = pads_at(&self.kind, y, x) else {
             return declined(self, 10);
-        }
-        let slot = boardrecord::slot_of(pads);
+        };
+        let byte = self.arrays.edges[boardrecord::slot_of(pads)];
         Answer {
             number: 0,
-            answer: boardparts::wide(edges[slot]),
+            answer: boardparts::wide(byte),
             board: self,
         }
     }

@@ -3,7 +3,7 @@
 #![tactic(auto)]
 
 ghost use Rattle.std.specs.Prelude.{◌≡◌, true, false, ℕ, ◌+◌, ◌*◌, ◌-◌, ◌/◌, ◌%◌, ◌≤◌, ◌<◌, get_or, set, length, eqb, ltb, pos};
-ghost use Rattle.rules.specs.Grid.{right};
+ghost use Rattle.rules.specs.Grid.{right, second};
 ghost use Rattle.rules.specs.Drawing.{num, on_left};
 ghost use Rattle.model.specs.JoinedEnds.{is_through, unjoinable};
 ghost use Rattle.boardview.specs.View.{logged, slot, beside, corner_bit, pick, stopped, ended, going, end_at, has_bit, grid_in, second_pad, joined, pad_number, code_number, rival, keeps_apart, clue_apart, slot_around, past_around, action_around, Kinds};
@@ -87,6 +87,17 @@ impl Direction {
         match self {
             Direction::Right => 32 + 2 * v,
             Direction::Down => 33 + 2 * v,
+        }
+    }
+
+    // The second pad of the edge from a pad.
+    pub fn second(self, v: usize, width: usize) -> usize
+        requires { (v < 256) × (width ≤ 16) }
+        ensures { result ≡ second width (edge_to self v) }
+    {
+        match self {
+            Direction::Right => v + 1,
+            Direction::Down => v + width,
         }
     }
 }

@@ -1,14 +1,15 @@
-// A decision and the pad check, which call each other over the board's arrays, which are lent: three times the undecided edges, plus one
-// or two in the parts that come to a decision or to a check by themselves, falls. Each function equals the model's decision, check or item (boardview's Decided, Done and NoneAt), on flagged boards too, keeps what
-// is true of the arrays of every board, and logs what it stores, so that undoing the log's entries gives back the arrays.
-// The board's count is the log's length, plus 1024 if the flag is set, plus 2048 if it is set and the decision has ended; an ended decision goes
-// through every part unchanged.
+// A decision and the pad check, which call each other over the board's arrays, which are lent to them. A measure falls: four times the
+// undecided edges, plus up to three in the parts that lead on to decisions and checks. Each function equals the model's decision, check or
+// item (boardview's Decided, Done and NoneAt), on flagged boards too, keeps what is true of the arrays of every board, and logs what it
+// stores, so that undoing the log's entries gives back the arrays.
+// The board's count is the log's length, plus 1024 if the flag is set, plus 2048 if it is set and the decision has ended; an ended
+// decision goes through every part unchanged.
 #![tactic(auto)]
 
 ghost use Rattle.std.specs.Prelude.{◌≡◌, true, ◌+◌, ◌*◌, ◌-◌, ◌≤◌, ◌<◌};
 ghost use Rattle.rules.specs.Grid.{right, down, pads};
 ghost use Rattle.model.specs.PadTests.{on_board};
-ghost use Rattle.model.specs.Board.{line, line_or_none};
+ghost use Rattle.model.specs.Board.{line, line_or_none, shape_items};
 ghost use Rattle.boardparts.specs.Sides.{side_of, edge_to};
 ghost use Rattle.boardview.specs.View.{grid_in, has_bit, slot_on, Kinds, Ready, Decided, Done, NoneAt, detour_at, corner_at, bar_at, check_at};
 
@@ -51,41 +52,23 @@ pub fn decide_none(board: &mut Arrays, kind: &[u8; 1024], slot: usize)
     board.count = boardparts::end(board.count);
 }
 
-// Steps a to f: the edge to the right of pad v is to be a line.
+// Steps a to f: the edge in a direction from pad v is to be a line.
 #[cycle(deciding)]
-pub fn decide_line_right(board: &mut Arrays, kind: &[u8; 1024], v: usize)
-    requires { (on_board (grid_in kind.now) (right v) ≡ true) × (v < 256) × Kinds kind.now × Ready (grid_in kind.now) board.old }
-    ensures { Decided (grid_in kind.now) board.old (right v) line board.new }
+pub fn decide_line(board: &mut Arrays, kind: &[u8; 1024], direction: Direction, v: usize)
+    requires { (on_board (grid_in kind.now) (edge_to direction v) ≡ true) × (v < 256) × Kinds kind.now × Ready (grid_in kind.now) board.old }
+    ensures { Decided (grid_in kind.now) board.old (edge_to direction v) line board.new }
 {
-    let slot = 32 + 2 * v;
+    let slot = direction.slot(v);
     let old = board.edges[slot];
     if old == UNDECIDED {
-        let w = boardparts::width(kind);
-        let q = v + 1;
-        let up_left = 33 + 2 * v - 2 * w;
-        let up_right = 35 + 2 * v - 2 * w;
-        let up = 32 + 2 * v - 2 * w;
-        let left = 33 + 2 * v;
-        let right = 35 + 2 * v;
-        let below = 32 + 2 * v + 2 * w;
-        let right_below = v + w + 1;
-        let left_below = v + w;
+        let q = direction.second(v, boardparts::width(kind));
         let a = boardparts::end_pad(&board.ends, v);
         let b = boardparts::end_pad(&board.ends, q);
         boardparts::begin_line(board, slot, v, q);
         if ENDED <= board.count {
             return;
         }
-        detour(board, kind, up_left, up_right, up);
-        detour(board, kind, up_right, up_left, up);
-        detour(board, kind, up, up_left, up_right);
-        detour(board, kind, left, right, below);
-        detour(board, kind, right, left, below);
-        detour(board, kind, below, left, right);
-        corner(board, kind, Side::Right, right_below, left);
-        corner(board, kind, Side::Left, left_below, right);
-        bar(board, kind, v, BAR_RIGHT, left);
-        bar(board, kind, q, BAR_LEFT, right);
+        shape(board, kind, direction, v);
         check(board, kind, v);
         check(board, kind, q);
         check(board, kind, a);
@@ -100,55 +83,71 @@ pub fn decide_line_right(board: &mut Arrays, kind: &[u8; 1024], v: usize)
     board.count = boardparts::stop(board.count);
 }
 
-// Steps a to f: the edge downward from pad v is to be a line.
+// Steps d and e of a line from pad v: the unit squares on both sides of it, the corners that it may complete, and the barred pads.
 #[cycle(deciding)]
-pub fn decide_line_down(board: &mut Arrays, kind: &[u8; 1024], v: usize)
-    requires { (on_board (grid_in kind.now) (down v) ≡ true) × (v < 256) × Kinds kind.now × Ready (grid_in kind.now) board.old }
-    ensures { Decided (grid_in kind.now) board.old (down v) line board.new }
+#[inline]
+fn shape(board: &mut Arrays, kind: &[u8; 1024], direction: Direction, v: usize)
+    requires { (on_board (grid_in kind.now) (edge_to direction v) ≡ true) × (v < 256) × Kinds kind.now × Ready (grid_in kind.now) board.old }
+    ensures { Done (grid_in kind.now) 1 board.old (shape_items (grid_in kind.now) (edge_to direction v)) board.new }
 {
-    let slot = 33 + 2 * v;
-    let old = board.edges[slot];
-    if old == UNDECIDED {
-        let w = boardparts::width(kind);
-        let q = v + w;
-        let left = 30 + 2 * v;
-        let left_below = 30 + 2 * v + 2 * w;
-        let far_left = 31 + 2 * v;
-        let right = 32 + 2 * v;
-        let right_below = 32 + 2 * v + 2 * w;
-        let far_right = 35 + 2 * v;
-        let pad_left = v + w - 1;
-        let pad_right = v + w + 1;
-        let if_left = boardparts::slot_where(kind, v, CORNER_LEFT, far_left);
-        let if_right = boardparts::slot_where(kind, v, CORNER_RIGHT, far_right);
-        let a = boardparts::end_pad(&board.ends, v);
-        let b = boardparts::end_pad(&board.ends, q);
-        boardparts::begin_line(board, slot, v, q);
-        if ENDED <= board.count {
-            return;
-        }
-        detour(board, kind, left, left_below, far_left);
-        detour(board, kind, left_below, left, far_left);
-        detour(board, kind, if_left, left, left_below);
-        detour(board, kind, right, right_below, far_right);
-        detour(board, kind, right_below, right, far_right);
-        detour(board, kind, if_right, right, right_below);
-        corner(board, kind, Side::Left, pad_left, left);
-        corner(board, kind, Side::Right, pad_right, right);
-        bar(board, kind, v, BAR_LEFT, left);
-        bar(board, kind, v, BAR_RIGHT, right);
-        check(board, kind, v);
-        check(board, kind, q);
-        check(board, kind, a);
-        check(board, kind, b);
-        board.count = boardparts::end(board.count);
-        return;
+    match direction {
+        Direction::Right => shape_right(board, kind, v),
+        Direction::Down => shape_down(board, kind, v),
     }
-    if old == LINE {
-        board.count = boardparts::end(board.count);
-        return;
-    }
-    board.count = boardparts::stop(board.count);
+}
+
+// Steps d and e of a line to the right.
+#[cycle(deciding)]
+#[inline]
+fn shape_right(board: &mut Arrays, kind: &[u8; 1024], v: usize)
+    requires { (on_board (grid_in kind.now) (right v) ≡ true) × (v < 256) × Kinds kind.now × Ready (grid_in kind.now) board.old }
+    ensures { Done (grid_in kind.now) 1 board.old (shape_items (grid_in kind.now) (right v)) board.new }
+{
+    let w = boardparts::width(kind);
+    let up_left = 33 + 2 * v - 2 * w;
+    let up_right = 35 + 2 * v - 2 * w;
+    let up = 32 + 2 * v - 2 * w;
+    let left = 33 + 2 * v;
+    let right = 35 + 2 * v;
+    let below = 32 + 2 * v + 2 * w;
+    detour(board, kind, up_left, up_right, up);
+    detour(board, kind, up_right, up_left, up);
+    detour(board, kind, up, up_left, up_right);
+    detour(board, kind, left, right, below);
+    detour(board, kind, right, left, below);
+    detour(board, kind, below, left, right);
+    corner(board, kind, Side::Right, v + w + 1, left);
+    corner(board, kind, Side::Left, v + w, right);
+    bar(board, kind, v, BAR_RIGHT, left);
+    bar(board, kind, v + 1, BAR_LEFT, right);
+}
+
+// Steps d and e of a line downward.
+#[cycle(deciding)]
+#[inline]
+fn shape_down(board: &mut Arrays, kind: &[u8; 1024], v: usize)
+    requires { (on_board (grid_in kind.now) (down v) ≡ true) × (v < 256) × Kinds kind.now × Ready (grid_in kind.now) board.old }
+    ensures { Done (grid_in kind.now) 1 board.old (shape_items (grid_in kind.now) (down v)) board.new }
+{
+    let w = boardparts::width(kind);
+    let left = 30 + 2 * v;
+    let left_below = 30 + 2 * v + 2 * w;
+    let far_left = 31 + 2 * v;
+    let right = 32 + 2 * v;
+    let right_below = 32 + 2 * v + 2 * w;
+    let far_right = 35 + 2 * v;
+    let if_left = boardparts::slot_where(kind, v, CORNER_LEFT, far_left);
+    let if_right = boardparts::slot_where(kind, v, CORNER_RIGHT, far_right);
+    detour(board, kind, left, left_below, far_left);
+    detour(board, kind, left_below, left, far_left);
+    detour(board, kind, if_left, left, left_below);
+    detour(board, kind, right, right_below, far_right);
+    detour(board, kind, right_below, right, far_right);
+    detour(board, kind, if_right, right, right_below);
+    corner(board, kind, Side::Left, v + w - 1, left);
+    corner(board, kind, Side::Right, v + w + 1, right);
+    bar(board, kind, v, BAR_LEFT, left);
+    bar(board, kind, v, BAR_RIGHT, right);
 }
 
 // Step d, one third of a unit square: if the edge at slot a is a line, those at b and c become none.
@@ -186,9 +185,9 @@ pub fn corner(board: &mut Arrays, kind: &[u8; 1024], side: Side, q: usize, a: us
         return;
     }
     if boardparts::has(kind, q, side.corner()) {
-        decide_line_right(board, kind, side.first_beside(q));
+        decide_line(board, kind, Direction::Right, side.first_beside(q));
         board.count = boardparts::go_on(board.count);
-        decide_line_down(board, kind, q);
+        decide_line(board, kind, Direction::Down, q);
         board.count = boardparts::go_on(board.count);
         return;
     }
@@ -257,10 +256,10 @@ fn check_pad(board: &mut Arrays, kind: &[u8; 1024], v: usize)
     }
     let pad = action / 2 - 16;
     if action % 2 == 0 {
-        decide_line_right(board, kind, pad);
+        decide_line(board, kind, Direction::Right, pad);
         return;
     }
-    decide_line_down(board, kind, pad);
+    decide_line(board, kind, Direction::Down, pad);
 }
 
 // The edge in a direction from a pad becomes a line or none.
@@ -268,12 +267,9 @@ pub fn decide(board: &mut Arrays, kind: &[u8; 1024], direction: Direction, v: us
     requires { (v < 256) × Kinds kind.now × Ready (grid_in kind.now) board.old × (on_board (grid_in kind.now) (edge_to direction v) ≡ true) }
     ensures { Decided (grid_in kind.now) board.old (edge_to direction v) (line_or_none line) board.new }
 {
-    if !line {
-        decide_none(board, kind, direction.slot(v));
+    if line {
+        decide_line(board, kind, direction, v);
         return;
     }
-    match direction {
-        Direction::Right => decide_line_right(board, kind, v),
-        Direction::Down => decide_line_down(board, kind, v),
-    }
+    decide_none(board, kind, direction.slot(v));
 }

@@ -8,14 +8,13 @@ use Rattle.rules.specs.Grid.{Accepted}
 use Rattle.model.specs.GridFile.{Reading, read}
 use Rattle.model.specs.Printed.{reading_text, handed_over}
 use Rattle.model.specs.JudgeText.{codes_fit, record_of_codes, judged_text, judge_text}
-use Rattle.printed.specs.Written.{Written, text_of_bytes}
 use Rattle.reading.specs.ReadingLaws.{SoundReading, read_sound}
 use Rattle.reading.specs.LongFiles.{first_bytes_suffice}
 
 -- for every file, however long, and all codes
-pub whole_file : (file digits : List ℕ) {bytes : List ℕ} {long : ℕ} → Written 67 (judged_text digits (read file)) bytes long → take long bytes ≡ judge_text digits file
+pub whole_file : (file digits : List ℕ) {text : List ℕ} → text ≡ judged_text digits (read file) → text ≡ judge_text digits file
 unfolding judge_text
-whole_file file digits written = text_of_bytes written ∙ ap (judged_text digits) (sym (first_bytes_suffice file))
+whole_file file digits is = is ∙ ap (judged_text digits) (sym (first_bytes_suffice file))
 
 -- ## Codes of another length
 
@@ -38,10 +37,9 @@ too_many digits many reading sound = go reading.number refl
 -- ## The program
 
 -- WHAT `judge` PRINTS, for every argument and every standard input
-pub judge_prints : (argument input : List ℕ) {bytes : List ℕ} {long : ℕ} → Written 67 (judged_text (handed_over argument) (read (take 4096 input))) bytes long
-    → take long bytes ≡ judge_text argument input
+pub judge_prints : (argument input : List ℕ) {text : List ℕ} → text ≡ judged_text (handed_over argument) (read (take 4096 input)) → text ≡ judge_text argument input
 unfolding judge_text handed_over
-judge_prints argument input written = text_of_bytes written ∙ go (leb (length argument) 4096) refl
+judge_prints argument input is = is ∙ go (leb (length argument) 4096) refl
   where
     go : (short : Bool) → leb (length argument) 4096 ≡ short → judged_text (if short then argument else []) (read (take 4096 input)) ≡ judged_text argument (read (take 4096 input))
     go true h = refl

@@ -11,7 +11,6 @@ ghost use Rattle.model.specs.Bounds.{is_size};
 ghost use Rattle.model.specs.GridFile.{read};
 ghost use Rattle.model.specs.JudgeText.{digit_at, code_at, coded, digit_fits, record_of_codes, judged_line, judged_text, codes_fit, coded_bytes, usage_line};
 ghost use Rattle.text.specs.Put.{Put};
-ghost use Rattle.printed.specs.Written.{Written};
 ghost use Rattle.judging.specs.Judging.{judged_says};
 
 use grid::{Edge, Pads};
@@ -150,31 +149,30 @@ fn record_of_codes<'a>(
 
 // The verdict and the lines.
 fn judged_line(said: Judged) -> HeadLine
-    ensures { Written 67 (judged_line (judged_says (Ok said))) result.bytes result.length }
+    ensures { result ≡ judged_line (judged_says (Ok said)) }
 {
-    let mut bytes = [0; 67];
-    let verdict = u64::from(u8::from(said.verdict));
-    let lines = said.lines as u64;
-    let first = text::put_field(&mut bytes, 0, verdict, COMMA);
-    let length = text::put_field(&mut bytes, first, lines, LINE_END);
-    HeadLine { bytes, length }
+    let mut line = HeadLine::new();
+    line.push_field(u64::from(u8::from(said.verdict)), COMMA);
+    line.push_field(said.lines as u64, LINE_END);
+    line
 }
 
 // Reads the file, lays the codes out as a record of its grid, and gives the text: the line of a refused file, or the verdict and the lines.
 pub fn judged(file: &[u8], digits: &[u8]) -> HeadLine
-    ensures { Written 67 (judged_text digits.now (read file.now)) result.bytes result.length }
+    ensures { result ≡ judged_text digits.now (read file.now) }
 {
-    let reading = gridfile::read(file);
-    if reading.number != 0 {
-        return printed::refusal_line(reading.number, reading.line as u64, reading.field as u64);
+    match gridfile::read(file) {
+        Ok(grid) => {
+            let mut room = [0; 961];
+            let record = record_of_codes(&mut room, grid.height, grid.width, digits);
+            judged_line(judging::judge_record(grid.height, grid.width, grid.pads(), record))
+        }
+        Err(declined) => printed::refusal_line(
+            declined.fault.number(),
+            declined.line as u64,
+            declined.field as u64,
+        ),
     }
-    let cells = reading.cells;
-    let height = reading.height;
-    let width = reading.width;
-    let pads = height * width;
-    let mut room = [0; 961];
-    let record = record_of_codes(&mut room, height, width, digits);
-    judged_line(judging::judge_record(height, width, &cells[..pads], record))
 }
 
 // The line that says how the program is called.

@@ -11,8 +11,7 @@ use std::os::fd::AsRawFd;
 fn print_judged(rt: &impl Print, file: &[u8], digits: &[u8])
     requires { (length file.now ≤ 4096) × (length digits.now ≤ 4096) }
 {
-    let text = hearing::judged(file, digits);
-    let _ = rt.write_all(&text.bytes[..text.length]);
+    let _ = rt.write_all(hearing::judged(file, digits).as_bytes());
 }
 
 // Reads standard input, and prints the text for it and the codes.

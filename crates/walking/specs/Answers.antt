@@ -1,23 +1,16 @@
 -- What `walk` answers, as the model says it, and its whole promise in one record. `Walks` is the contract of `walk`; the equation with the model is
 -- its first part, and demands 2 and 3 are its second.
-use Rattle.std.specs.Prelude.{ℕ, ◌≡◌, List, length, ℤ, Result, Ok, Err}
+use Rattle.std.specs.Prelude.{ℕ, ◌≡◌, List, length, ℤ, Result}
 use Rattle.rules.specs.Grid.{grid_of, places}
 use Rattle.model.specs.Refusals.{grid_refusal}
 use Rattle.model.specs.Runs as runs
 use Rattle.model.specs.Walk as model
 use Rattle.grid.specs.declared.Refusal.{Refusal}
-use Rattle.grid.specs.Answers.{number_of, index_of}
 use Rattle.tally.specs.declared.Solved.{Solved}
-use Rattle.tally.specs.Outcomes.{outcome_number}
+use Rattle.tally.specs.Answers.{answer_says}
 use Rattle.tally.specs.declared.Tally.{Tally}
 use Rattle.tally.specs.Counts as counts
 use Rattle.promises.specs.Contract.{Promise}
-
--- the answer and the buffer after it, as the model's result: the tried codes stand in the place of visited boards
-abbrev pub answer_says : Result Solved Refusal → List ℕ → runs.Solved
-answer_says (Ok s) buffer = record
-    { number = 0; index = 0; outcome = outcome_number s.outcome; layouts = s.tally.layouts; visited = s.tally.visited; fewest_lines = s.tally.fewest; buffer = buffer }
-answer_says (Err refusal) buffer = runs.declined_search (number_of refusal) (index_of refusal) buffer
 
 -- the run of the walk with no code tried before
 abbrev pub run_of : ℕ → ℕ → List ℤ → ℕ → List ℕ → runs.Run

@@ -3,4 +3,4 @@ use Rattle.board.specs.DecisionLaws.{decided_says}
 use Rattle.board.proofs.decided.Goals as goal
 
 pub returns : goal.returns
-returns c = λ B held e is. decided_says _ B held e _ _ (c.decide_pads.ensures e is) c.flag_number-answer.ensures
+returns c = λ B held. decided_says _ B held _ _ _ c.decide_pads.ensures c.flag_number-answer.ensures

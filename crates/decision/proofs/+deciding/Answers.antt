@@ -1,16 +1,18 @@
 -- The functions of the cycle meet their contracts: each path through the code does the items that the contract names, and the number falls.
 use mathlib.Core.Path.{refl, ap, sym, ◌∙◌}
 use native.Mathlib.Omega.{arith}
-use Rattle.rules.specs.Grid.{right, down}
 use Rattle.boardparts.specs.Sides.{side_of}
 use Rattle.model.specs.PadTests.{on_board}
 use Rattle.boardview.specs.View.{grid_in, has_bit}
 use Rattle.boardview.specs.Stores.{going_count}
-use Rattle.boardview.specs.Steps.{done_then, done_ended, slot_is_on, detour_off, detour_first, detour_both}
+use Rattle.boardview.specs.Steps.{done_as, done_nothing, done_then, done_ended, slot_is_on, detour_off, detour_first, detour_both}
 use Rattle.boardview.specs.Items.{recount_decided, corner_off, corner_taken, corner_ends, corner_lines, bar_off, bar_none}
 use Rattle.boardview.specs.Check.{check_nothing, check_ends, check_settles}
-use Rattle.boardview.specs.Cycle.{same_on, none_room, none_high, none_first, none_second, none_is_stored, none_returns, none_raised, none_again, line_again, line_raised, line_room, line_first, line_second, line_is_stored, line_returns, line_end, right_up_left, right_up_right, right_up, right_left, right_right, right_below, right_corner, left_corner, right_bar_on, left_bar_on, right_done, down_left, down_left_below, down_if_left, down_right, down_right_below, down_if_right, down_far_left, down_far_right, picked_small, down_right_corner, down_left_corner, down_left_bar_on, down_right_bar_on, down_done, corner_exists, corner_down, corner_line, corner_not_left, small_pad, past_left, past_up, settle_rests, leave_there, settle_leaves, draw_high, draw_right, draw_down, draw_small, settle_draws_right, settle_draws_down, line_stops, apart_begins, apart_ready, apart_fewer, apart_done, apart_takes, apart_skips, past_there}
+use Rattle.boardview.specs.Cycle.{same_on, none_room, none_high, none_first, none_second, none_is_stored, none_returns, none_raised, none_again, right_up_left, right_up_right, right_up, right_left, right_right, right_below, right_corner, left_corner, right_bar_on, left_bar_on, right_done, down_left, down_left_below, down_if_left, down_right, down_right_below, down_if_right, down_far_left, down_far_right, picked_small, down_right_corner, down_left_corner, down_left_bar_on, down_right_bar_on, down_done, corner_exists, corner_down, corner_line, corner_not_left, small_pad, past_left, past_up, settle_rests, leave_there, settle_leaves, draw_high, draw_right, draw_down, draw_small, settle_draws_right, settle_draws_down, apart_begins, apart_ready, apart_fewer, apart_done, apart_takes, apart_skips, past_there}
 use Prim.Native.Nat.{◌+◌, ◌*◌}
+use Rattle.std.proofs.lemmas.List.{append-nil}
+use Rattle.boardparts.specs.Sides.{slot_small}
+use Rattle.decision.proofs.Lines.{again, raised, room, first_in, second_in, first_end, second_end, stops, is_stored, all_done}
 use Rattle.decision.proofs.+deciding.Goals.{check_pad-then-slot-ne0, check_pad-else-slot-ne0}
 use Rattle.decision.proofs.+deciding.Goals as goal
 
@@ -133,8 +135,8 @@ check_pad-overflow_sub-pad t c =
     let width-says = c.width-w.ensures in
     omega (arith, draw_high start.args.kind.now _ start.requires.2 (apart_ready start.args.kind.now _ start.requires.2 start.requires.3 start.args.v start.requires.0 _ (width-says) _ c.end_code-code.ensures _ _ c.loop-side.invariant) start.args.v start.requires.0 _ (width-says) _ c.action-action.ensures.0 c.if-action-lt2.false c.if-action-ge-NONE_THERE.false)
 
-pub check_pad-decide_line_right-requires : goal.check_pad-decide_line_right-requires
-check_pad-decide_line_right-requires t c =
+pub check_pad-decide_line-requires : goal.check_pad-decide_line-requires
+check_pad-decide_line-requires t c =
     let start = c in
     let width-says = c.width-w.ensures in
     let end-code-says = c.end_code-code.ensures in
@@ -150,10 +152,10 @@ check_pad-returns-then-action-eq0 t c =
     let width-says = c.width-w.ensures in
     let end-code-says = c.end_code-code.ensures in
     let loop-inv = c.loop-side.invariant in
-    check_settles (grid_in start.args.kind.now) _ _ start.args.v (omega (arith, small_pad start.args.kind.now _ start.requires.2 start.requires.3 start.args.v start.requires.0)) start.requires.1 (apart_done start.args.kind.now _ start.requires.2 start.requires.3 start.args.v start.requires.0 _ (width-says) _ (end-code-says) _ _ (loop-inv) (λ low. absurd (omega (arith, c.loop-side-test.false)))) c.if-board-ge-ENDED.false _ (settle_draws_right start.args.kind.now _ start.requires.2 (apart_ready start.args.kind.now _ start.requires.2 start.requires.3 start.args.v start.requires.0 _ (width-says) _ (end-code-says) _ _ (loop-inv)) start.args.v start.requires.0 _ (width-says) _ c.action-action.ensures.0 c.if-action-lt2.false c.if-action-ge-NONE_THERE.false _ refl c.if-action-eq0.true _ c.decide_line_right.ensures)
+    check_settles (grid_in start.args.kind.now) _ _ start.args.v (omega (arith, small_pad start.args.kind.now _ start.requires.2 start.requires.3 start.args.v start.requires.0)) start.requires.1 (apart_done start.args.kind.now _ start.requires.2 start.requires.3 start.args.v start.requires.0 _ (width-says) _ (end-code-says) _ _ (loop-inv) (λ low. absurd (omega (arith, c.loop-side-test.false)))) c.if-board-ge-ENDED.false _ (settle_draws_right start.args.kind.now _ start.requires.2 (apart_ready start.args.kind.now _ start.requires.2 start.requires.3 start.args.v start.requires.0 _ (width-says) _ (end-code-says) _ _ (loop-inv)) start.args.v start.requires.0 _ (width-says) _ c.action-action.ensures.0 c.if-action-lt2.false c.if-action-ge-NONE_THERE.false _ refl c.if-action-eq0.true _ c.decide_line.ensures)
 
-pub check_pad-decide_line_down-requires : goal.check_pad-decide_line_down-requires
-check_pad-decide_line_down-requires t c =
+pub check_pad-decide_line-requires-2 : goal.check_pad-decide_line-requires-2
+check_pad-decide_line-requires-2 t c =
     let start = c in
     let width-says = c.width-w.ensures in
     let end-code-says = c.end_code-code.ensures in
@@ -169,7 +171,7 @@ check_pad-returns t c =
     let width-says = c.width-w.ensures in
     let end-code-says = c.end_code-code.ensures in
     let loop-inv = c.loop-side.invariant in
-    check_settles (grid_in start.args.kind.now) _ _ start.args.v (omega (arith, small_pad start.args.kind.now _ start.requires.2 start.requires.3 start.args.v start.requires.0)) start.requires.1 (apart_done start.args.kind.now _ start.requires.2 start.requires.3 start.args.v start.requires.0 _ (width-says) _ (end-code-says) _ _ (loop-inv) (λ low. absurd (omega (arith, c.loop-side-test.false)))) c.if-board-ge-ENDED.false _ (settle_draws_down start.args.kind.now _ start.requires.2 (apart_ready start.args.kind.now _ start.requires.2 start.requires.3 start.args.v start.requires.0 _ (width-says) _ (end-code-says) _ _ (loop-inv)) start.args.v start.requires.0 _ (width-says) _ c.action-action.ensures.0 c.if-action-lt2.false c.if-action-ge-NONE_THERE.false _ refl c.if-action-eq0.false _ c.decide_line_down.ensures)
+    check_settles (grid_in start.args.kind.now) _ _ start.args.v (omega (arith, small_pad start.args.kind.now _ start.requires.2 start.requires.3 start.args.v start.requires.0)) start.requires.1 (apart_done start.args.kind.now _ start.requires.2 start.requires.3 start.args.v start.requires.0 _ (width-says) _ (end-code-says) _ _ (loop-inv) (λ low. absurd (omega (arith, c.loop-side-test.false)))) c.if-board-ge-ENDED.false _ (settle_draws_down start.args.kind.now _ start.requires.2 (apart_ready start.args.kind.now _ start.requires.2 start.requires.3 start.args.v start.requires.0 _ (width-says) _ (end-code-says) _ _ (loop-inv)) start.args.v start.requires.0 _ (width-says) _ c.action-action.ensures.0 c.if-action-lt2.false c.if-action-ge-NONE_THERE.false _ refl c.if-action-eq0.false _ c.decide_line-2.ensures)
 
 pub corner-returns-then-board-ge-ENDED : goal.corner-returns-then-board-ge-ENDED
 corner-returns-then-board-ge-ENDED t c = done_ended (grid_in c.args.kind.now) 1 _ _ c.requires.4 c.if-board-ge-ENDED.true
@@ -192,24 +194,24 @@ corner-first_beside-requires t c =
     let inside = start.requires.2 (slot_is_on (grid_in start.args.kind.now) _ start.requires.4 start.args.a start.requires.0 (omega (arith, c.if-board-a-ne-LINE.false))) in
     corner_not_left start.args.kind.now start.requires.3 start.args.q inside _ (side_of start.args.side) (c.has-2.ensures ∙ ap (has_bit start.args.kind.now start.args.q) c.corner.ensures) c.if-has-2.true
 
-pub corner-decide_line_right-requires : goal.corner-decide_line_right-requires
-corner-decide_line_right-requires t c =
+pub corner-decide_line-requires : goal.corner-decide_line-requires
+corner-decide_line-requires t c =
     let start = c in
     let inside = start.requires.2 (slot_is_on (grid_in start.args.kind.now) _ start.requires.4 start.args.a start.requires.0 (omega (arith, c.if-board-a-ne-LINE.false))) in
     let there = corner_line start.args.kind.now start.requires.3 start.args.q inside _ (side_of start.args.side) (c.has-2.ensures ∙ ap (has_bit start.args.kind.now start.args.q) c.corner.ensures) c.if-has-2.true in
     (omega (arith, start.decreases), (ap (on_board (grid_in start.args.kind.now)) c.first_beside.ensures.0 ∙ there, omega (arith, inside, c.first_beside.ensures.1, start.requires.4.few_pads), start.requires.3, start.requires.4))
 
-pub corner-decide_line_down-requires : goal.corner-decide_line_down-requires
-corner-decide_line_down-requires t c =
+pub corner-decide_line-requires-then-has-2 : goal.corner-decide_line-requires-then-has-2
+corner-decide_line-requires-then-has-2 t c =
     let start = c in
     let if2-left = c.if-board-a-ne-LINE.false in
-    let d = c.decide_line_right.ensures in ((omega (arith, start.decreases, d.fewer)), (corner_down start.args.kind.now start.requires.3 start.args.q (start.requires.2 (slot_is_on (grid_in start.args.kind.now) _ start.requires.4 start.args.a start.requires.0 (omega (arith, if2-left)))) _ (side_of start.args.side) (c.has-2.ensures ∙ ap (has_bit start.args.kind.now start.args.q) c.corner.ensures) c.if-has-2.true, (omega (arith, (start.requires.2 (slot_is_on (grid_in start.args.kind.now) _ start.requires.4 start.args.a start.requires.0 (omega (arith, if2-left)))), start.requires.4.few_pads)), start.requires.3, rw c.go_on-board.ensures (recount_decided d)))
+    let d = c.decide_line.ensures in ((omega (arith, start.decreases, d.fewer)), (corner_down start.args.kind.now start.requires.3 start.args.q (start.requires.2 (slot_is_on (grid_in start.args.kind.now) _ start.requires.4 start.args.a start.requires.0 (omega (arith, if2-left)))) _ (side_of start.args.side) (c.has-2.ensures ∙ ap (has_bit start.args.kind.now start.args.q) c.corner.ensures) c.if-has-2.true, (omega (arith, (start.requires.2 (slot_is_on (grid_in start.args.kind.now) _ start.requires.4 start.args.a start.requires.0 (omega (arith, if2-left)))), start.requires.4.few_pads)), start.requires.3, rw c.go_on-board.ensures (recount_decided d)))
 
 pub corner-returns-then-has-2 : goal.corner-returns-then-has-2
 corner-returns-then-has-2 t c =
     let start = c in
     let if2-left = c.if-board-a-ne-LINE.false in
-    rw c.go_on-board-then-has-2.ensures (corner_lines start.args.kind.now (side_of start.args.side) _ start.requires.4 start.args.q start.args.a start.requires.0 c.if-board-ge-ENDED.false (if2-left) start.requires.3 (omega (arith, (start.requires.2 (slot_is_on (grid_in start.args.kind.now) _ start.requires.4 start.args.a start.requires.0 (omega (arith, if2-left)))), start.requires.4.few_pads)) (sym c.has.ensures ∙ c.if-has.false) (corner_exists start.args.kind.now start.requires.3 start.args.q (start.requires.2 (slot_is_on (grid_in start.args.kind.now) _ start.requires.4 start.args.a start.requires.0 (omega (arith, if2-left)))) _ (side_of start.args.side) (c.has-2.ensures ∙ ap (has_bit start.args.kind.now start.args.q) c.corner.ensures) ∙ c.if-has-2.true) _ _ (rw c.first_beside.ensures.0 at c.decide_line_right.ensures) (rw c.go_on-board.ensures at c.decide_line_down.ensures))
+    rw c.go_on-board-then-has-2.ensures (corner_lines start.args.kind.now (side_of start.args.side) _ start.requires.4 start.args.q start.args.a start.requires.0 c.if-board-ge-ENDED.false (if2-left) start.requires.3 (omega (arith, (start.requires.2 (slot_is_on (grid_in start.args.kind.now) _ start.requires.4 start.args.a start.requires.0 (omega (arith, if2-left)))), start.requires.4.few_pads)) (sym c.has.ensures ∙ c.if-has.false) (corner_exists start.args.kind.now start.requires.3 start.args.q (start.requires.2 (slot_is_on (grid_in start.args.kind.now) _ start.requires.4 start.args.a start.requires.0 (omega (arith, if2-left)))) _ (side_of start.args.side) (c.has-2.ensures ∙ ap (has_bit start.args.kind.now start.args.q) c.corner.ensures) ∙ c.if-has-2.true) _ _ (rw c.first_beside.ensures.0 at c.decide_line.ensures) (rw c.go_on-board.ensures at c.decide_line-then-has-2.ensures))
 
 pub corner-returns : goal.corner-returns
 corner-returns t c =
@@ -217,420 +219,218 @@ corner-returns t c =
     let if2-left = c.if-board-a-ne-LINE.false in
     rw c.stop-board.ensures (corner_ends start.args.kind.now (side_of start.args.side) _ start.requires.4 start.args.q start.args.a start.requires.0 c.if-board-ge-ENDED.false (if2-left) start.requires.3 (omega (arith, (start.requires.2 (slot_is_on (grid_in start.args.kind.now) _ start.requires.4 start.args.a start.requires.0 (omega (arith, if2-left)))), start.requires.4.few_pads)) (sym c.has.ensures ∙ c.if-has.false) (corner_exists start.args.kind.now start.requires.3 start.args.q (start.requires.2 (slot_is_on (grid_in start.args.kind.now) _ start.requires.4 start.args.a start.requires.0 (omega (arith, if2-left)))) _ (side_of start.args.side) (c.has-2.ensures ∙ ap (has_bit start.args.kind.now start.args.q) c.corner.ensures) ∙ c.if-has-2.false))
 
-pub decide_line_down-overflow_mul-slot : goal.decide_line_down-overflow_mul-slot
-decide_line_down-overflow_mul-slot t c = omega (arith, c.requires.1, c.requires.2.largest_width, c.requires.2.least_width)
-
-pub decide_line_down-overflow_add-slot : goal.decide_line_down-overflow_add-slot
-decide_line_down-overflow_add-slot t c = omega (arith, c.requires.1, c.requires.2.largest_width, c.requires.2.least_width)
-
-pub decide_line_down-bounds-board-slot : goal.decide_line_down-bounds-board-slot
-decide_line_down-bounds-board-slot t c = omega (arith, c.requires.1)
-
-pub decide_line_down-overflow_add-q : goal.decide_line_down-overflow_add-q
-decide_line_down-overflow_add-q t c = let start = c in omega (arith, start.requires.1, start.requires.2.largest_width, c.width-w.ensures, start.requires.2.least_width)
-
-pub decide_line_down-overflow_mul-left : goal.decide_line_down-overflow_mul-left
-decide_line_down-overflow_mul-left t c = let start = c in omega (arith, start.requires.1, start.requires.2.largest_width, c.width-w.ensures, start.requires.2.least_width)
-
-pub decide_line_down-overflow_add-left : goal.decide_line_down-overflow_add-left
-decide_line_down-overflow_add-left t c = let start = c in omega (arith, start.requires.1, start.requires.2.largest_width, c.width-w.ensures, start.requires.2.least_width)
-
-pub decide_line_down-overflow_mul-left_below : goal.decide_line_down-overflow_mul-left_below
-decide_line_down-overflow_mul-left_below t c = let start = c in omega (arith, start.requires.1, start.requires.2.largest_width, c.width-w.ensures, start.requires.2.least_width)
-
-pub decide_line_down-overflow_add-left_below : goal.decide_line_down-overflow_add-left_below
-decide_line_down-overflow_add-left_below t c = let start = c in omega (arith, start.requires.1, start.requires.2.largest_width, c.width-w.ensures, start.requires.2.least_width)
-
-pub decide_line_down-overflow_mul-left_below-then-old-eq-UNDECIDED : goal.decide_line_down-overflow_mul-left_below-then-old-eq-UNDECIDED
-decide_line_down-overflow_mul-left_below-then-old-eq-UNDECIDED t c = let start = c in omega (arith, start.requires.1, start.requires.2.largest_width, c.width-w.ensures, start.requires.2.least_width)
-
-pub decide_line_down-overflow_add-left_below-then-old-eq-UNDECIDED : goal.decide_line_down-overflow_add-left_below-then-old-eq-UNDECIDED
-decide_line_down-overflow_add-left_below-then-old-eq-UNDECIDED t c = let start = c in omega (arith, start.requires.1, start.requires.2.largest_width, c.width-w.ensures, start.requires.2.least_width)
-
-pub decide_line_down-overflow_mul-far_left : goal.decide_line_down-overflow_mul-far_left
-decide_line_down-overflow_mul-far_left t c = let start = c in omega (arith, start.requires.1, start.requires.2.largest_width, c.width-w.ensures, start.requires.2.least_width)
-
-pub decide_line_down-overflow_add-far_left : goal.decide_line_down-overflow_add-far_left
-decide_line_down-overflow_add-far_left t c = let start = c in omega (arith, start.requires.1, start.requires.2.largest_width, c.width-w.ensures, start.requires.2.least_width)
-
-pub decide_line_down-overflow_mul-right : goal.decide_line_down-overflow_mul-right
-decide_line_down-overflow_mul-right t c = let start = c in omega (arith, start.requires.1, start.requires.2.largest_width, c.width-w.ensures, start.requires.2.least_width)
-
-pub decide_line_down-overflow_add-right : goal.decide_line_down-overflow_add-right
-decide_line_down-overflow_add-right t c = let start = c in omega (arith, start.requires.1, start.requires.2.largest_width, c.width-w.ensures, start.requires.2.least_width)
-
-pub decide_line_down-overflow_mul-right_below : goal.decide_line_down-overflow_mul-right_below
-decide_line_down-overflow_mul-right_below t c = let start = c in omega (arith, start.requires.1, start.requires.2.largest_width, c.width-w.ensures, start.requires.2.least_width)
-
-pub decide_line_down-overflow_add-right_below : goal.decide_line_down-overflow_add-right_below
-decide_line_down-overflow_add-right_below t c = let start = c in omega (arith, start.requires.1, start.requires.2.largest_width, c.width-w.ensures, start.requires.2.least_width)
-
-pub decide_line_down-overflow_mul-right_below-then-old-eq-UNDECIDED : goal.decide_line_down-overflow_mul-right_below-then-old-eq-UNDECIDED
-decide_line_down-overflow_mul-right_below-then-old-eq-UNDECIDED t c = let start = c in omega (arith, start.requires.1, start.requires.2.largest_width, c.width-w.ensures, start.requires.2.least_width)
-
-pub decide_line_down-overflow_add-right_below-then-old-eq-UNDECIDED : goal.decide_line_down-overflow_add-right_below-then-old-eq-UNDECIDED
-decide_line_down-overflow_add-right_below-then-old-eq-UNDECIDED t c = let start = c in omega (arith, start.requires.1, start.requires.2.largest_width, c.width-w.ensures, start.requires.2.least_width)
-
-pub decide_line_down-overflow_mul-far_right : goal.decide_line_down-overflow_mul-far_right
-decide_line_down-overflow_mul-far_right t c = let start = c in omega (arith, start.requires.1, start.requires.2.largest_width, c.width-w.ensures, start.requires.2.least_width)
-
-pub decide_line_down-overflow_add-far_right : goal.decide_line_down-overflow_add-far_right
-decide_line_down-overflow_add-far_right t c = let start = c in omega (arith, start.requires.1, start.requires.2.largest_width, c.width-w.ensures, start.requires.2.least_width)
-
-pub decide_line_down-overflow_add-pad_left : goal.decide_line_down-overflow_add-pad_left
-decide_line_down-overflow_add-pad_left t c = let start = c in omega (arith, start.requires.1, start.requires.2.largest_width, c.width-w.ensures, start.requires.2.least_width)
-
-pub decide_line_down-overflow_sub-pad_left : goal.decide_line_down-overflow_sub-pad_left
-decide_line_down-overflow_sub-pad_left t c = let start = c in omega (arith, start.requires.1, start.requires.2.largest_width, c.width-w.ensures, start.requires.2.least_width)
-
-pub decide_line_down-overflow_add-pad_right : goal.decide_line_down-overflow_add-pad_right
-decide_line_down-overflow_add-pad_right t c = let start = c in omega (arith, start.requires.1, start.requires.2.largest_width, c.width-w.ensures, start.requires.2.least_width)
-
-pub decide_line_down-overflow_add-pad_right-then-old-eq-UNDECIDED : goal.decide_line_down-overflow_add-pad_right-then-old-eq-UNDECIDED
-decide_line_down-overflow_add-pad_right-then-old-eq-UNDECIDED t c = let start = c in omega (arith, start.requires.1, start.requires.2.largest_width, c.width-w.ensures, start.requires.2.least_width)
-
-pub decide_line_down-slot_where-if_left-requires : goal.decide_line_down-slot_where-if_left-requires
-decide_line_down-slot_where-if_left-requires t c = (omega (arith, c.requires.1))
-
-pub decide_line_down-slot_where-if_right-requires : goal.decide_line_down-slot_where-if_right-requires
-decide_line_down-slot_where-if_right-requires t c = (omega (arith, c.requires.1))
-
-pub decide_line_down-end_pad-a-requires : goal.decide_line_down-end_pad-a-requires
-decide_line_down-end_pad-a-requires t c = let start = c in ((omega (arith, start.requires.1)), start.requires.3.ends_long)
-
-pub decide_line_down-end_pad-b-requires : goal.decide_line_down-end_pad-b-requires
-decide_line_down-end_pad-b-requires t c = let start = c in ((omega (arith, line_second start.args.kind.now _ (down start.args.v) start.requires.2 start.requires.3 start.requires.0 c.if-old-eq-UNDECIDED.true _ (ap (◌+◌ start.args.v) c.width-w.ensures), start.requires.3.few_pads)), start.requires.3.ends_long)
-
-pub decide_line_down-begin_line-requires : goal.decide_line_down-begin_line-requires
-decide_line_down-begin_line-requires t c =
+pub decide_line-begin_line-requires : goal.decide_line-begin_line-requires
+decide_line-begin_line-requires t c =
     let start = c in
-    let if1-taken = c.if-old-eq-UNDECIDED.true in
-    let width-says = c.width-w.ensures in
-    (omega (arith, start.requires.1), omega (arith, start.requires.1), (omega (arith, line_second start.args.kind.now _ (down start.args.v) start.requires.2 start.requires.3 start.requires.0 (if1-taken) _ (ap (◌+◌ start.args.v) (width-says)), start.requires.3.few_pads)), start.requires.3.mode, line_room start.args.kind.now _ (down start.args.v) start.requires.2 start.requires.3 start.requires.0 (if1-taken) _ (ap (◌+◌ start.args.v) (width-says)), start.requires.3.ends_long)
+    (omega (arith, c.slot-slot.ensures, slot_small start.args.direction start.args.v start.requires.1), omega (arith, start.requires.1), omega (arith, second_in start.args.kind.now _ start.args.direction start.args.v start.requires.2 start.requires.3 start.requires.0 _ c.slot-slot.ensures c.if-old-eq-UNDECIDED.true _ c.width.ensures _ c.second-q.ensures, start.requires.3.few_pads), start.requires.3.mode, room start.args.kind.now _ start.args.direction start.args.v start.requires.2 start.requires.3 start.requires.0 _ c.slot-slot.ensures c.if-old-eq-UNDECIDED.true _ c.width.ensures _ c.second-q.ensures, start.requires.3.ends_long)
 
-pub decide_line_down-returns-then-board-ge-ENDED : goal.decide_line_down-returns-then-board-ge-ENDED
-decide_line_down-returns-then-board-ge-ENDED t c = let start = c in line_stops start.args.kind.now _ (down start.args.v) start.requires.2 start.requires.3 start.requires.0 c.if-old-eq-UNDECIDED.true _ (ap (◌+◌ start.args.v) c.width-w.ensures) _ c.begin_line.ensures c.if-board-ge-ENDED.true
+pub decide_line-returns-then-board-ge-ENDED : goal.decide_line-returns-then-board-ge-ENDED
+decide_line-returns-then-board-ge-ENDED t c = let start = c in stops start.args.kind.now _ start.args.direction start.args.v start.requires.2 start.requires.3 start.requires.0 _ c.slot-slot.ensures c.if-old-eq-UNDECIDED.true _ c.width.ensures _ c.second-q.ensures _ c.begin_line.ensures c.if-board-ge-ENDED.true
 
-pub decide_line_down-detour-requires : goal.decide_line_down-detour-requires
-decide_line_down-detour-requires t c =
+pub decide_line-shape-requires : goal.decide_line-shape-requires
+decide_line-shape-requires t c =
+    let start = c in
+    let stored = is_stored start.args.kind.now _ start.args.direction start.args.v start.requires.2 start.requires.3 start.requires.0 _ c.slot-slot.ensures c.if-old-eq-UNDECIDED.true _ c.width.ensures _ c.second-q.ensures _ c.begin_line.ensures c.if-board-ge-ENDED.false in
+    (omega (arith, start.decreases, stored.less), (start.requires.0, start.requires.1, start.requires.2, stored.ready))
+
+pub decide_line-check-requires : goal.decide_line-check-requires
+decide_line-check-requires t c =
+    let start = c in
+    let stored = is_stored start.args.kind.now _ start.args.direction start.args.v start.requires.2 start.requires.3 start.requires.0 _ c.slot-slot.ensures c.if-old-eq-UNDECIDED.true _ c.width.ensures _ c.second-q.ensures _ c.begin_line.ensures c.if-board-ge-ENDED.false in
+    (omega (arith, start.decreases, stored.less, c.shape.ensures.fewer), (omega (arith, first_in start.args.kind.now _ start.args.direction start.args.v start.requires.2 start.requires.3 start.requires.0 _ c.slot-slot.ensures c.if-old-eq-UNDECIDED.true _ c.width.ensures _ c.second-q.ensures, start.requires.3.few_pads), λ h. first_in start.args.kind.now _ start.args.direction start.args.v start.requires.2 start.requires.3 start.requires.0 _ c.slot-slot.ensures c.if-old-eq-UNDECIDED.true _ c.width.ensures _ c.second-q.ensures, start.requires.2, c.shape.ensures.ready))
+
+pub decide_line-check-requires-then-old-eq-UNDECIDED : goal.decide_line-check-requires-then-old-eq-UNDECIDED
+decide_line-check-requires-then-old-eq-UNDECIDED t c =
+    let start = c in
+    let stored = is_stored start.args.kind.now _ start.args.direction start.args.v start.requires.2 start.requires.3 start.requires.0 _ c.slot-slot.ensures c.if-old-eq-UNDECIDED.true _ c.width.ensures _ c.second-q.ensures _ c.begin_line.ensures c.if-board-ge-ENDED.false in
+    (omega (arith, start.decreases, stored.less, c.shape.ensures.fewer, c.check.ensures.fewer), (omega (arith, second_in start.args.kind.now _ start.args.direction start.args.v start.requires.2 start.requires.3 start.requires.0 _ c.slot-slot.ensures c.if-old-eq-UNDECIDED.true _ c.width.ensures _ c.second-q.ensures, start.requires.3.few_pads), λ h. second_in start.args.kind.now _ start.args.direction start.args.v start.requires.2 start.requires.3 start.requires.0 _ c.slot-slot.ensures c.if-old-eq-UNDECIDED.true _ c.width.ensures _ c.second-q.ensures, start.requires.2, c.check.ensures.ready))
+
+pub decide_line-check-requires-then-old-eq-UNDECIDED-2 : goal.decide_line-check-requires-then-old-eq-UNDECIDED-2
+decide_line-check-requires-then-old-eq-UNDECIDED-2 t c =
+    let start = c in
+    let stored = is_stored start.args.kind.now _ start.args.direction start.args.v start.requires.2 start.requires.3 start.requires.0 _ c.slot-slot.ensures c.if-old-eq-UNDECIDED.true _ c.width.ensures _ c.second-q.ensures _ c.begin_line.ensures c.if-board-ge-ENDED.false in
+    (omega (arith, start.decreases, stored.less, c.shape.ensures.fewer, c.check.ensures.fewer, c.check-then-old-eq-UNDECIDED.ensures.fewer), ((first_end start.args.kind.now _ start.args.direction start.args.v start.requires.2 start.requires.3 start.requires.0 _ c.slot-slot.ensures c.if-old-eq-UNDECIDED.true _ c.width.ensures _ c.second-q.ensures _ c.end_pad-a.ensures).0, (first_end start.args.kind.now _ start.args.direction start.args.v start.requires.2 start.requires.3 start.requires.0 _ c.slot-slot.ensures c.if-old-eq-UNDECIDED.true _ c.width.ensures _ c.second-q.ensures _ c.end_pad-a.ensures).1, start.requires.2, c.check-then-old-eq-UNDECIDED.ensures.ready))
+
+pub decide_line-check-requires-then-old-eq-UNDECIDED-3 : goal.decide_line-check-requires-then-old-eq-UNDECIDED-3
+decide_line-check-requires-then-old-eq-UNDECIDED-3 t c =
+    let start = c in
+    let stored = is_stored start.args.kind.now _ start.args.direction start.args.v start.requires.2 start.requires.3 start.requires.0 _ c.slot-slot.ensures c.if-old-eq-UNDECIDED.true _ c.width.ensures _ c.second-q.ensures _ c.begin_line.ensures c.if-board-ge-ENDED.false in
+    (omega (arith, start.decreases, stored.less, c.shape.ensures.fewer, c.check.ensures.fewer, c.check-then-old-eq-UNDECIDED.ensures.fewer, c.check-then-old-eq-UNDECIDED-2.ensures.fewer), ((second_end start.args.kind.now _ start.args.direction start.args.v start.requires.2 start.requires.3 start.requires.0 _ c.slot-slot.ensures c.if-old-eq-UNDECIDED.true _ c.width.ensures _ c.second-q.ensures _ c.end_pad-b.ensures).0, (second_end start.args.kind.now _ start.args.direction start.args.v start.requires.2 start.requires.3 start.requires.0 _ c.slot-slot.ensures c.if-old-eq-UNDECIDED.true _ c.width.ensures _ c.second-q.ensures _ c.end_pad-b.ensures).1, start.requires.2, c.check-then-old-eq-UNDECIDED-2.ensures.ready))
+
+pub decide_line-returns-then-old-eq-UNDECIDED : goal.decide_line-returns-then-old-eq-UNDECIDED
+decide_line-returns-then-old-eq-UNDECIDED t c =
+    let start = c in
+    let g = grid_in start.args.kind.now in
+    all_done start.args.kind.now _ start.args.direction start.args.v start.requires.2 start.requires.3 start.requires.0 _ c.slot-slot.ensures c.if-old-eq-UNDECIDED.true _ c.width.ensures _ c.second-q.ensures _ c.begin_line.ensures c.if-board-ge-ENDED.false _ _ c.end_pad-a.ensures c.end_pad-b.ensures _
+    (done_then g c.shape.ensures (done_then g c.check.ensures (done_then g c.check-then-old-eq-UNDECIDED.ensures (done_then g c.check-then-old-eq-UNDECIDED-2.ensures c.check-then-old-eq-UNDECIDED-3.ensures)))) _ c.end-board.ensures
+
+pub decide_line-returns-then-old-eq-LINE : goal.decide_line-returns-then-old-eq-LINE
+decide_line-returns-then-old-eq-LINE t c = let start = c in again start.args.kind.now _ start.args.direction start.args.v start.requires.2 start.requires.3 start.requires.0 _ c.slot-slot.ensures c.if-old-eq-LINE.true _ c.end-board-then-old-eq-LINE.ensures
+
+pub decide_line-returns : goal.decide_line-returns
+decide_line-returns t c = let start = c in raised start.args.kind.now _ start.args.direction start.args.v start.requires.2 start.requires.3 start.requires.0 _ c.slot-slot.ensures c.if-old-eq-UNDECIDED.false c.if-old-eq-LINE.false _ c.stop-board.ensures
+
+pub shape_down-slot_where-if_left-requires : goal.shape_down-slot_where-if_left-requires
+shape_down-slot_where-if_left-requires t c = (omega (arith, c.requires.1))
+
+pub shape_down-slot_where-if_right-requires : goal.shape_down-slot_where-if_right-requires
+shape_down-slot_where-if_right-requires t c = (omega (arith, c.requires.1))
+
+pub shape_down-detour-requires : goal.shape_down-detour-requires
+shape_down-detour-requires t c =
     let start = c in
     let width-says = c.width-w.ensures in
-    let st = line_is_stored start.args.kind.now _ (down start.args.v) start.requires.2 start.requires.3 start.requires.0 c.if-old-eq-UNDECIDED.true _ (ap (◌+◌ start.args.v) (width-says)) _ c.begin_line.ensures c.if-board-ge-ENDED.false in ((omega (arith, start.decreases, st.less)), ((omega (arith, start.requires.1, start.requires.2.largest_width, width-says)), (omega (arith, start.requires.1, start.requires.2.largest_width, width-says)), (omega (arith, start.requires.1, start.requires.2.largest_width, width-says)), (λ o. (same_on (down_left start.args.kind.now start.requires.2 start.requires.3.few_pads start.args.v _ (width-says) start.requires.0) (down_left_below start.args.kind.now start.requires.2 start.requires.3.few_pads start.args.v _ (width-says) start.requires.0) o, down_far_left start.args.kind.now start.requires.2 start.requires.3.few_pads start.args.v _ (width-says) start.requires.0 (sym (down_left start.args.kind.now start.requires.2 start.requires.3.few_pads start.args.v _ (width-says) start.requires.0) ∙ o))), start.requires.2, st.ready))
+    ((omega (arith, start.decreases)), ((omega (arith, start.requires.1, start.requires.2.largest_width, width-says)), (omega (arith, start.requires.1, start.requires.2.largest_width, width-says)), (omega (arith, start.requires.1, start.requires.2.largest_width, width-says)), (λ o. (same_on (down_left start.args.kind.now start.requires.2 start.requires.3.few_pads start.args.v _ (width-says) start.requires.0) (down_left_below start.args.kind.now start.requires.2 start.requires.3.few_pads start.args.v _ (width-says) start.requires.0) o, down_far_left start.args.kind.now start.requires.2 start.requires.3.few_pads start.args.v _ (width-says) start.requires.0 (sym (down_left start.args.kind.now start.requires.2 start.requires.3.few_pads start.args.v _ (width-says) start.requires.0) ∙ o))), start.requires.2, start.requires.3))
 
-pub decide_line_down-detour-requires-then-old-eq-UNDECIDED : goal.decide_line_down-detour-requires-then-old-eq-UNDECIDED
-decide_line_down-detour-requires-then-old-eq-UNDECIDED t c =
+pub shape_down-detour-requires-2 : goal.shape_down-detour-requires-2
+shape_down-detour-requires-2 t c =
     let start = c in
     let width-says = c.width-w.ensures in
     let detour-says = c.detour.ensures in
-    let st = line_is_stored start.args.kind.now _ (down start.args.v) start.requires.2 start.requires.3 start.requires.0 c.if-old-eq-UNDECIDED.true _ (ap (◌+◌ start.args.v) (width-says)) _ c.begin_line.ensures c.if-board-ge-ENDED.false in ((omega (arith, start.decreases, st.less, detour-says.fewer)), ((omega (arith, start.requires.1, start.requires.2.largest_width, width-says)), (omega (arith, start.requires.1, start.requires.2.largest_width, width-says)), (omega (arith, start.requires.1, start.requires.2.largest_width, width-says)), (λ o. (same_on (down_left_below start.args.kind.now start.requires.2 start.requires.3.few_pads start.args.v _ (width-says) start.requires.0) (down_left start.args.kind.now start.requires.2 start.requires.3.few_pads start.args.v _ (width-says) start.requires.0) o, down_far_left start.args.kind.now start.requires.2 start.requires.3.few_pads start.args.v _ (width-says) start.requires.0 (sym (down_left_below start.args.kind.now start.requires.2 start.requires.3.few_pads start.args.v _ (width-says) start.requires.0) ∙ o))), start.requires.2, detour-says.ready))
+    ((omega (arith, start.decreases, detour-says.fewer)), ((omega (arith, start.requires.1, start.requires.2.largest_width, width-says)), (omega (arith, start.requires.1, start.requires.2.largest_width, width-says)), (omega (arith, start.requires.1, start.requires.2.largest_width, width-says)), (λ o. (same_on (down_left_below start.args.kind.now start.requires.2 start.requires.3.few_pads start.args.v _ (width-says) start.requires.0) (down_left start.args.kind.now start.requires.2 start.requires.3.few_pads start.args.v _ (width-says) start.requires.0) o, down_far_left start.args.kind.now start.requires.2 start.requires.3.few_pads start.args.v _ (width-says) start.requires.0 (sym (down_left_below start.args.kind.now start.requires.2 start.requires.3.few_pads start.args.v _ (width-says) start.requires.0) ∙ o))), start.requires.2, detour-says.ready))
 
-pub decide_line_down-detour-requires-then-old-eq-UNDECIDED-2 : goal.decide_line_down-detour-requires-then-old-eq-UNDECIDED-2
-decide_line_down-detour-requires-then-old-eq-UNDECIDED-2 t c =
+pub shape_down-detour-requires-3 : goal.shape_down-detour-requires-3
+shape_down-detour-requires-3 t c =
     let start = c in
     let width-says = c.width-w.ensures in
-    let detour2-says = c.detour-then-old-eq-UNDECIDED.ensures in
+    let detour2-says = c.detour-2.ensures in
     let slot-where-says = c.slot_where-if_left.ensures in
-    let st = line_is_stored start.args.kind.now _ (down start.args.v) start.requires.2 start.requires.3 start.requires.0 c.if-old-eq-UNDECIDED.true _ (ap (◌+◌ start.args.v) (width-says)) _ c.begin_line.ensures c.if-board-ge-ENDED.false in ((omega (arith, start.decreases, st.less, c.detour.ensures.fewer, detour2-says.fewer)), (picked_small start.args.kind.now start.requires.2 start.requires.3.few_pads start.args.v _ (width-says) start.requires.0 (has_bit start.args.kind.now start.args.v 16) _ (31 + 2 * start.args.v) (slot-where-says) (omega (arith, start.requires.1, start.requires.2.largest_width, width-says)), (omega (arith, start.requires.1, start.requires.2.largest_width, width-says)), (omega (arith, start.requires.1, start.requires.2.largest_width, width-says)), (λ o. (same_on (down_if_left start.args.kind.now start.requires.2 start.requires.3.few_pads start.args.v _ (width-says) start.requires.0 _ (slot-where-says)) (down_left start.args.kind.now start.requires.2 start.requires.3.few_pads start.args.v _ (width-says) start.requires.0) o, same_on (down_if_left start.args.kind.now start.requires.2 start.requires.3.few_pads start.args.v _ (width-says) start.requires.0 _ (slot-where-says)) (down_left_below start.args.kind.now start.requires.2 start.requires.3.few_pads start.args.v _ (width-says) start.requires.0) o)), start.requires.2, detour2-says.ready))
+    ((omega (arith, start.decreases, c.detour.ensures.fewer, detour2-says.fewer)), (picked_small start.args.kind.now start.requires.2 start.requires.3.few_pads start.args.v _ (width-says) start.requires.0 (has_bit start.args.kind.now start.args.v 16) _ (31 + 2 * start.args.v) (slot-where-says) (omega (arith, start.requires.1, start.requires.2.largest_width, width-says)), (omega (arith, start.requires.1, start.requires.2.largest_width, width-says)), (omega (arith, start.requires.1, start.requires.2.largest_width, width-says)), (λ o. (same_on (down_if_left start.args.kind.now start.requires.2 start.requires.3.few_pads start.args.v _ (width-says) start.requires.0 _ (slot-where-says)) (down_left start.args.kind.now start.requires.2 start.requires.3.few_pads start.args.v _ (width-says) start.requires.0) o, same_on (down_if_left start.args.kind.now start.requires.2 start.requires.3.few_pads start.args.v _ (width-says) start.requires.0 _ (slot-where-says)) (down_left_below start.args.kind.now start.requires.2 start.requires.3.few_pads start.args.v _ (width-says) start.requires.0) o)), start.requires.2, detour2-says.ready))
 
-pub decide_line_down-detour-requires-then-old-eq-UNDECIDED-3 : goal.decide_line_down-detour-requires-then-old-eq-UNDECIDED-3
-decide_line_down-detour-requires-then-old-eq-UNDECIDED-3 t c =
+pub shape_down-detour-requires-4 : goal.shape_down-detour-requires-4
+shape_down-detour-requires-4 t c =
     let start = c in
     let width-says = c.width-w.ensures in
-    let detour3-says = c.detour-then-old-eq-UNDECIDED-2.ensures in
-    let st = line_is_stored start.args.kind.now _ (down start.args.v) start.requires.2 start.requires.3 start.requires.0 c.if-old-eq-UNDECIDED.true _ (ap (◌+◌ start.args.v) (width-says)) _ c.begin_line.ensures c.if-board-ge-ENDED.false in ((omega (arith, start.decreases, st.less, c.detour.ensures.fewer, c.detour-then-old-eq-UNDECIDED.ensures.fewer, detour3-says.fewer)), ((omega (arith, start.requires.1, start.requires.2.largest_width, width-says)), (omega (arith, start.requires.1, start.requires.2.largest_width, width-says)), (omega (arith, start.requires.1, start.requires.2.largest_width, width-says)), (λ o. (same_on (down_right start.args.kind.now start.requires.2 start.requires.3.few_pads start.args.v _ (width-says) start.requires.0) (down_right_below start.args.kind.now start.requires.2 start.requires.3.few_pads start.args.v _ (width-says) start.requires.0) o, down_far_right start.args.kind.now start.requires.2 start.requires.3.few_pads start.args.v _ (width-says) start.requires.0 (sym (down_right start.args.kind.now start.requires.2 start.requires.3.few_pads start.args.v _ (width-says) start.requires.0) ∙ o))), start.requires.2, detour3-says.ready))
+    let detour3-says = c.detour-3.ensures in
+    ((omega (arith, start.decreases, c.detour.ensures.fewer, c.detour-2.ensures.fewer, detour3-says.fewer)), ((omega (arith, start.requires.1, start.requires.2.largest_width, width-says)), (omega (arith, start.requires.1, start.requires.2.largest_width, width-says)), (omega (arith, start.requires.1, start.requires.2.largest_width, width-says)), (λ o. (same_on (down_right start.args.kind.now start.requires.2 start.requires.3.few_pads start.args.v _ (width-says) start.requires.0) (down_right_below start.args.kind.now start.requires.2 start.requires.3.few_pads start.args.v _ (width-says) start.requires.0) o, down_far_right start.args.kind.now start.requires.2 start.requires.3.few_pads start.args.v _ (width-says) start.requires.0 (sym (down_right start.args.kind.now start.requires.2 start.requires.3.few_pads start.args.v _ (width-says) start.requires.0) ∙ o))), start.requires.2, detour3-says.ready))
 
-pub decide_line_down-detour-requires-then-old-eq-UNDECIDED-4 : goal.decide_line_down-detour-requires-then-old-eq-UNDECIDED-4
-decide_line_down-detour-requires-then-old-eq-UNDECIDED-4 t c =
+pub shape_down-detour-requires-5 : goal.shape_down-detour-requires-5
+shape_down-detour-requires-5 t c =
     let start = c in
     let width-says = c.width-w.ensures in
-    let detour4-says = c.detour-then-old-eq-UNDECIDED-3.ensures in
-    let st = line_is_stored start.args.kind.now _ (down start.args.v) start.requires.2 start.requires.3 start.requires.0 c.if-old-eq-UNDECIDED.true _ (ap (◌+◌ start.args.v) (width-says)) _ c.begin_line.ensures c.if-board-ge-ENDED.false in ((omega (arith, start.decreases, st.less, c.detour.ensures.fewer, c.detour-then-old-eq-UNDECIDED.ensures.fewer, c.detour-then-old-eq-UNDECIDED-2.ensures.fewer, detour4-says.fewer)), ((omega (arith, start.requires.1, start.requires.2.largest_width, width-says)), (omega (arith, start.requires.1, start.requires.2.largest_width, width-says)), (omega (arith, start.requires.1, start.requires.2.largest_width, width-says)), (λ o. (same_on (down_right_below start.args.kind.now start.requires.2 start.requires.3.few_pads start.args.v _ (width-says) start.requires.0) (down_right start.args.kind.now start.requires.2 start.requires.3.few_pads start.args.v _ (width-says) start.requires.0) o, down_far_right start.args.kind.now start.requires.2 start.requires.3.few_pads start.args.v _ (width-says) start.requires.0 (sym (down_right_below start.args.kind.now start.requires.2 start.requires.3.few_pads start.args.v _ (width-says) start.requires.0) ∙ o))), start.requires.2, detour4-says.ready))
+    let detour4-says = c.detour-4.ensures in
+    ((omega (arith, start.decreases, c.detour.ensures.fewer, c.detour-2.ensures.fewer, c.detour-3.ensures.fewer, detour4-says.fewer)), ((omega (arith, start.requires.1, start.requires.2.largest_width, width-says)), (omega (arith, start.requires.1, start.requires.2.largest_width, width-says)), (omega (arith, start.requires.1, start.requires.2.largest_width, width-says)), (λ o. (same_on (down_right_below start.args.kind.now start.requires.2 start.requires.3.few_pads start.args.v _ (width-says) start.requires.0) (down_right start.args.kind.now start.requires.2 start.requires.3.few_pads start.args.v _ (width-says) start.requires.0) o, down_far_right start.args.kind.now start.requires.2 start.requires.3.few_pads start.args.v _ (width-says) start.requires.0 (sym (down_right_below start.args.kind.now start.requires.2 start.requires.3.few_pads start.args.v _ (width-says) start.requires.0) ∙ o))), start.requires.2, detour4-says.ready))
 
-pub decide_line_down-detour-requires-then-old-eq-UNDECIDED-5 : goal.decide_line_down-detour-requires-then-old-eq-UNDECIDED-5
-decide_line_down-detour-requires-then-old-eq-UNDECIDED-5 t c =
+pub shape_down-detour-requires-6 : goal.shape_down-detour-requires-6
+shape_down-detour-requires-6 t c =
     let start = c in
     let width-says = c.width-w.ensures in
-    let detour5-says = c.detour-then-old-eq-UNDECIDED-4.ensures in
+    let detour5-says = c.detour-5.ensures in
     let slot-where2-says = c.slot_where-if_right.ensures in
-    let st = line_is_stored start.args.kind.now _ (down start.args.v) start.requires.2 start.requires.3 start.requires.0 c.if-old-eq-UNDECIDED.true _ (ap (◌+◌ start.args.v) (width-says)) _ c.begin_line.ensures c.if-board-ge-ENDED.false in ((omega (arith, start.decreases, st.less, c.detour.ensures.fewer, c.detour-then-old-eq-UNDECIDED.ensures.fewer, c.detour-then-old-eq-UNDECIDED-2.ensures.fewer, c.detour-then-old-eq-UNDECIDED-3.ensures.fewer, detour5-says.fewer)), (picked_small start.args.kind.now start.requires.2 start.requires.3.few_pads start.args.v _ (width-says) start.requires.0 (has_bit start.args.kind.now start.args.v 8) _ (35 + 2 * start.args.v) (slot-where2-says) (omega (arith, start.requires.1, start.requires.2.largest_width, width-says)), (omega (arith, start.requires.1, start.requires.2.largest_width, width-says)), (omega (arith, start.requires.1, start.requires.2.largest_width, width-says)), (λ o. (same_on (down_if_right start.args.kind.now start.requires.2 start.requires.3.few_pads start.args.v _ (width-says) start.requires.0 _ (slot-where2-says)) (down_right start.args.kind.now start.requires.2 start.requires.3.few_pads start.args.v _ (width-says) start.requires.0) o, same_on (down_if_right start.args.kind.now start.requires.2 start.requires.3.few_pads start.args.v _ (width-says) start.requires.0 _ (slot-where2-says)) (down_right_below start.args.kind.now start.requires.2 start.requires.3.few_pads start.args.v _ (width-says) start.requires.0) o)), start.requires.2, detour5-says.ready))
+    ((omega (arith, start.decreases, c.detour.ensures.fewer, c.detour-2.ensures.fewer, c.detour-3.ensures.fewer, c.detour-4.ensures.fewer, detour5-says.fewer)), (picked_small start.args.kind.now start.requires.2 start.requires.3.few_pads start.args.v _ (width-says) start.requires.0 (has_bit start.args.kind.now start.args.v 8) _ (35 + 2 * start.args.v) (slot-where2-says) (omega (arith, start.requires.1, start.requires.2.largest_width, width-says)), (omega (arith, start.requires.1, start.requires.2.largest_width, width-says)), (omega (arith, start.requires.1, start.requires.2.largest_width, width-says)), (λ o. (same_on (down_if_right start.args.kind.now start.requires.2 start.requires.3.few_pads start.args.v _ (width-says) start.requires.0 _ (slot-where2-says)) (down_right start.args.kind.now start.requires.2 start.requires.3.few_pads start.args.v _ (width-says) start.requires.0) o, same_on (down_if_right start.args.kind.now start.requires.2 start.requires.3.few_pads start.args.v _ (width-says) start.requires.0 _ (slot-where2-says)) (down_right_below start.args.kind.now start.requires.2 start.requires.3.few_pads start.args.v _ (width-says) start.requires.0) o)), start.requires.2, detour5-says.ready))
 
-pub decide_line_down-corner-requires : goal.decide_line_down-corner-requires
-decide_line_down-corner-requires t c =
+pub shape_down-corner-requires : goal.shape_down-corner-requires
+shape_down-corner-requires t c =
     let start = c in
     let width-says = c.width-w.ensures in
-    let detour6-says = c.detour-then-old-eq-UNDECIDED-5.ensures in
-    let st = line_is_stored start.args.kind.now _ (down start.args.v) start.requires.2 start.requires.3 start.requires.0 c.if-old-eq-UNDECIDED.true _ (ap (◌+◌ start.args.v) (width-says)) _ c.begin_line.ensures c.if-board-ge-ENDED.false in ((omega (arith, start.decreases, st.less, c.detour.ensures.fewer, c.detour-then-old-eq-UNDECIDED.ensures.fewer, c.detour-then-old-eq-UNDECIDED-2.ensures.fewer, c.detour-then-old-eq-UNDECIDED-3.ensures.fewer, c.detour-then-old-eq-UNDECIDED-4.ensures.fewer, detour6-says.fewer)), ((omega (arith, start.requires.1, start.requires.2.largest_width, width-says)), (omega (arith, start.requires.1, start.requires.2.largest_width, width-says)), (λ o. down_left_corner start.args.kind.now start.requires.2 start.requires.3.few_pads start.args.v _ (width-says) start.requires.0 _ refl), start.requires.2, detour6-says.ready))
+    let detour6-says = c.detour-6.ensures in
+    ((omega (arith, start.decreases, c.detour.ensures.fewer, c.detour-2.ensures.fewer, c.detour-3.ensures.fewer, c.detour-4.ensures.fewer, c.detour-5.ensures.fewer, detour6-says.fewer)), ((omega (arith, start.requires.1, start.requires.2.largest_width, width-says)), (omega (arith, start.requires.1, start.requires.2.largest_width, width-says)), (λ o. down_left_corner start.args.kind.now start.requires.2 start.requires.3.few_pads start.args.v _ (width-says) start.requires.0 _ refl), start.requires.2, detour6-says.ready))
 
-pub decide_line_down-corner-requires-then-old-eq-UNDECIDED : goal.decide_line_down-corner-requires-then-old-eq-UNDECIDED
-decide_line_down-corner-requires-then-old-eq-UNDECIDED t c =
+pub shape_down-corner-requires-2 : goal.shape_down-corner-requires-2
+shape_down-corner-requires-2 t c =
     let start = c in
     let width-says = c.width-w.ensures in
     let corner-left-says = c.corner.ensures in
-    let st = line_is_stored start.args.kind.now _ (down start.args.v) start.requires.2 start.requires.3 start.requires.0 c.if-old-eq-UNDECIDED.true _ (ap (◌+◌ start.args.v) (width-says)) _ c.begin_line.ensures c.if-board-ge-ENDED.false in ((omega (arith, start.decreases, st.less, c.detour.ensures.fewer, c.detour-then-old-eq-UNDECIDED.ensures.fewer, c.detour-then-old-eq-UNDECIDED-2.ensures.fewer, c.detour-then-old-eq-UNDECIDED-3.ensures.fewer, c.detour-then-old-eq-UNDECIDED-4.ensures.fewer, c.detour-then-old-eq-UNDECIDED-5.ensures.fewer, corner-left-says.fewer)), ((omega (arith, start.requires.1, start.requires.2.largest_width, width-says)), (omega (arith, start.requires.1, start.requires.2.largest_width, width-says)), (λ o. down_right_corner start.args.kind.now start.requires.2 start.requires.3.few_pads start.args.v _ (width-says) start.requires.0 _ refl o), start.requires.2, corner-left-says.ready))
+    ((omega (arith, start.decreases, c.detour.ensures.fewer, c.detour-2.ensures.fewer, c.detour-3.ensures.fewer, c.detour-4.ensures.fewer, c.detour-5.ensures.fewer, c.detour-6.ensures.fewer, corner-left-says.fewer)), ((omega (arith, start.requires.1, start.requires.2.largest_width, width-says)), (omega (arith, start.requires.1, start.requires.2.largest_width, width-says)), (λ o. down_right_corner start.args.kind.now start.requires.2 start.requires.3.few_pads start.args.v _ (width-says) start.requires.0 _ refl o), start.requires.2, corner-left-says.ready))
 
-pub decide_line_down-bar-requires : goal.decide_line_down-bar-requires
-decide_line_down-bar-requires t c =
+pub shape_down-bar-requires : goal.shape_down-bar-requires
+shape_down-bar-requires t c =
     let start = c in
     let width-says = c.width-w.ensures in
-    let corner-right-says = c.corner-then-old-eq-UNDECIDED.ensures in
-    let st = line_is_stored start.args.kind.now _ (down start.args.v) start.requires.2 start.requires.3 start.requires.0 c.if-old-eq-UNDECIDED.true _ (ap (◌+◌ start.args.v) (width-says)) _ c.begin_line.ensures c.if-board-ge-ENDED.false in ((omega (arith, start.decreases, st.less, c.detour.ensures.fewer, c.detour-then-old-eq-UNDECIDED.ensures.fewer, c.detour-then-old-eq-UNDECIDED-2.ensures.fewer, c.detour-then-old-eq-UNDECIDED-3.ensures.fewer, c.detour-then-old-eq-UNDECIDED-4.ensures.fewer, c.detour-then-old-eq-UNDECIDED-5.ensures.fewer, c.corner.ensures.fewer, corner-right-says.fewer)), ((omega (arith, start.requires.1, start.requires.2.largest_width, width-says)), (omega (arith, start.requires.1, start.requires.2.largest_width, width-says)), down_left_bar_on start.args.kind.now start.requires.2 start.requires.3.few_pads start.args.v _ (width-says) start.requires.0, start.requires.2, corner-right-says.ready))
+    let corner-right-says = c.corner-2.ensures in
+    ((omega (arith, start.decreases, c.detour.ensures.fewer, c.detour-2.ensures.fewer, c.detour-3.ensures.fewer, c.detour-4.ensures.fewer, c.detour-5.ensures.fewer, c.detour-6.ensures.fewer, c.corner.ensures.fewer, corner-right-says.fewer)), ((omega (arith, start.requires.1, start.requires.2.largest_width, width-says)), (omega (arith, start.requires.1, start.requires.2.largest_width, width-says)), down_left_bar_on start.args.kind.now start.requires.2 start.requires.3.few_pads start.args.v _ (width-says) start.requires.0, start.requires.2, corner-right-says.ready))
 
-pub decide_line_down-bar-requires-then-old-eq-UNDECIDED : goal.decide_line_down-bar-requires-then-old-eq-UNDECIDED
-decide_line_down-bar-requires-then-old-eq-UNDECIDED t c =
+pub shape_down-bar-requires-2 : goal.shape_down-bar-requires-2
+shape_down-bar-requires-2 t c =
     let start = c in
     let width-says = c.width-w.ensures in
     let bar-says = c.bar.ensures in
-    let st = line_is_stored start.args.kind.now _ (down start.args.v) start.requires.2 start.requires.3 start.requires.0 c.if-old-eq-UNDECIDED.true _ (ap (◌+◌ start.args.v) (width-says)) _ c.begin_line.ensures c.if-board-ge-ENDED.false in ((omega (arith, start.decreases, st.less, c.detour.ensures.fewer, c.detour-then-old-eq-UNDECIDED.ensures.fewer, c.detour-then-old-eq-UNDECIDED-2.ensures.fewer, c.detour-then-old-eq-UNDECIDED-3.ensures.fewer, c.detour-then-old-eq-UNDECIDED-4.ensures.fewer, c.detour-then-old-eq-UNDECIDED-5.ensures.fewer, c.corner.ensures.fewer, c.corner-then-old-eq-UNDECIDED.ensures.fewer, bar-says.fewer)), ((omega (arith, start.requires.1, start.requires.2.largest_width, width-says)), (omega (arith, start.requires.1, start.requires.2.largest_width, width-says)), down_right_bar_on start.args.kind.now start.requires.2 start.requires.3.few_pads start.args.v _ (width-says) start.requires.0, start.requires.2, bar-says.ready))
+    ((omega (arith, start.decreases, c.detour.ensures.fewer, c.detour-2.ensures.fewer, c.detour-3.ensures.fewer, c.detour-4.ensures.fewer, c.detour-5.ensures.fewer, c.detour-6.ensures.fewer, c.corner.ensures.fewer, c.corner-2.ensures.fewer, bar-says.fewer)), ((omega (arith, start.requires.1, start.requires.2.largest_width, width-says)), (omega (arith, start.requires.1, start.requires.2.largest_width, width-says)), down_right_bar_on start.args.kind.now start.requires.2 start.requires.3.few_pads start.args.v _ (width-says) start.requires.0, start.requires.2, bar-says.ready))
 
-pub decide_line_down-check-requires : goal.decide_line_down-check-requires
-decide_line_down-check-requires t c =
-    let start = c in
-    let if1-taken = c.if-old-eq-UNDECIDED.true in
-    let width-says = c.width-w.ensures in
-    let bar2-says = c.bar-then-old-eq-UNDECIDED.ensures in
-    let st = line_is_stored start.args.kind.now _ (down start.args.v) start.requires.2 start.requires.3 start.requires.0 (if1-taken) _ (ap (◌+◌ start.args.v) (width-says)) _ c.begin_line.ensures c.if-board-ge-ENDED.false in ((omega (arith, start.decreases, st.less, c.detour.ensures.fewer, c.detour-then-old-eq-UNDECIDED.ensures.fewer, c.detour-then-old-eq-UNDECIDED-2.ensures.fewer, c.detour-then-old-eq-UNDECIDED-3.ensures.fewer, c.detour-then-old-eq-UNDECIDED-4.ensures.fewer, c.detour-then-old-eq-UNDECIDED-5.ensures.fewer, c.corner.ensures.fewer, c.corner-then-old-eq-UNDECIDED.ensures.fewer, c.bar.ensures.fewer, bar2-says.fewer)), ((omega (arith, (line_first start.args.kind.now _ (down start.args.v) start.requires.2 start.requires.3 start.requires.0 (if1-taken) _ (ap (◌+◌ start.args.v) (width-says))), start.requires.3.few_pads)), (λ h. (line_first start.args.kind.now _ (down start.args.v) start.requires.2 start.requires.3 start.requires.0 (if1-taken) _ (ap (◌+◌ start.args.v) (width-says)))), start.requires.2, bar2-says.ready))
-
-pub decide_line_down-check-requires-then-old-eq-UNDECIDED : goal.decide_line_down-check-requires-then-old-eq-UNDECIDED
-decide_line_down-check-requires-then-old-eq-UNDECIDED t c =
-    let start = c in
-    let if1-taken = c.if-old-eq-UNDECIDED.true in
-    let width-says = c.width-w.ensures in
-    let check-says = c.check.ensures in
-    let st = line_is_stored start.args.kind.now _ (down start.args.v) start.requires.2 start.requires.3 start.requires.0 (if1-taken) _ (ap (◌+◌ start.args.v) (width-says)) _ c.begin_line.ensures c.if-board-ge-ENDED.false in ((omega (arith, start.decreases, st.less, c.detour.ensures.fewer, c.detour-then-old-eq-UNDECIDED.ensures.fewer, c.detour-then-old-eq-UNDECIDED-2.ensures.fewer, c.detour-then-old-eq-UNDECIDED-3.ensures.fewer, c.detour-then-old-eq-UNDECIDED-4.ensures.fewer, c.detour-then-old-eq-UNDECIDED-5.ensures.fewer, c.corner.ensures.fewer, c.corner-then-old-eq-UNDECIDED.ensures.fewer, c.bar.ensures.fewer, c.bar-then-old-eq-UNDECIDED.ensures.fewer, check-says.fewer)), ((omega (arith, (line_second start.args.kind.now _ (down start.args.v) start.requires.2 start.requires.3 start.requires.0 (if1-taken) _ (ap (◌+◌ start.args.v) (width-says))), start.requires.3.few_pads)), (λ h. (line_second start.args.kind.now _ (down start.args.v) start.requires.2 start.requires.3 start.requires.0 (if1-taken) _ (ap (◌+◌ start.args.v) (width-says)))), start.requires.2, check-says.ready))
-
-pub decide_line_down-check-requires-then-old-eq-UNDECIDED-2 : goal.decide_line_down-check-requires-then-old-eq-UNDECIDED-2
-decide_line_down-check-requires-then-old-eq-UNDECIDED-2 t c =
-    let start = c in
-    let if1-taken = c.if-old-eq-UNDECIDED.true in
-    let width-says = c.width-w.ensures in
-    let check2-says = c.check-then-old-eq-UNDECIDED.ensures in
-    let end-pad-says = c.end_pad-a.ensures in
-    let st = line_is_stored start.args.kind.now _ (down start.args.v) start.requires.2 start.requires.3 start.requires.0 (if1-taken) _ (ap (◌+◌ start.args.v) (width-says)) _ c.begin_line.ensures c.if-board-ge-ENDED.false in ((omega (arith, start.decreases, st.less, c.detour.ensures.fewer, c.detour-then-old-eq-UNDECIDED.ensures.fewer, c.detour-then-old-eq-UNDECIDED-2.ensures.fewer, c.detour-then-old-eq-UNDECIDED-3.ensures.fewer, c.detour-then-old-eq-UNDECIDED-4.ensures.fewer, c.detour-then-old-eq-UNDECIDED-5.ensures.fewer, c.corner.ensures.fewer, c.corner-then-old-eq-UNDECIDED.ensures.fewer, c.bar.ensures.fewer, c.bar-then-old-eq-UNDECIDED.ensures.fewer, c.check.ensures.fewer, check2-says.fewer)), ((line_end start.args.kind.now _ (down start.args.v) start.requires.2 start.requires.3 start.requires.0 (if1-taken) _ (ap (◌+◌ start.args.v) (width-says)) start.args.v (line_first start.args.kind.now _ (down start.args.v) start.requires.2 start.requires.3 start.requires.0 (if1-taken) _ (ap (◌+◌ start.args.v) (width-says))) _ (end-pad-says)).0, (line_end start.args.kind.now _ (down start.args.v) start.requires.2 start.requires.3 start.requires.0 (if1-taken) _ (ap (◌+◌ start.args.v) (width-says)) start.args.v (line_first start.args.kind.now _ (down start.args.v) start.requires.2 start.requires.3 start.requires.0 (if1-taken) _ (ap (◌+◌ start.args.v) (width-says))) _ (end-pad-says)).1, start.requires.2, check2-says.ready))
-
-pub decide_line_down-check-requires-then-old-eq-UNDECIDED-3 : goal.decide_line_down-check-requires-then-old-eq-UNDECIDED-3
-decide_line_down-check-requires-then-old-eq-UNDECIDED-3 t c =
-    let start = c in
-    let if1-taken = c.if-old-eq-UNDECIDED.true in
-    let width-says = c.width-w.ensures in
-    let check3-says = c.check-then-old-eq-UNDECIDED-2.ensures in
-    let end-pad2-says = c.end_pad-b.ensures in
-    let st = line_is_stored start.args.kind.now _ (down start.args.v) start.requires.2 start.requires.3 start.requires.0 (if1-taken) _ (ap (◌+◌ start.args.v) (width-says)) _ c.begin_line.ensures c.if-board-ge-ENDED.false in ((omega (arith, start.decreases, st.less, c.detour.ensures.fewer, c.detour-then-old-eq-UNDECIDED.ensures.fewer, c.detour-then-old-eq-UNDECIDED-2.ensures.fewer, c.detour-then-old-eq-UNDECIDED-3.ensures.fewer, c.detour-then-old-eq-UNDECIDED-4.ensures.fewer, c.detour-then-old-eq-UNDECIDED-5.ensures.fewer, c.corner.ensures.fewer, c.corner-then-old-eq-UNDECIDED.ensures.fewer, c.bar.ensures.fewer, c.bar-then-old-eq-UNDECIDED.ensures.fewer, c.check.ensures.fewer, c.check-then-old-eq-UNDECIDED.ensures.fewer, check3-says.fewer)), ((line_end start.args.kind.now _ (down start.args.v) start.requires.2 start.requires.3 start.requires.0 (if1-taken) _ (ap (◌+◌ start.args.v) (width-says)) _ (line_second start.args.kind.now _ (down start.args.v) start.requires.2 start.requires.3 start.requires.0 (if1-taken) _ (ap (◌+◌ start.args.v) (width-says))) _ (end-pad2-says)).0, (line_end start.args.kind.now _ (down start.args.v) start.requires.2 start.requires.3 start.requires.0 (if1-taken) _ (ap (◌+◌ start.args.v) (width-says)) _ (line_second start.args.kind.now _ (down start.args.v) start.requires.2 start.requires.3 start.requires.0 (if1-taken) _ (ap (◌+◌ start.args.v) (width-says))) _ (end-pad2-says)).1, start.requires.2, check3-says.ready))
-
-pub decide_line_down-returns-then-old-eq-UNDECIDED : goal.decide_line_down-returns-then-old-eq-UNDECIDED
-decide_line_down-returns-then-old-eq-UNDECIDED t c =
+pub shape_right-detour-requires : goal.shape_right-detour-requires
+shape_right-detour-requires t c =
     let start = c in
     let width-says = c.width-w.ensures in
-    line_returns start.args.kind.now _ (down start.args.v) start.requires.2 start.requires.3 start.requires.0 c.if-old-eq-UNDECIDED.true _ (ap (◌+◌ start.args.v) (width-says)) _ c.begin_line.ensures c.if-board-ge-ENDED.false _ _ c.end_pad-a.ensures c.end_pad-b.ensures _ (down_done start.args.kind.now start.requires.2 start.requires.3.few_pads start.args.v _ (width-says) start.requires.0 _ _ c.slot_where-if_left.ensures c.slot_where-if_right.ensures _ (done_then (grid_in start.args.kind.now) c.detour.ensures (done_then (grid_in start.args.kind.now) c.detour-then-old-eq-UNDECIDED.ensures (done_then (grid_in start.args.kind.now) c.detour-then-old-eq-UNDECIDED-2.ensures (done_then (grid_in start.args.kind.now) c.detour-then-old-eq-UNDECIDED-3.ensures (done_then (grid_in start.args.kind.now) c.detour-then-old-eq-UNDECIDED-4.ensures (done_then (grid_in start.args.kind.now) c.detour-then-old-eq-UNDECIDED-5.ensures (done_then (grid_in start.args.kind.now) c.corner.ensures (done_then (grid_in start.args.kind.now) c.corner-then-old-eq-UNDECIDED.ensures (done_then (grid_in start.args.kind.now) c.bar.ensures (done_then (grid_in start.args.kind.now) c.bar-then-old-eq-UNDECIDED.ensures (done_then (grid_in start.args.kind.now) c.check.ensures (done_then (grid_in start.args.kind.now) c.check-then-old-eq-UNDECIDED.ensures (done_then (grid_in start.args.kind.now) c.check-then-old-eq-UNDECIDED-2.ensures c.check-then-old-eq-UNDECIDED-3.ensures)))))))))))))) _ c.end-board.ensures
+    ((omega (arith, start.decreases)), ((omega (arith, start.requires.1, start.requires.2.largest_width, width-says)), (omega (arith, start.requires.1, start.requires.2.largest_width, width-says)), (omega (arith, start.requires.1, start.requires.2.largest_width, width-says)), (λ o. (same_on (right_up_left start.args.kind.now start.requires.2 start.requires.3.few_pads start.args.v _ (width-says) start.requires.0) (right_up_right start.args.kind.now start.requires.2 start.requires.3.few_pads start.args.v _ (width-says) start.requires.0) o, same_on (right_up_left start.args.kind.now start.requires.2 start.requires.3.few_pads start.args.v _ (width-says) start.requires.0) (right_up start.args.kind.now start.requires.2 start.requires.3.few_pads start.args.v _ (width-says) start.requires.0) o)), start.requires.2, start.requires.3))
 
-pub decide_line_down-returns-then-old-eq-LINE : goal.decide_line_down-returns-then-old-eq-LINE
-decide_line_down-returns-then-old-eq-LINE t c = let start = c in line_again start.args.kind.now _ (down start.args.v) start.requires.2 start.requires.3 start.requires.0 c.if-old-eq-LINE.true _ c.end-board-then-old-eq-LINE.ensures
-
-pub decide_line_down-returns : goal.decide_line_down-returns
-decide_line_down-returns t c = let start = c in line_raised start.args.kind.now _ (down start.args.v) start.requires.2 start.requires.3 start.requires.0 c.if-old-eq-UNDECIDED.false c.if-old-eq-LINE.false _ c.stop-board.ensures
-
-pub decide_line_right-overflow_mul-slot : goal.decide_line_right-overflow_mul-slot
-decide_line_right-overflow_mul-slot t c = omega (arith, c.requires.1, c.requires.2.largest_width, c.requires.2.least_width)
-
-pub decide_line_right-overflow_add-slot : goal.decide_line_right-overflow_add-slot
-decide_line_right-overflow_add-slot t c = omega (arith, c.requires.1, c.requires.2.largest_width, c.requires.2.least_width)
-
-pub decide_line_right-bounds-board-slot : goal.decide_line_right-bounds-board-slot
-decide_line_right-bounds-board-slot t c = omega (arith, c.requires.1)
-
-pub decide_line_right-overflow_add-q : goal.decide_line_right-overflow_add-q
-decide_line_right-overflow_add-q t c = let start = c in omega (arith, start.requires.1, start.requires.2.largest_width, c.width-w.ensures, start.requires.2.least_width)
-
-pub decide_line_right-overflow_mul-up_left : goal.decide_line_right-overflow_mul-up_left
-decide_line_right-overflow_mul-up_left t c = let start = c in omega (arith, start.requires.1, start.requires.2.largest_width, c.width-w.ensures, start.requires.2.least_width)
-
-pub decide_line_right-overflow_add-up_left : goal.decide_line_right-overflow_add-up_left
-decide_line_right-overflow_add-up_left t c = let start = c in omega (arith, start.requires.1, start.requires.2.largest_width, c.width-w.ensures, start.requires.2.least_width)
-
-pub decide_line_right-overflow_mul-up_left-then-old-eq-UNDECIDED : goal.decide_line_right-overflow_mul-up_left-then-old-eq-UNDECIDED
-decide_line_right-overflow_mul-up_left-then-old-eq-UNDECIDED t c = let start = c in omega (arith, start.requires.1, start.requires.2.largest_width, c.width-w.ensures, start.requires.2.least_width)
-
-pub decide_line_right-overflow_sub-up_left : goal.decide_line_right-overflow_sub-up_left
-decide_line_right-overflow_sub-up_left t c = let start = c in omega (arith, start.requires.1, start.requires.2.largest_width, c.width-w.ensures, start.requires.2.least_width)
-
-pub decide_line_right-overflow_mul-up_right : goal.decide_line_right-overflow_mul-up_right
-decide_line_right-overflow_mul-up_right t c = let start = c in omega (arith, start.requires.1, start.requires.2.largest_width, c.width-w.ensures, start.requires.2.least_width)
-
-pub decide_line_right-overflow_add-up_right : goal.decide_line_right-overflow_add-up_right
-decide_line_right-overflow_add-up_right t c = let start = c in omega (arith, start.requires.1, start.requires.2.largest_width, c.width-w.ensures, start.requires.2.least_width)
-
-pub decide_line_right-overflow_mul-up_right-then-old-eq-UNDECIDED : goal.decide_line_right-overflow_mul-up_right-then-old-eq-UNDECIDED
-decide_line_right-overflow_mul-up_right-then-old-eq-UNDECIDED t c = let start = c in omega (arith, start.requires.1, start.requires.2.largest_width, c.width-w.ensures, start.requires.2.least_width)
-
-pub decide_line_right-overflow_sub-up_right : goal.decide_line_right-overflow_sub-up_right
-decide_line_right-overflow_sub-up_right t c = let start = c in omega (arith, start.requires.1, start.requires.2.largest_width, c.width-w.ensures, start.requires.2.least_width)
-
-pub decide_line_right-overflow_mul-up : goal.decide_line_right-overflow_mul-up
-decide_line_right-overflow_mul-up t c = let start = c in omega (arith, start.requires.1, start.requires.2.largest_width, c.width-w.ensures, start.requires.2.least_width)
-
-pub decide_line_right-overflow_add-up : goal.decide_line_right-overflow_add-up
-decide_line_right-overflow_add-up t c = let start = c in omega (arith, start.requires.1, start.requires.2.largest_width, c.width-w.ensures, start.requires.2.least_width)
-
-pub decide_line_right-overflow_mul-up-then-old-eq-UNDECIDED : goal.decide_line_right-overflow_mul-up-then-old-eq-UNDECIDED
-decide_line_right-overflow_mul-up-then-old-eq-UNDECIDED t c = let start = c in omega (arith, start.requires.1, start.requires.2.largest_width, c.width-w.ensures, start.requires.2.least_width)
-
-pub decide_line_right-overflow_sub-up : goal.decide_line_right-overflow_sub-up
-decide_line_right-overflow_sub-up t c = let start = c in omega (arith, start.requires.1, start.requires.2.largest_width, c.width-w.ensures, start.requires.2.least_width)
-
-pub decide_line_right-overflow_mul-left : goal.decide_line_right-overflow_mul-left
-decide_line_right-overflow_mul-left t c = let start = c in omega (arith, start.requires.1, start.requires.2.largest_width, c.width-w.ensures, start.requires.2.least_width)
-
-pub decide_line_right-overflow_add-left : goal.decide_line_right-overflow_add-left
-decide_line_right-overflow_add-left t c = let start = c in omega (arith, start.requires.1, start.requires.2.largest_width, c.width-w.ensures, start.requires.2.least_width)
-
-pub decide_line_right-overflow_mul-right : goal.decide_line_right-overflow_mul-right
-decide_line_right-overflow_mul-right t c = let start = c in omega (arith, start.requires.1, start.requires.2.largest_width, c.width-w.ensures, start.requires.2.least_width)
-
-pub decide_line_right-overflow_add-right : goal.decide_line_right-overflow_add-right
-decide_line_right-overflow_add-right t c = let start = c in omega (arith, start.requires.1, start.requires.2.largest_width, c.width-w.ensures, start.requires.2.least_width)
-
-pub decide_line_right-overflow_mul-below : goal.decide_line_right-overflow_mul-below
-decide_line_right-overflow_mul-below t c = let start = c in omega (arith, start.requires.1, start.requires.2.largest_width, c.width-w.ensures, start.requires.2.least_width)
-
-pub decide_line_right-overflow_add-below : goal.decide_line_right-overflow_add-below
-decide_line_right-overflow_add-below t c = let start = c in omega (arith, start.requires.1, start.requires.2.largest_width, c.width-w.ensures, start.requires.2.least_width)
-
-pub decide_line_right-overflow_mul-below-then-old-eq-UNDECIDED : goal.decide_line_right-overflow_mul-below-then-old-eq-UNDECIDED
-decide_line_right-overflow_mul-below-then-old-eq-UNDECIDED t c = let start = c in omega (arith, start.requires.1, start.requires.2.largest_width, c.width-w.ensures, start.requires.2.least_width)
-
-pub decide_line_right-overflow_add-below-then-old-eq-UNDECIDED : goal.decide_line_right-overflow_add-below-then-old-eq-UNDECIDED
-decide_line_right-overflow_add-below-then-old-eq-UNDECIDED t c = let start = c in omega (arith, start.requires.1, start.requires.2.largest_width, c.width-w.ensures, start.requires.2.least_width)
-
-pub decide_line_right-overflow_add-right_below : goal.decide_line_right-overflow_add-right_below
-decide_line_right-overflow_add-right_below t c = let start = c in omega (arith, start.requires.1, start.requires.2.largest_width, c.width-w.ensures, start.requires.2.least_width)
-
-pub decide_line_right-overflow_add-right_below-then-old-eq-UNDECIDED : goal.decide_line_right-overflow_add-right_below-then-old-eq-UNDECIDED
-decide_line_right-overflow_add-right_below-then-old-eq-UNDECIDED t c = let start = c in omega (arith, start.requires.1, start.requires.2.largest_width, c.width-w.ensures, start.requires.2.least_width)
-
-pub decide_line_right-overflow_add-left_below : goal.decide_line_right-overflow_add-left_below
-decide_line_right-overflow_add-left_below t c = let start = c in omega (arith, start.requires.1, start.requires.2.largest_width, c.width-w.ensures, start.requires.2.least_width)
-
-pub decide_line_right-end_pad-a-requires : goal.decide_line_right-end_pad-a-requires
-decide_line_right-end_pad-a-requires t c = let start = c in ((omega (arith, start.requires.1)), start.requires.3.ends_long)
-
-pub decide_line_right-end_pad-b-requires : goal.decide_line_right-end_pad-b-requires
-decide_line_right-end_pad-b-requires t c = let start = c in ((omega (arith, line_second start.args.kind.now _ (right start.args.v) start.requires.2 start.requires.3 start.requires.0 c.if-old-eq-UNDECIDED.true _ refl, start.requires.3.few_pads)), start.requires.3.ends_long)
-
-pub decide_line_right-begin_line-requires : goal.decide_line_right-begin_line-requires
-decide_line_right-begin_line-requires t c =
-    let start = c in
-    let if1-taken = c.if-old-eq-UNDECIDED.true in
-    (omega (arith, start.requires.1), omega (arith, start.requires.1), (omega (arith, line_second start.args.kind.now _ (right start.args.v) start.requires.2 start.requires.3 start.requires.0 (if1-taken) _ refl, start.requires.3.few_pads)), start.requires.3.mode, line_room start.args.kind.now _ (right start.args.v) start.requires.2 start.requires.3 start.requires.0 (if1-taken) _ refl, start.requires.3.ends_long)
-
-pub decide_line_right-returns-then-board-ge-ENDED : goal.decide_line_right-returns-then-board-ge-ENDED
-decide_line_right-returns-then-board-ge-ENDED t c = let start = c in line_stops start.args.kind.now _ (right start.args.v) start.requires.2 start.requires.3 start.requires.0 c.if-old-eq-UNDECIDED.true _ refl _ c.begin_line.ensures c.if-board-ge-ENDED.true
-
-pub decide_line_right-detour-requires : goal.decide_line_right-detour-requires
-decide_line_right-detour-requires t c =
-    let start = c in
-    let width-says = c.width-w.ensures in
-    let st = line_is_stored start.args.kind.now _ (right start.args.v) start.requires.2 start.requires.3 start.requires.0 c.if-old-eq-UNDECIDED.true _ refl _ c.begin_line.ensures c.if-board-ge-ENDED.false in ((omega (arith, start.decreases, st.less)), ((omega (arith, start.requires.1, start.requires.2.largest_width, width-says)), (omega (arith, start.requires.1, start.requires.2.largest_width, width-says)), (omega (arith, start.requires.1, start.requires.2.largest_width, width-says)), (λ o. (same_on (right_up_left start.args.kind.now start.requires.2 start.requires.3.few_pads start.args.v _ (width-says) start.requires.0) (right_up_right start.args.kind.now start.requires.2 start.requires.3.few_pads start.args.v _ (width-says) start.requires.0) o, same_on (right_up_left start.args.kind.now start.requires.2 start.requires.3.few_pads start.args.v _ (width-says) start.requires.0) (right_up start.args.kind.now start.requires.2 start.requires.3.few_pads start.args.v _ (width-says) start.requires.0) o)), start.requires.2, st.ready))
-
-pub decide_line_right-detour-requires-then-old-eq-UNDECIDED : goal.decide_line_right-detour-requires-then-old-eq-UNDECIDED
-decide_line_right-detour-requires-then-old-eq-UNDECIDED t c =
+pub shape_right-detour-requires-2 : goal.shape_right-detour-requires-2
+shape_right-detour-requires-2 t c =
     let start = c in
     let detour-says = c.detour.ensures in
     let width-says = c.width-w.ensures in
-    let st = line_is_stored start.args.kind.now _ (right start.args.v) start.requires.2 start.requires.3 start.requires.0 c.if-old-eq-UNDECIDED.true _ refl _ c.begin_line.ensures c.if-board-ge-ENDED.false in ((omega (arith, start.decreases, st.less, detour-says.fewer)), ((omega (arith, start.requires.1, start.requires.2.largest_width, width-says)), (omega (arith, start.requires.1, start.requires.2.largest_width, width-says)), (omega (arith, start.requires.1, start.requires.2.largest_width, width-says)), (λ o. (same_on (right_up_right start.args.kind.now start.requires.2 start.requires.3.few_pads start.args.v _ (width-says) start.requires.0) (right_up_left start.args.kind.now start.requires.2 start.requires.3.few_pads start.args.v _ (width-says) start.requires.0) o, same_on (right_up_right start.args.kind.now start.requires.2 start.requires.3.few_pads start.args.v _ (width-says) start.requires.0) (right_up start.args.kind.now start.requires.2 start.requires.3.few_pads start.args.v _ (width-says) start.requires.0) o)), start.requires.2, detour-says.ready))
+    ((omega (arith, start.decreases, detour-says.fewer)), ((omega (arith, start.requires.1, start.requires.2.largest_width, width-says)), (omega (arith, start.requires.1, start.requires.2.largest_width, width-says)), (omega (arith, start.requires.1, start.requires.2.largest_width, width-says)), (λ o. (same_on (right_up_right start.args.kind.now start.requires.2 start.requires.3.few_pads start.args.v _ (width-says) start.requires.0) (right_up_left start.args.kind.now start.requires.2 start.requires.3.few_pads start.args.v _ (width-says) start.requires.0) o, same_on (right_up_right start.args.kind.now start.requires.2 start.requires.3.few_pads start.args.v _ (width-says) start.requires.0) (right_up start.args.kind.now start.requires.2 start.requires.3.few_pads start.args.v _ (width-says) start.requires.0) o)), start.requires.2, detour-says.ready))
 
-pub decide_line_right-detour-requires-then-old-eq-UNDECIDED-2 : goal.decide_line_right-detour-requires-then-old-eq-UNDECIDED-2
-decide_line_right-detour-requires-then-old-eq-UNDECIDED-2 t c =
+pub shape_right-detour-requires-3 : goal.shape_right-detour-requires-3
+shape_right-detour-requires-3 t c =
     let start = c in
-    let detour2-says = c.detour-then-old-eq-UNDECIDED.ensures in
+    let detour2-says = c.detour-2.ensures in
     let width-says = c.width-w.ensures in
-    let st = line_is_stored start.args.kind.now _ (right start.args.v) start.requires.2 start.requires.3 start.requires.0 c.if-old-eq-UNDECIDED.true _ refl _ c.begin_line.ensures c.if-board-ge-ENDED.false in ((omega (arith, start.decreases, st.less, c.detour.ensures.fewer, detour2-says.fewer)), ((omega (arith, start.requires.1, start.requires.2.largest_width, width-says)), (omega (arith, start.requires.1, start.requires.2.largest_width, width-says)), (omega (arith, start.requires.1, start.requires.2.largest_width, width-says)), (λ o. (same_on (right_up start.args.kind.now start.requires.2 start.requires.3.few_pads start.args.v _ (width-says) start.requires.0) (right_up_left start.args.kind.now start.requires.2 start.requires.3.few_pads start.args.v _ (width-says) start.requires.0) o, same_on (right_up start.args.kind.now start.requires.2 start.requires.3.few_pads start.args.v _ (width-says) start.requires.0) (right_up_right start.args.kind.now start.requires.2 start.requires.3.few_pads start.args.v _ (width-says) start.requires.0) o)), start.requires.2, detour2-says.ready))
+    ((omega (arith, start.decreases, c.detour.ensures.fewer, detour2-says.fewer)), ((omega (arith, start.requires.1, start.requires.2.largest_width, width-says)), (omega (arith, start.requires.1, start.requires.2.largest_width, width-says)), (omega (arith, start.requires.1, start.requires.2.largest_width, width-says)), (λ o. (same_on (right_up start.args.kind.now start.requires.2 start.requires.3.few_pads start.args.v _ (width-says) start.requires.0) (right_up_left start.args.kind.now start.requires.2 start.requires.3.few_pads start.args.v _ (width-says) start.requires.0) o, same_on (right_up start.args.kind.now start.requires.2 start.requires.3.few_pads start.args.v _ (width-says) start.requires.0) (right_up_right start.args.kind.now start.requires.2 start.requires.3.few_pads start.args.v _ (width-says) start.requires.0) o)), start.requires.2, detour2-says.ready))
 
-pub decide_line_right-detour-requires-then-old-eq-UNDECIDED-3 : goal.decide_line_right-detour-requires-then-old-eq-UNDECIDED-3
-decide_line_right-detour-requires-then-old-eq-UNDECIDED-3 t c =
+pub shape_right-detour-requires-4 : goal.shape_right-detour-requires-4
+shape_right-detour-requires-4 t c =
     let start = c in
-    let detour3-says = c.detour-then-old-eq-UNDECIDED-2.ensures in
+    let detour3-says = c.detour-3.ensures in
     let width-says = c.width-w.ensures in
-    let st = line_is_stored start.args.kind.now _ (right start.args.v) start.requires.2 start.requires.3 start.requires.0 c.if-old-eq-UNDECIDED.true _ refl _ c.begin_line.ensures c.if-board-ge-ENDED.false in ((omega (arith, start.decreases, st.less, c.detour.ensures.fewer, c.detour-then-old-eq-UNDECIDED.ensures.fewer, detour3-says.fewer)), ((omega (arith, start.requires.1, start.requires.2.largest_width, width-says)), (omega (arith, start.requires.1, start.requires.2.largest_width, width-says)), (omega (arith, start.requires.1, start.requires.2.largest_width, width-says)), (λ o. (same_on (right_left start.args.kind.now start.requires.2 start.requires.3.few_pads start.args.v _ (width-says) start.requires.0) (right_right start.args.kind.now start.requires.2 start.requires.3.few_pads start.args.v _ (width-says) start.requires.0) o, same_on (right_left start.args.kind.now start.requires.2 start.requires.3.few_pads start.args.v _ (width-says) start.requires.0) (right_below start.args.kind.now start.requires.2 start.requires.3.few_pads start.args.v _ (width-says) start.requires.0) o)), start.requires.2, detour3-says.ready))
+    ((omega (arith, start.decreases, c.detour.ensures.fewer, c.detour-2.ensures.fewer, detour3-says.fewer)), ((omega (arith, start.requires.1, start.requires.2.largest_width, width-says)), (omega (arith, start.requires.1, start.requires.2.largest_width, width-says)), (omega (arith, start.requires.1, start.requires.2.largest_width, width-says)), (λ o. (same_on (right_left start.args.kind.now start.requires.2 start.requires.3.few_pads start.args.v _ (width-says) start.requires.0) (right_right start.args.kind.now start.requires.2 start.requires.3.few_pads start.args.v _ (width-says) start.requires.0) o, same_on (right_left start.args.kind.now start.requires.2 start.requires.3.few_pads start.args.v _ (width-says) start.requires.0) (right_below start.args.kind.now start.requires.2 start.requires.3.few_pads start.args.v _ (width-says) start.requires.0) o)), start.requires.2, detour3-says.ready))
 
-pub decide_line_right-detour-requires-then-old-eq-UNDECIDED-4 : goal.decide_line_right-detour-requires-then-old-eq-UNDECIDED-4
-decide_line_right-detour-requires-then-old-eq-UNDECIDED-4 t c =
+pub shape_right-detour-requires-5 : goal.shape_right-detour-requires-5
+shape_right-detour-requires-5 t c =
     let start = c in
-    let detour4-says = c.detour-then-old-eq-UNDECIDED-3.ensures in
+    let detour4-says = c.detour-4.ensures in
     let width-says = c.width-w.ensures in
-    let st = line_is_stored start.args.kind.now _ (right start.args.v) start.requires.2 start.requires.3 start.requires.0 c.if-old-eq-UNDECIDED.true _ refl _ c.begin_line.ensures c.if-board-ge-ENDED.false in ((omega (arith, start.decreases, st.less, c.detour.ensures.fewer, c.detour-then-old-eq-UNDECIDED.ensures.fewer, c.detour-then-old-eq-UNDECIDED-2.ensures.fewer, detour4-says.fewer)), ((omega (arith, start.requires.1, start.requires.2.largest_width, width-says)), (omega (arith, start.requires.1, start.requires.2.largest_width, width-says)), (omega (arith, start.requires.1, start.requires.2.largest_width, width-says)), (λ o. (same_on (right_right start.args.kind.now start.requires.2 start.requires.3.few_pads start.args.v _ (width-says) start.requires.0) (right_left start.args.kind.now start.requires.2 start.requires.3.few_pads start.args.v _ (width-says) start.requires.0) o, same_on (right_right start.args.kind.now start.requires.2 start.requires.3.few_pads start.args.v _ (width-says) start.requires.0) (right_below start.args.kind.now start.requires.2 start.requires.3.few_pads start.args.v _ (width-says) start.requires.0) o)), start.requires.2, detour4-says.ready))
+    ((omega (arith, start.decreases, c.detour.ensures.fewer, c.detour-2.ensures.fewer, c.detour-3.ensures.fewer, detour4-says.fewer)), ((omega (arith, start.requires.1, start.requires.2.largest_width, width-says)), (omega (arith, start.requires.1, start.requires.2.largest_width, width-says)), (omega (arith, start.requires.1, start.requires.2.largest_width, width-says)), (λ o. (same_on (right_right start.args.kind.now start.requires.2 start.requires.3.few_pads start.args.v _ (width-says) start.requires.0) (right_left start.args.kind.now start.requires.2 start.requires.3.few_pads start.args.v _ (width-says) start.requires.0) o, same_on (right_right start.args.kind.now start.requires.2 start.requires.3.few_pads start.args.v _ (width-says) start.requires.0) (right_below start.args.kind.now start.requires.2 start.requires.3.few_pads start.args.v _ (width-says) start.requires.0) o)), start.requires.2, detour4-says.ready))
 
-pub decide_line_right-detour-requires-then-old-eq-UNDECIDED-5 : goal.decide_line_right-detour-requires-then-old-eq-UNDECIDED-5
-decide_line_right-detour-requires-then-old-eq-UNDECIDED-5 t c =
+pub shape_right-detour-requires-6 : goal.shape_right-detour-requires-6
+shape_right-detour-requires-6 t c =
     let start = c in
-    let detour5-says = c.detour-then-old-eq-UNDECIDED-4.ensures in
+    let detour5-says = c.detour-5.ensures in
     let width-says = c.width-w.ensures in
-    let st = line_is_stored start.args.kind.now _ (right start.args.v) start.requires.2 start.requires.3 start.requires.0 c.if-old-eq-UNDECIDED.true _ refl _ c.begin_line.ensures c.if-board-ge-ENDED.false in ((omega (arith, start.decreases, st.less, c.detour.ensures.fewer, c.detour-then-old-eq-UNDECIDED.ensures.fewer, c.detour-then-old-eq-UNDECIDED-2.ensures.fewer, c.detour-then-old-eq-UNDECIDED-3.ensures.fewer, detour5-says.fewer)), ((omega (arith, start.requires.1, start.requires.2.largest_width, width-says)), (omega (arith, start.requires.1, start.requires.2.largest_width, width-says)), (omega (arith, start.requires.1, start.requires.2.largest_width, width-says)), (λ o. (same_on (right_below start.args.kind.now start.requires.2 start.requires.3.few_pads start.args.v _ (width-says) start.requires.0) (right_left start.args.kind.now start.requires.2 start.requires.3.few_pads start.args.v _ (width-says) start.requires.0) o, same_on (right_below start.args.kind.now start.requires.2 start.requires.3.few_pads start.args.v _ (width-says) start.requires.0) (right_right start.args.kind.now start.requires.2 start.requires.3.few_pads start.args.v _ (width-says) start.requires.0) o)), start.requires.2, detour5-says.ready))
+    ((omega (arith, start.decreases, c.detour.ensures.fewer, c.detour-2.ensures.fewer, c.detour-3.ensures.fewer, c.detour-4.ensures.fewer, detour5-says.fewer)), ((omega (arith, start.requires.1, start.requires.2.largest_width, width-says)), (omega (arith, start.requires.1, start.requires.2.largest_width, width-says)), (omega (arith, start.requires.1, start.requires.2.largest_width, width-says)), (λ o. (same_on (right_below start.args.kind.now start.requires.2 start.requires.3.few_pads start.args.v _ (width-says) start.requires.0) (right_left start.args.kind.now start.requires.2 start.requires.3.few_pads start.args.v _ (width-says) start.requires.0) o, same_on (right_below start.args.kind.now start.requires.2 start.requires.3.few_pads start.args.v _ (width-says) start.requires.0) (right_right start.args.kind.now start.requires.2 start.requires.3.few_pads start.args.v _ (width-says) start.requires.0) o)), start.requires.2, detour5-says.ready))
 
-pub decide_line_right-corner-requires : goal.decide_line_right-corner-requires
-decide_line_right-corner-requires t c =
+pub shape_right-corner-requires : goal.shape_right-corner-requires
+shape_right-corner-requires t c =
     let start = c in
-    let detour6-says = c.detour-then-old-eq-UNDECIDED-5.ensures in
+    let detour6-says = c.detour-6.ensures in
     let width-says = c.width-w.ensures in
-    let st = line_is_stored start.args.kind.now _ (right start.args.v) start.requires.2 start.requires.3 start.requires.0 c.if-old-eq-UNDECIDED.true _ refl _ c.begin_line.ensures c.if-board-ge-ENDED.false in ((omega (arith, start.decreases, st.less, c.detour.ensures.fewer, c.detour-then-old-eq-UNDECIDED.ensures.fewer, c.detour-then-old-eq-UNDECIDED-2.ensures.fewer, c.detour-then-old-eq-UNDECIDED-3.ensures.fewer, c.detour-then-old-eq-UNDECIDED-4.ensures.fewer, detour6-says.fewer)), ((omega (arith, start.requires.1, start.requires.2.largest_width, width-says)), (omega (arith, start.requires.1, start.requires.2.largest_width, width-says)), (λ o. right_corner start.args.kind.now start.requires.2 start.requires.3.few_pads start.args.v _ (width-says) start.requires.0 _ refl o), start.requires.2, detour6-says.ready))
+    ((omega (arith, start.decreases, c.detour.ensures.fewer, c.detour-2.ensures.fewer, c.detour-3.ensures.fewer, c.detour-4.ensures.fewer, c.detour-5.ensures.fewer, detour6-says.fewer)), ((omega (arith, start.requires.1, start.requires.2.largest_width, width-says)), (omega (arith, start.requires.1, start.requires.2.largest_width, width-says)), (λ o. right_corner start.args.kind.now start.requires.2 start.requires.3.few_pads start.args.v _ (width-says) start.requires.0 _ refl o), start.requires.2, detour6-says.ready))
 
-pub decide_line_right-corner-requires-then-old-eq-UNDECIDED : goal.decide_line_right-corner-requires-then-old-eq-UNDECIDED
-decide_line_right-corner-requires-then-old-eq-UNDECIDED t c =
+pub shape_right-corner-requires-2 : goal.shape_right-corner-requires-2
+shape_right-corner-requires-2 t c =
     let start = c in
     let corner-right-says = c.corner.ensures in
     let width-says = c.width-w.ensures in
-    let st = line_is_stored start.args.kind.now _ (right start.args.v) start.requires.2 start.requires.3 start.requires.0 c.if-old-eq-UNDECIDED.true _ refl _ c.begin_line.ensures c.if-board-ge-ENDED.false in ((omega (arith, start.decreases, st.less, c.detour.ensures.fewer, c.detour-then-old-eq-UNDECIDED.ensures.fewer, c.detour-then-old-eq-UNDECIDED-2.ensures.fewer, c.detour-then-old-eq-UNDECIDED-3.ensures.fewer, c.detour-then-old-eq-UNDECIDED-4.ensures.fewer, c.detour-then-old-eq-UNDECIDED-5.ensures.fewer, corner-right-says.fewer)), ((omega (arith, start.requires.1, start.requires.2.largest_width, width-says)), (omega (arith, start.requires.1, start.requires.2.largest_width, width-says)), (λ o. left_corner start.args.kind.now start.requires.2 start.requires.3.few_pads start.args.v _ (width-says) start.requires.0 _ refl o), start.requires.2, corner-right-says.ready))
+    ((omega (arith, start.decreases, c.detour.ensures.fewer, c.detour-2.ensures.fewer, c.detour-3.ensures.fewer, c.detour-4.ensures.fewer, c.detour-5.ensures.fewer, c.detour-6.ensures.fewer, corner-right-says.fewer)), ((omega (arith, start.requires.1, start.requires.2.largest_width, width-says)), (omega (arith, start.requires.1, start.requires.2.largest_width, width-says)), (λ o. left_corner start.args.kind.now start.requires.2 start.requires.3.few_pads start.args.v _ (width-says) start.requires.0 _ refl o), start.requires.2, corner-right-says.ready))
 
-pub decide_line_right-bar-requires : goal.decide_line_right-bar-requires
-decide_line_right-bar-requires t c =
+pub shape_right-bar-requires : goal.shape_right-bar-requires
+shape_right-bar-requires t c =
     let start = c in
-    let corner-left-says = c.corner-then-old-eq-UNDECIDED.ensures in
+    let corner-left-says = c.corner-2.ensures in
     let width-says = c.width-w.ensures in
-    let st = line_is_stored start.args.kind.now _ (right start.args.v) start.requires.2 start.requires.3 start.requires.0 c.if-old-eq-UNDECIDED.true _ refl _ c.begin_line.ensures c.if-board-ge-ENDED.false in ((omega (arith, start.decreases, st.less, c.detour.ensures.fewer, c.detour-then-old-eq-UNDECIDED.ensures.fewer, c.detour-then-old-eq-UNDECIDED-2.ensures.fewer, c.detour-then-old-eq-UNDECIDED-3.ensures.fewer, c.detour-then-old-eq-UNDECIDED-4.ensures.fewer, c.detour-then-old-eq-UNDECIDED-5.ensures.fewer, c.corner.ensures.fewer, corner-left-says.fewer)), ((omega (arith, start.requires.1, start.requires.2.largest_width, width-says)), (omega (arith, start.requires.1, start.requires.2.largest_width, width-says)), right_bar_on start.args.kind.now start.requires.2 start.requires.3.few_pads start.args.v _ (width-says) start.requires.0, start.requires.2, corner-left-says.ready))
+    ((omega (arith, start.decreases, c.detour.ensures.fewer, c.detour-2.ensures.fewer, c.detour-3.ensures.fewer, c.detour-4.ensures.fewer, c.detour-5.ensures.fewer, c.detour-6.ensures.fewer, c.corner.ensures.fewer, corner-left-says.fewer)), ((omega (arith, start.requires.1, start.requires.2.largest_width, width-says)), (omega (arith, start.requires.1, start.requires.2.largest_width, width-says)), right_bar_on start.args.kind.now start.requires.2 start.requires.3.few_pads start.args.v _ (width-says) start.requires.0, start.requires.2, corner-left-says.ready))
 
-pub decide_line_right-bar-requires-then-old-eq-UNDECIDED : goal.decide_line_right-bar-requires-then-old-eq-UNDECIDED
-decide_line_right-bar-requires-then-old-eq-UNDECIDED t c =
+pub shape_right-bar-requires-2 : goal.shape_right-bar-requires-2
+shape_right-bar-requires-2 t c =
     let start = c in
     let bar-says = c.bar.ensures in
     let width-says = c.width-w.ensures in
-    let st = line_is_stored start.args.kind.now _ (right start.args.v) start.requires.2 start.requires.3 start.requires.0 c.if-old-eq-UNDECIDED.true _ refl _ c.begin_line.ensures c.if-board-ge-ENDED.false in ((omega (arith, start.decreases, st.less, c.detour.ensures.fewer, c.detour-then-old-eq-UNDECIDED.ensures.fewer, c.detour-then-old-eq-UNDECIDED-2.ensures.fewer, c.detour-then-old-eq-UNDECIDED-3.ensures.fewer, c.detour-then-old-eq-UNDECIDED-4.ensures.fewer, c.detour-then-old-eq-UNDECIDED-5.ensures.fewer, c.corner.ensures.fewer, c.corner-then-old-eq-UNDECIDED.ensures.fewer, bar-says.fewer)), ((omega (arith, start.requires.1, start.requires.2.largest_width, width-says)), (omega (arith, start.requires.1, start.requires.2.largest_width, width-says)), left_bar_on start.args.kind.now start.requires.2 start.requires.3.few_pads start.args.v _ (width-says) start.requires.0, start.requires.2, bar-says.ready))
+    ((omega (arith, start.decreases, c.detour.ensures.fewer, c.detour-2.ensures.fewer, c.detour-3.ensures.fewer, c.detour-4.ensures.fewer, c.detour-5.ensures.fewer, c.detour-6.ensures.fewer, c.corner.ensures.fewer, c.corner-2.ensures.fewer, bar-says.fewer)), ((omega (arith, start.requires.1, start.requires.2.largest_width, width-says)), (omega (arith, start.requires.1, start.requires.2.largest_width, width-says)), left_bar_on start.args.kind.now start.requires.2 start.requires.3.few_pads start.args.v _ (width-says) start.requires.0, start.requires.2, bar-says.ready))
 
-pub decide_line_right-check-requires : goal.decide_line_right-check-requires
-decide_line_right-check-requires t c =
+pub shape_right-returns : goal.shape_right-returns
+shape_right-returns t c =
     let start = c in
-    let if1-taken = c.if-old-eq-UNDECIDED.true in
-    let bar2-says = c.bar-then-old-eq-UNDECIDED.ensures in
-    let st = line_is_stored start.args.kind.now _ (right start.args.v) start.requires.2 start.requires.3 start.requires.0 (if1-taken) _ refl _ c.begin_line.ensures c.if-board-ge-ENDED.false in ((omega (arith, start.decreases, st.less, c.detour.ensures.fewer, c.detour-then-old-eq-UNDECIDED.ensures.fewer, c.detour-then-old-eq-UNDECIDED-2.ensures.fewer, c.detour-then-old-eq-UNDECIDED-3.ensures.fewer, c.detour-then-old-eq-UNDECIDED-4.ensures.fewer, c.detour-then-old-eq-UNDECIDED-5.ensures.fewer, c.corner.ensures.fewer, c.corner-then-old-eq-UNDECIDED.ensures.fewer, c.bar.ensures.fewer, bar2-says.fewer)), ((omega (arith, (line_first start.args.kind.now _ (right start.args.v) start.requires.2 start.requires.3 start.requires.0 (if1-taken) _ refl), start.requires.3.few_pads)), (λ h. (line_first start.args.kind.now _ (right start.args.v) start.requires.2 start.requires.3 start.requires.0 (if1-taken) _ refl)), start.requires.2, bar2-says.ready))
+    let g = grid_in start.args.kind.now in
+    done_as g (append-nil _) (right_done start.args.kind.now start.requires.2 start.requires.3.few_pads start.args.v _ c.width-w.ensures start.requires.0 _
+    (done_then g c.detour.ensures (done_then g c.detour-2.ensures (done_then g c.detour-3.ensures (done_then g c.detour-4.ensures (done_then g c.detour-5.ensures (done_then g c.detour-6.ensures
+    (done_then g c.corner.ensures (done_then g c.corner-2.ensures (done_then g c.bar.ensures (done_then g c.bar-2.ensures (done_nothing g 1 _ c.bar-2.ensures.ready))))))))))))
 
-pub decide_line_right-check-requires-then-old-eq-UNDECIDED : goal.decide_line_right-check-requires-then-old-eq-UNDECIDED
-decide_line_right-check-requires-then-old-eq-UNDECIDED t c =
+pub shape_down-returns : goal.shape_down-returns
+shape_down-returns t c =
     let start = c in
-    let if1-taken = c.if-old-eq-UNDECIDED.true in
-    let check-says = c.check.ensures in
-    let st = line_is_stored start.args.kind.now _ (right start.args.v) start.requires.2 start.requires.3 start.requires.0 (if1-taken) _ refl _ c.begin_line.ensures c.if-board-ge-ENDED.false in ((omega (arith, start.decreases, st.less, c.detour.ensures.fewer, c.detour-then-old-eq-UNDECIDED.ensures.fewer, c.detour-then-old-eq-UNDECIDED-2.ensures.fewer, c.detour-then-old-eq-UNDECIDED-3.ensures.fewer, c.detour-then-old-eq-UNDECIDED-4.ensures.fewer, c.detour-then-old-eq-UNDECIDED-5.ensures.fewer, c.corner.ensures.fewer, c.corner-then-old-eq-UNDECIDED.ensures.fewer, c.bar.ensures.fewer, c.bar-then-old-eq-UNDECIDED.ensures.fewer, check-says.fewer)), ((omega (arith, (line_second start.args.kind.now _ (right start.args.v) start.requires.2 start.requires.3 start.requires.0 (if1-taken) _ refl), start.requires.3.few_pads)), (λ h. (line_second start.args.kind.now _ (right start.args.v) start.requires.2 start.requires.3 start.requires.0 (if1-taken) _ refl)), start.requires.2, check-says.ready))
-
-pub decide_line_right-check-requires-then-old-eq-UNDECIDED-2 : goal.decide_line_right-check-requires-then-old-eq-UNDECIDED-2
-decide_line_right-check-requires-then-old-eq-UNDECIDED-2 t c =
-    let start = c in
-    let if1-taken = c.if-old-eq-UNDECIDED.true in
-    let check2-says = c.check-then-old-eq-UNDECIDED.ensures in
-    let end-pad-says = c.end_pad-a.ensures in
-    let st = line_is_stored start.args.kind.now _ (right start.args.v) start.requires.2 start.requires.3 start.requires.0 (if1-taken) _ refl _ c.begin_line.ensures c.if-board-ge-ENDED.false in ((omega (arith, start.decreases, st.less, c.detour.ensures.fewer, c.detour-then-old-eq-UNDECIDED.ensures.fewer, c.detour-then-old-eq-UNDECIDED-2.ensures.fewer, c.detour-then-old-eq-UNDECIDED-3.ensures.fewer, c.detour-then-old-eq-UNDECIDED-4.ensures.fewer, c.detour-then-old-eq-UNDECIDED-5.ensures.fewer, c.corner.ensures.fewer, c.corner-then-old-eq-UNDECIDED.ensures.fewer, c.bar.ensures.fewer, c.bar-then-old-eq-UNDECIDED.ensures.fewer, c.check.ensures.fewer, check2-says.fewer)), ((line_end start.args.kind.now _ (right start.args.v) start.requires.2 start.requires.3 start.requires.0 (if1-taken) _ refl start.args.v (line_first start.args.kind.now _ (right start.args.v) start.requires.2 start.requires.3 start.requires.0 (if1-taken) _ refl) _ (end-pad-says)).0, (line_end start.args.kind.now _ (right start.args.v) start.requires.2 start.requires.3 start.requires.0 (if1-taken) _ refl start.args.v (line_first start.args.kind.now _ (right start.args.v) start.requires.2 start.requires.3 start.requires.0 (if1-taken) _ refl) _ (end-pad-says)).1, start.requires.2, check2-says.ready))
-
-pub decide_line_right-check-requires-then-old-eq-UNDECIDED-3 : goal.decide_line_right-check-requires-then-old-eq-UNDECIDED-3
-decide_line_right-check-requires-then-old-eq-UNDECIDED-3 t c =
-    let start = c in
-    let if1-taken = c.if-old-eq-UNDECIDED.true in
-    let check3-says = c.check-then-old-eq-UNDECIDED-2.ensures in
-    let end-pad2-says = c.end_pad-b.ensures in
-    let st = line_is_stored start.args.kind.now _ (right start.args.v) start.requires.2 start.requires.3 start.requires.0 (if1-taken) _ refl _ c.begin_line.ensures c.if-board-ge-ENDED.false in ((omega (arith, start.decreases, st.less, c.detour.ensures.fewer, c.detour-then-old-eq-UNDECIDED.ensures.fewer, c.detour-then-old-eq-UNDECIDED-2.ensures.fewer, c.detour-then-old-eq-UNDECIDED-3.ensures.fewer, c.detour-then-old-eq-UNDECIDED-4.ensures.fewer, c.detour-then-old-eq-UNDECIDED-5.ensures.fewer, c.corner.ensures.fewer, c.corner-then-old-eq-UNDECIDED.ensures.fewer, c.bar.ensures.fewer, c.bar-then-old-eq-UNDECIDED.ensures.fewer, c.check.ensures.fewer, c.check-then-old-eq-UNDECIDED.ensures.fewer, check3-says.fewer)), ((line_end start.args.kind.now _ (right start.args.v) start.requires.2 start.requires.3 start.requires.0 (if1-taken) _ refl _ (line_second start.args.kind.now _ (right start.args.v) start.requires.2 start.requires.3 start.requires.0 (if1-taken) _ refl) _ (end-pad2-says)).0, (line_end start.args.kind.now _ (right start.args.v) start.requires.2 start.requires.3 start.requires.0 (if1-taken) _ refl _ (line_second start.args.kind.now _ (right start.args.v) start.requires.2 start.requires.3 start.requires.0 (if1-taken) _ refl) _ (end-pad2-says)).1, start.requires.2, check3-says.ready))
-
-pub decide_line_right-returns-then-old-eq-UNDECIDED : goal.decide_line_right-returns-then-old-eq-UNDECIDED
-decide_line_right-returns-then-old-eq-UNDECIDED t c = let start = c in line_returns start.args.kind.now _ (right start.args.v) start.requires.2 start.requires.3 start.requires.0 c.if-old-eq-UNDECIDED.true _ refl _ c.begin_line.ensures c.if-board-ge-ENDED.false _ _ c.end_pad-a.ensures c.end_pad-b.ensures _ (right_done start.args.kind.now start.requires.2 start.requires.3.few_pads start.args.v _ c.width-w.ensures start.requires.0 _ (done_then (grid_in start.args.kind.now) c.detour.ensures (done_then (grid_in start.args.kind.now) c.detour-then-old-eq-UNDECIDED.ensures (done_then (grid_in start.args.kind.now) c.detour-then-old-eq-UNDECIDED-2.ensures (done_then (grid_in start.args.kind.now) c.detour-then-old-eq-UNDECIDED-3.ensures (done_then (grid_in start.args.kind.now) c.detour-then-old-eq-UNDECIDED-4.ensures (done_then (grid_in start.args.kind.now) c.detour-then-old-eq-UNDECIDED-5.ensures (done_then (grid_in start.args.kind.now) c.corner.ensures (done_then (grid_in start.args.kind.now) c.corner-then-old-eq-UNDECIDED.ensures (done_then (grid_in start.args.kind.now) c.bar.ensures (done_then (grid_in start.args.kind.now) c.bar-then-old-eq-UNDECIDED.ensures (done_then (grid_in start.args.kind.now) c.check.ensures (done_then (grid_in start.args.kind.now) c.check-then-old-eq-UNDECIDED.ensures (done_then (grid_in start.args.kind.now) c.check-then-old-eq-UNDECIDED-2.ensures c.check-then-old-eq-UNDECIDED-3.ensures)))))))))))))) _ c.end-board.ensures
-
-pub decide_line_right-returns-then-old-eq-LINE : goal.decide_line_right-returns-then-old-eq-LINE
-decide_line_right-returns-then-old-eq-LINE t c = let start = c in line_again start.args.kind.now _ (right start.args.v) start.requires.2 start.requires.3 start.requires.0 c.if-old-eq-LINE.true _ c.end-board-then-old-eq-LINE.ensures
-
-pub decide_line_right-returns : goal.decide_line_right-returns
-decide_line_right-returns t c = let start = c in line_raised start.args.kind.now _ (right start.args.v) start.requires.2 start.requires.3 start.requires.0 c.if-old-eq-UNDECIDED.false c.if-old-eq-LINE.false _ c.stop-board.ensures
+    let g = grid_in start.args.kind.now in
+    done_as g (append-nil _) (down_done start.args.kind.now start.requires.2 start.requires.3.few_pads start.args.v _ c.width-w.ensures start.requires.0 _ _ c.slot_where-if_left.ensures c.slot_where-if_right.ensures _
+    (done_then g c.detour.ensures (done_then g c.detour-2.ensures (done_then g c.detour-3.ensures (done_then g c.detour-4.ensures (done_then g c.detour-5.ensures (done_then g c.detour-6.ensures
+    (done_then g c.corner.ensures (done_then g c.corner-2.ensures (done_then g c.bar.ensures (done_then g c.bar-2.ensures (done_nothing g 1 _ c.bar-2.ensures.ready))))))))))))
 
 pub decide_none-store-requires : goal.decide_none-store-requires
 decide_none-store-requires t c = let start = c in (start.requires.0, none_room start.args.kind.now _ start.args.slot start.requires.0 start.requires.1 start.requires.2 c.if-state-eq-UNDECIDED.true)

@@ -5,28 +5,34 @@ use Prim.Native.Nat.{◌+◌, ◌*◌}
 use Rattle.decision.proofs.+deciding.Given as goal
 
 abbrev pub decreases-bar : goal.decreases-bar
-decreases-bar l = 3 * undecided_in l.board.now.edges + 1
+decreases-bar l = 4 * undecided_in l.board.now.edges + 1
 
 abbrev pub decreases-check : goal.decreases-check
-decreases-check l = 3 * undecided_in l.board.now.edges + 2
+decreases-check l = 4 * undecided_in l.board.now.edges + 2
 
 abbrev pub decreases-check_pad : goal.decreases-check_pad
-decreases-check_pad l = 3 * undecided_in l.board.now.edges + 1
+decreases-check_pad l = 4 * undecided_in l.board.now.edges + 1
 
 abbrev pub decreases-corner : goal.decreases-corner
-decreases-corner l = 3 * undecided_in l.board.now.edges + 1
+decreases-corner l = 4 * undecided_in l.board.now.edges + 1
 
-abbrev pub decreases-decide_line_down : goal.decreases-decide_line_down
-decreases-decide_line_down l = 3 * undecided_in l.board.now.edges
+abbrev pub decreases-decide_line : goal.decreases-decide_line
+decreases-decide_line l = 4 * undecided_in l.board.now.edges
 
-abbrev pub decreases-decide_line_right : goal.decreases-decide_line_right
-decreases-decide_line_right l = 3 * undecided_in l.board.now.edges
+abbrev pub decreases-shape : goal.decreases-shape
+decreases-shape l = 4 * undecided_in l.board.now.edges + 3
+
+abbrev pub decreases-shape_right : goal.decreases-shape_right
+decreases-shape_right l = 4 * undecided_in l.board.now.edges + 2
+
+abbrev pub decreases-shape_down : goal.decreases-shape_down
+decreases-shape_down l = 4 * undecided_in l.board.now.edges + 2
 
 abbrev pub decreases-decide_none : goal.decreases-decide_none
-decreases-decide_none l = 3 * undecided_in l.board.now.edges
+decreases-decide_none l = 4 * undecided_in l.board.now.edges
 
 abbrev pub decreases-detour : goal.decreases-detour
-decreases-detour l = 3 * undecided_in l.board.now.edges + 1
+decreases-detour l = 4 * undecided_in l.board.now.edges + 1
 
 abbrev pub invariant-check_pad-loop-side : goal.invariant-check_pad-loop-side
 invariant-check_pad-loop-side l = Apart l.kind l.initial.board l.v l.w l.code l.side l.board

@@ -2,11 +2,11 @@
 use Rattle.board.specs.DecisionLaws.{refused, accepted, accepted_grid}
 use Rattle.board.proofs.Board.new.Goals as goal
 
-pub returns-then-refusal-ne0 : goal.returns-then-refusal-ne0
-returns-then-refusal-ne0 c = refused _ _ _ _ _ c.grid_refusal-refusal.ensures c.if-refusal-ne0.true c.blank.ensures
-
 pub fresh-requires : goal.fresh-requires
-fresh-requires c = accepted_grid _ _ _ _ _ c.grid_refusal-refusal.ensures c.if-refusal-ne0.false
+fresh-requires c = accepted_grid _ _ _ c.in-Ok.ensures
 
-pub returns : goal.returns
-returns c = accepted _ _ _ _ _ c.grid_refusal-refusal.ensures c.if-refusal-ne0.false c.fresh.ensures
+pub returns-in-Ok : goal.returns-in-Ok
+returns-in-Ok c = accepted _ _ _ c.in-Ok.ensures c.fresh.ensures
+
+pub returns-in-Err : goal.returns-in-Err
+returns-in-Err c = rw (c.number.ensures, c.index.ensures) (refused _ _ _ _ c.in-Err.ensures c.blank.ensures)

@@ -1,0 +1,2 @@
+-- What the answers of the cycle repeat.
+mod Lines
