@@ -11,7 +11,6 @@ use Rattle.tally.specs.Answers.{answer_says}
 use Rattle.walking.specs.Answers.{Walks}
 use Rattle.solver.specs.Answers.{Solves}
 use Rattle.engines.specs.declared.Compared.{Compared}
-use Rattle.engines.specs.CallLaws.{walk_says}
 use Rattle.engines.specs.Equal.{Equal, Compares}
 use Rattle.engines.specs.EqualLaws.{buffer_after}
 
@@ -22,9 +21,8 @@ module _ (height width : ℕ) (cells : List ℤ) (limit limit' : ℕ) (buffer bu
       → (answer_says r after).outcome ≡ 0 → (answer_says r' after').outcome ≡ 0
       → SameList height width (answer_says r after) (answer_says r' after')
   both_calls r after walks r' after' solves walk_complete search_complete =
-      let by_walk = walk_says height width cells limit buffer r after walks in
-      rw (by_walk, solves.equal) (engines_agree height width cells limit limit' buffer buffer'
-      (sym (ap (λ (s : runs.Solved). s.outcome) by_walk) ∙ walk_complete)
+      rw (walks.equal, solves.equal) (engines_agree height width cells limit limit' buffer buffer'
+      (sym (ap (λ (s : runs.Solved). s.outcome) walks.equal) ∙ walk_complete)
       (sym (ap (λ (s : runs.Solved). s.outcome) solves.equal) ∙ search_complete))
 
 -- the answers are equal exactly where both are complete

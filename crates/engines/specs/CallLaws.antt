@@ -1,29 +1,22 @@
--- What the contract of `walk` tells: its answer, and the sizes where it has a layout, so that its records can be measured. Assumes nothing.
-use Rattle.std.specs.Prelude.{ℕ, ◌≤◌, ◌<◌, ◌≡◌, List, ℤ, Result, Ok, Err}
+-- What the contract of `walk` tells of the sizes where it has a layout, so that its records can be measured. Assumes nothing.
+use Rattle.std.specs.Prelude.{ℕ, ◌≤◌, ◌<◌, ◌≡◌, List, ℤ, Result}
 use Rattle.std.proofs.Common.{arith, ap, ◌∙◌}
 use Rattle.std.proofs.Math.Decide.{ℕ_discrete}
 use Rattle.model.specs.Runs as runs
 use Rattle.model.specs.Refusals.{grid_refusal}
 use Rattle.model.specs.RefusalLaws.{not_refused}
-use Rattle.model.specs.Walk as model
 use Rattle.everycode.specs.EveryCode.{walk_is_declined}
 use Rattle.grid.specs.declared.Refusal.{Refusal}
 use Rattle.tally.specs.declared.Solved.{Solved}
 use Rattle.tally.specs.Answers.{answer_says}
 use Rattle.walking.specs.Answers.{Walks}
 
--- the walk's answer is the model's, in the tally's words
-pub walk_says : (height width : ℕ) (cells : List ℤ) (limit : ℕ) (buffer : List ℕ) (r : Result Solved Refusal) (after : List ℕ)
-    → Walks height width cells limit buffer r after → answer_says r after ≡ model.walk height width cells limit buffer
-walk_says height width cells limit buffer (Ok s) after walks = walks.equal
-walk_says height width cells limit buffer (Err refusal) after walks = walks.equal
-
 -- a refused grid has none, and an accepted one has its sizes
 pub layout_sizes : (height width : ℕ) (cells : List ℤ) (limit : ℕ) (buffer : List ℕ) (r : Result Solved Refusal) (after : List ℕ)
     → Walks height width cells limit buffer r after → 0 < (answer_says r after).layouts → (1 ≤ height) × (height ≤ 16) × (1 ≤ width) × (width ≤ 16)
 layout_sizes height width cells limit buffer r after walks some = elim (ℕ_discrete (grid_refusal height width cells).0 0) [
   | no refused ↦
-      let none : (answer_says r after).layouts ≡ 0 = ap (λ (s : runs.Solved). s.layouts) (walk_says height width cells limit buffer r after walks ∙ walk_is_declined height width cells refused limit buffer) in
+      let none : (answer_says r after).layouts ≡ 0 = ap (λ (s : runs.Solved). s.layouts) (walks.equal ∙ walk_is_declined height width cells refused limit buffer) in
       absurd (omega arith)
   | yes fine ↦
       let accepted = not_refused height width cells fine in
