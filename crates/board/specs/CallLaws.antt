@@ -1,6 +1,6 @@
 -- Why each call's answer says what the model's does: the declined calls, the checkpoint, the undo, the decision. It rests on Held.antt.
 use Prim.Native.Nat.{ℕ, suc, ◌+◌, ◌-◌, ◌%◌, ◌≤◌, ◌<◌}
-use Rattle.std.specs.Prelude.{◌≡◌, refl, length, set, get_or}
+use Rattle.std.specs.Prelude.{◌≡◌, refl, length, set, get_or, Ok}
 use Rattle.std.proofs.Common.{ap, ◌∙◌, add-one, lt-ltb, le-ltb}
 use mathlib.Core.List.{List, [], ◌∷◌}
 use native.Mathlib.Omega.{arith}
@@ -12,27 +12,28 @@ use Rattle.boardview.specs.declared.Arrays.{Arrays}
 use Rattle.boardview.specs.View.{logged, grid_in, Kinds, Ready, view}
 use Rattle.boardview.specs.Unwind.{back_to}
 use Rattle.board.specs.Past.{Past, begun, marked, past_fresh, past_marked, same_many, as_many, standing_marks, one_more_mark}
-use Rattle.board.specs.Held.{arrays_of, Held, Says}
+use Rattle.board.specs.Held.{arrays_of, Held, number_of, index_of, Says, declined_with}
+use Rattle.board.specs.declared.Declined.{Declined}
+use Rattle.board.specs.declared.Declined.TheVariants.{NoCheckpoint}
 use Rattle.board.specs.declared.Board.{Board}
 
--- a declined call: number, 0, and the board as it was
-pub declined : {b : Board} {B : model.Board} (number : ℕ) → Held b B
-    → Says (record { number = number; answer = 0; board = b }) (record { number = number; answer = 0; board = B })
-declined number held = record { number = refl; answer = refl; board = held }
+-- a declined call: its number and index, and the board as it was
+pub declined : {b : Board} {B : model.Board} (why : Declined) → Held b B → Says (declined_with why b) (record { number = number_of why; answer = index_of why; board = B })
+declined why held = record { number = refl; answer = refl; board = held }
 
 -- CHECKPOINT
 module _ (b : Board) (B : model.Board) (held : Held b B) where
   standing_same : length B.standing ≡ b.standing
   standing_same = same_many held.past ∙ as_many b.marks b.standing
 
-  pub checkpoint_declined : 256 ≤ b.standing → Says (record { number = 12; answer = 0; board = b }) (model.add_checkpoint B)
+  pub checkpoint_declined : 256 ≤ b.standing → Says (declined_with NoCheckpoint b) (model.add_checkpoint B)
   unfolding model.add_checkpoint
-  checkpoint_declined full = rw (le-ltb (length B.standing) 256 (omega (arith, standing_same)), model.add_checkpoint) (declined 12 held)
+  checkpoint_declined full = rw (le-ltb (length B.standing) 256 (omega (arith, standing_same)), model.add_checkpoint) (declined NoCheckpoint held)
 
   abbrev marked_board : Board
   marked_board = record { arrays = b.arrays; kind = b.kind; fresh = b.fresh; marks = set b.marks b.standing b.arrays.count; standing = b.standing + 1 }
 
-  pub checkpoint_added : b.standing < 256 → Says (record { number = 0; answer = 0; board = marked_board }) (model.add_checkpoint B)
+  pub checkpoint_added : b.standing < 256 → Says (record { said = Ok 0; board = marked_board }) (model.add_checkpoint B)
   unfolding model.add_checkpoint
   checkpoint_added room = rw (lt-ltb (length B.standing) 256 (omega (arith, standing_same)), model.add_checkpoint) (record {
     number = refl;

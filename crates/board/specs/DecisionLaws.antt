@@ -22,7 +22,8 @@ use Rattle.boardfresh.specs.FreshView.{FreshBoard}
 use Rattle.boardview.specs.SameKinds.{shown_decides}
 use Rattle.boardview.specs.Undecided.{enough_here}
 use Rattle.board.specs.Past.{past_since, past_fresh, standing_marks}
-use Rattle.board.specs.Held.{arrays_of, Held, Says}
+use Rattle.board.specs.Held.{arrays_of, Held, Says, declined_with}
+use Rattle.board.specs.declared.Declined.TheVariants.{Grid as of_grid, NoEdge, NoState}
 use Rattle.board.specs.CallLaws.{declined}
 use Rattle.board.specs.declared.Board.{Board}
 use Rattle.board.specs.declared.Answer.{Answer}
@@ -40,7 +41,7 @@ module _ (b : Board) (B : model.Board) (held : Held b B) (e : Edge) (m : EdgeSta
       ∙ ap (λ (f : ℕ). decide B.grid f e m B.state) same_bound
 
   pub decided_says : {answer : ℕ} → answer ≡ num (flag_in s.count)
-      → Says (record { number = 0; answer = answer; board = record { arrays = s; kind = b.kind; fresh = b.fresh; marks = b.marks; standing = b.standing } }) (model.decided B e m)
+      → Says (record { said = Ok answer; board = record { arrays = s; kind = b.kind; fresh = b.fresh; marks = b.marks; standing = b.standing } }) (model.decided B e m)
   unfolding view
   decided_says flag = record {
     number = refl;
@@ -63,21 +64,21 @@ module _ (b : Board) (B : model.Board) (held : Held b B) (y x : ℕ) where
   unfolding model.edge_at
   same_place = λ i. model.edge_at (record { height = held.told.height i; width = held.told.width i; cell = (grid_in b.kind).cell }) y x
 
-  pub no_place_decided : (byte : ℕ) → model.edge_at (grid_in b.kind) y x ≡ no_edge → Says (record { number = 10; answer = 0; board = b }) (model.decide_edge B y x byte)
+  pub no_place_decided : (byte : ℕ) → model.edge_at (grid_in b.kind) y x ≡ no_edge → Says (declined_with NoEdge b) (model.decide_edge B y x byte)
   unfolding model.decide_edge
-  no_place_decided byte at = let there : model.edge_at B.grid y x ≡ no_edge = sym same_place ∙ at in rw there (declined 10 held)
+  no_place_decided byte at = let there : model.edge_at B.grid y x ≡ no_edge = sym same_place ∙ at in rw there (declined NoEdge held)
 
-  pub no_place_read : model.edge_at (grid_in b.kind) y x ≡ no_edge → Says (record { number = 10; answer = 0; board = b }) (model.read_edge B y x)
+  pub no_place_read : model.edge_at (grid_in b.kind) y x ≡ no_edge → Says (declined_with NoEdge b) (model.read_edge B y x)
   unfolding model.read_edge
-  no_place_read at = let there : model.edge_at B.grid y x ≡ no_edge = sym same_place ∙ at in rw there (declined 10 held)
+  no_place_read at = let there : model.edge_at B.grid y x ≡ no_edge = sym same_place ∙ at in rw there (declined NoEdge held)
 
   module _ (e : Edge) (at : model.edge_at (grid_in b.kind) y x ≡ edge e) where
     there : model.edge_at B.grid y x ≡ edge e
     there = sym same_place ∙ at
 
-    pub no_state : (byte : ℕ) → (byte ≡ 1 → ⊥) → (byte ≡ 2 → ⊥) → Says (record { number = 11; answer = 0; board = b }) (model.decide_edge B y x byte)
+    pub no_state : (byte : ℕ) → (byte ≡ 1 → ⊥) → (byte ≡ 2 → ⊥) → Says (declined_with NoState b) (model.decide_edge B y x byte)
     unfolding model.decide_edge
-    no_state byte no_line no_none = rw (there, ne_eqb byte 1 no_line, ne_eqb byte 2 no_none, model.decide_at) (declined 11 held)
+    no_state byte no_line no_none = rw (there, ne_eqb byte 1 no_line, ne_eqb byte 2 no_none, model.decide_at) (declined NoState held)
 
     pub line_decided : (byte : ℕ) → byte ≡ 1 → {r : Answer} → Says r (model.decided B e (line_or_none true)) → Says r (model.decide_edge B y x byte)
     unfolding model.decide_edge
@@ -88,7 +89,7 @@ module _ (b : Board) (B : model.Board) (held : Held b B) (y x : ℕ) where
     none_decided byte no_line is says = rw (there, ne_eqb byte 1 no_line, eq-eqb byte 2 is, model.decide_at) says
 
     -- READING
-    pub edge_read : {byte : ℕ} → byte ≡ model.state_byte ((view (arrays_of b)).edge e) → Says (record { number = 0; answer = byte; board = b }) (model.read_edge B y x)
+    pub edge_read : {byte : ℕ} → byte ≡ model.state_byte ((view (arrays_of b)).edge e) → Says (record { said = Ok byte; board = b }) (model.read_edge B y x)
     unfolding model.read_edge
     edge_read is = rw there (record { number = refl; answer = is ∙ ap (λ S. model.state_byte (S.edge e)) held.shows; board = held })
 
@@ -110,7 +111,7 @@ fresh_held g edges ends kind count log marks new long many = record {
 
 module _ (height width : ℕ) (cells : List ℤ) where
   pub refused : (refusal : Refusal) → refusal_says (Err refusal) ≡ grid_refusal height width cells → {b : Board} → Held b model.blank_board
-      → Says (record { number = number_of refusal; answer = index_of refusal; board = b }) (model.new height width cells)
+      → Says (declined_with (of_grid refusal) b) (model.new height width cells)
   unfolding model.new
   refused refusal is held = rw (← is, ne_eqb (number_of refusal) 0 (some_number refusal), model.new) (record { number = ap (λ (p : ℕ × ℕ). p.0) is; answer = ap (λ (p : ℕ × ℕ). p.1) is; board = held })
     where
@@ -120,7 +121,7 @@ module _ (height width : ℕ) (cells : List ℤ) where
       some_number (Cell index) e = omega arith
 
   pub accepted : refusal_says (Ok tt) ≡ grid_refusal height width cells → {b : Board} → Held b (model.fresh_board (grid_of height width cells))
-      → Says (record { number = 0; answer = 0; board = b }) (model.new height width cells)
+      → Says (record { said = Ok 0; board = b }) (model.new height width cells)
   unfolding model.new
   accepted is held = rw (← is, model.new) (record { number = refl; answer = refl; board = held })
 

@@ -1,14 +1,17 @@
 -- What a board of the code holds of the model's board, and what an answer says. A board that the calls handed out holds one (IsBoard); that,
 -- and no more, is given of it. It rests on Past.antt, boardview's View.antt and the model's Calls.antt.
-use Rattle.std.specs.Prelude.{ℕ, ◌*◌, ◌%◌, ◌≤◌, ◌≡◌, length, take}
+use Rattle.std.specs.Prelude.{ℕ, ◌*◌, ◌%◌, ◌≤◌, ◌≡◌, length, take, Result, Ok, Err}
 use Rattle.rules.specs.Grid.{places}
 use Rattle.model.specs.Calls as model
+use Rattle.grid.specs.Answers as grid
 use Rattle.boardview.specs.declared.Arrays.{Arrays}
 use Rattle.boardview.specs.View.{grid_in, Kinds, Ready, view}
 use Rattle.boardview.specs.SameKinds.{Shows as Told}
 use Rattle.board.specs.Past.{Past, standing_marks}
 use Rattle.board.specs.declared.Board.{Board}
 use Rattle.board.specs.declared.Answer.{Answer}
+use Rattle.board.specs.declared.Declined.{Declined}
+use Rattle.board.specs.declared.Declined.TheVariants.{Grid, NoEdge, NoState, NoCheckpoint}
 use Rattle.board.specs.declared.Shown.{Shown}
 
 -- the arrays of a board
@@ -30,15 +33,36 @@ pub record Held (b : Board) (B : model.Board) : Type 0 where
 abbrev pub IsBoard : Board → Type 0
 IsBoard b = (B : model.Board) × Held b B
 
+-- WHAT AN ANSWER SAYS: document 01's number, 0 if accepted; and the answer, beside a number the index of the first bad cell, or 0
+abbrev pub number_of : Declined → ℕ
+number_of (Grid refusal) = grid.number_of refusal
+number_of NoEdge = 10
+number_of NoState = 11
+number_of NoCheckpoint = 12
+
+abbrev pub index_of : Declined → ℕ
+index_of (Grid refusal) = grid.index_of refusal
+index_of NoEdge = 0
+index_of NoState = 0
+index_of NoCheckpoint = 0
+
+abbrev pub number_said : Result ℕ Declined → ℕ
+number_said (Ok answer) = 0
+number_said (Err why) = number_of why
+
+abbrev pub answer_said : Result ℕ Declined → ℕ
+answer_said (Ok answer) = answer
+answer_said (Err why) = index_of why
+
 -- AN ANSWER: number and answer are the model's, and so is what the board holds
 pub record Says (r : Answer) (A : model.Answer) : Type 0 where
-  pub number : r.number ≡ A.number
-  pub answer : r.answer ≡ A.answer
+  pub number : number_said r.said ≡ A.number
+  pub answer : answer_said r.said ≡ A.answer
   pub board : Held r.board A.board
 
--- a declined call: its number, and the board as it was
-abbrev pub declined_with : ℕ → Board → Answer
-declined_with number b = record { number = number; answer = 0; board = b }
+-- a declined call: why, and the board as it was
+abbrev pub declined_with : Declined → Board → Answer
+declined_with why b = record { said = Err why; board = b }
 
 -- WHAT A BOARD SHOWS: its sizes, edges as a record, ends and flag; past them the arrays are of no account
 pub record Shows (r : Shown) (B : model.Board) : Type 0 where

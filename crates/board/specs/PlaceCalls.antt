@@ -1,6 +1,6 @@
 -- The calls on the pads that the code finds at a place: declined where there are none, else the call on the edge between them. It rests on
 -- PlaceLaws.antt and DecisionLaws.antt.
-use Rattle.std.specs.Prelude.{ℕ, ◌<◌, ◌≡◌, true, false, Some, None}
+use Rattle.std.specs.Prelude.{ℕ, ◌<◌, ◌≡◌, true, false, Some, None, Ok}
 use Rattle.std.proofs.Common.{◌∙◌, arith}
 use Rattle.std.proofs.Math.Path.{ap}
 use Rattle.std.proofs.Math.ListN.{get_or}
@@ -14,7 +14,8 @@ use Rattle.boardview.specs.View.{slot, grid_in, view}
 use Rattle.boardview.specs.ShownRecord.{edges_only}
 use Rattle.boardview.specs.ShownRecordLaws.{edge_byte}
 use Rattle.board.specs.PlaceLaws.{told_on_board, none_there, one_there}
-use Rattle.board.specs.Held.{Held, Says}
+use Rattle.board.specs.Held.{Held, Says, declined_with}
+use Rattle.board.specs.declared.Declined.TheVariants.{NoEdge, NoState}
 use Rattle.board.specs.DecisionLaws.{no_place_decided, no_place_read, no_state, line_decided, none_decided, edge_read}
 use Rattle.board.specs.declared.Board.{Board}
 use Rattle.board.specs.declared.Answer.{Answer}
@@ -22,10 +23,10 @@ use Rattle.board.specs.declared.Answer.{Answer}
 module _ (b : Board) (B : model.Board) (held : Held b B) (y x : ℕ) where
   -- no pads
   module _ (none : None ≡ pads_of (grid_in b.kind).width (model.edge_at (grid_in b.kind) y x)) where
-    pub declined_decision : (byte : ℕ) → Says (record { number = 10; answer = 0; board = b }) (model.decide_edge B y x byte)
+    pub declined_decision : (byte : ℕ) → Says (declined_with NoEdge b) (model.decide_edge B y x byte)
     declined_decision byte = no_place_decided b B held y x byte (none_there (grid_in b.kind) y x none)
 
-    pub declined_reading : Says (record { number = 10; answer = 0; board = b }) (model.read_edge B y x)
+    pub declined_reading : Says (declined_with NoEdge b) (model.read_edge B y x)
     declined_reading = no_place_read b B held y x (none_there (grid_in b.kind) y x none)
 
   -- the pads that are found
@@ -45,10 +46,10 @@ module _ (b : Board) (B : model.Board) (held : Held b B) (y x : ℕ) where
     pub says_none : (byte : ℕ) → (byte ≡ 1 → ⊥) → byte ≡ 2 → {r : Answer} → Says r (model.decided B (edge_of pads) (line_or_none false)) → Says r (model.decide_edge B y x byte)
     says_none byte not_one two says = none_decided b B held y x (edge_of pads) there byte not_one two says
 
-    pub says_no_state : (byte : ℕ) → (byte ≡ 1 → ⊥) → (byte ≡ 2 → ⊥) → Says (record { number = 11; answer = 0; board = b }) (model.decide_edge B y x byte)
+    pub says_no_state : (byte : ℕ) → (byte ≡ 1 → ⊥) → (byte ≡ 2 → ⊥) → Says (declined_with NoState b) (model.decide_edge B y x byte)
     says_no_state byte not_one not_two = no_state b B held y x (edge_of pads) there byte not_one not_two
 
-    pub says_byte : (n : ℕ) → n ≡ slot (edge_of pads) → n < 1024 → {byte : ℕ} → byte ≡ get_or b.arrays.edges n 0 → Says (record { number = 0; answer = byte; board = b }) (model.read_edge B y x)
+    pub says_byte : (n : ℕ) → n ≡ slot (edge_of pads) → n < 1024 → {byte : ℕ} → byte ≡ get_or b.arrays.edges n 0 → Says (record { said = Ok byte; board = b }) (model.read_edge B y x)
     unfolding edges_only view
     says_byte n is inside same = edge_read b B held y x (edge_of pads) there
         (same ∙ ap (λ (k : ℕ). get_or b.arrays.edges k 0) is ∙ edge_byte b.arrays.edges held.ready.edges_long held.ready.bytes (edge_of pads) (rw is at inside))

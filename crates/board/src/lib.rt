@@ -11,13 +11,13 @@ ghost use Rattle.model.specs.Calls as model;
 ghost use Rattle.grid.specs.PadsAt.{pads_of, edge_of};
 ghost use Rattle.boardview.specs.View.{flag_in, grid_in, Kinds, Ready, Decided};
 ghost use Rattle.boardview.specs.ShownRecord.{record_shown};
-ghost use Rattle.board.specs.Held.{Held, IsBoard, Says, Shows, declined_with};
+ghost use Rattle.board.specs.Held.{Held, IsBoard, number_said, answer_said, Says, Shows, declined_with};
 ghost use Rattle.board.specs.ShowLaws.{Laid, end_at_index};
 ghost use Rattle.board.specs.CallLaws.{CanGoBack, board_back};
 
 use boardparts::{Direction, FLAGGED};
 use boardview::Arrays;
-use grid::{Edge, Pads};
+use grid::{Edge, Pads, Refusal};
 
 // The most checkpoints that may stand.
 const MOST_CHECKPOINTS: usize = 256;
@@ -33,12 +33,47 @@ pub struct Board {
     standing: usize,
 }
 
-// What a call hands back: document 01's number, 0 if accepted; its answer, 0 beside a number; the board.
+// Why a call is declined: the grid of a new board is, there is no edge at the place, the state is neither a line nor none, or as many
+// checkpoints stand as may.
+#[derive(Clone, Copy, PartialEq, Eq)]
+pub enum Declined {
+    Grid(Refusal),
+    NoEdge,
+    NoState,
+    NoCheckpoint,
+}
+
+// What a call hands back: its answer, or why it is declined; and the board.
 #[derive(Clone, Copy)]
 pub struct Answer {
-    pub number: u8,
-    pub answer: usize,
+    pub said: Result<usize, Declined>,
     pub board: Board,
+}
+
+impl Answer {
+    // Document 01's number, 0 if accepted.
+    pub fn number(&self) -> u8
+        ensures { result ≡ number_said self.now.said }
+    {
+        match self.said {
+            Ok(_) => 0,
+            Err(Declined::Grid(refusal)) => refusal.number(),
+            Err(Declined::NoEdge) => 10,
+            Err(Declined::NoState) => 11,
+            Err(Declined::NoCheckpoint) => 12,
+        }
+    }
+
+    // The answer; beside a number it is the index of the first bad cell of a grid, or 0.
+    pub fn answer(&self) -> usize
+        ensures { result ≡ answer_said self.now.said }
+    {
+        match self.said {
+            Ok(answer) => answer,
+            Err(Declined::Grid(refusal)) => refusal.index(),
+            Err(_) => 0,
+        }
+    }
 }
 
 // What a board shows: its sizes, the record of its edges, its end numbers, its flag.
@@ -84,13 +119,12 @@ fn flag_number(count: usize) -> usize
     if count < FLAGGED { 0 } else { 1 }
 }
 
-// A declined call: its number, and the board as it was.
-fn declined(board: Board, number: u8) -> Answer
-    ensures { result ≡ declined_with number board }
+// A declined call: why, and the board as it was.
+fn decline(board: Board, why: Declined) -> Answer
+    ensures { result ≡ declined_with why board }
 {
     Answer {
-        number,
-        answer: 0,
+        said: Err(why),
         board,
     }
 }
@@ -129,8 +163,7 @@ fn decided(board: Board, pads: Pads, line: bool) -> Answer
     decide_pads(&mut after.arrays, &after.kind, pads, line);
     let answer = flag_number(after.arrays.count);
     Answer {
-        number: 0,
-        answer,
+        said: Ok(answer),
         board: after,
     }
 }
@@ -173,15 +206,10 @@ impl Board {
     {
         match grid::grid_refusal(height, width, cells) {
             Ok(()) => Answer {
-                number: 0,
-                answer: 0,
+                said: Ok(0),
                 board: fresh(height, width, cells),
             },
-            Err(refusal) => Answer {
-                number: refusal.number(),
-                answer: refusal.index(),
-                board: blank(),
-            },
+            Err(refusal) => decline(blank(), Declined::Grid(refusal)),
         }
     }
 
@@ -191,7 +219,7 @@ impl Board {
         ensures { (B : model.Board) → Held self B → Says result (model.decide_edge B y x state.0) }
     {
         let Some(pads) = pads_at(&self.kind, y, x) else {
-            return declined(self, 10);
+            return decline(self, Declined::NoEdge);
         };
         if state == Edge::LINE {
             return decided(self, pads, true);
@@ -199,7 +227,7 @@ impl Board {
         if state == Edge::NONE {
             return decided(self, pads, false);
         }
-        declined(self, 11)
+        decline(self, Declined::NoState)
     }
 
     // Reads the edge at a place, any numbers; 10 no such edge place; accepted, the answer is the edge's byte.
@@ -208,12 +236,11 @@ impl Board {
         ensures { (B : model.Board) → Held self B → Says result (model.read_edge B y x) }
     {
         let Some(pads) = pads_at(&self.kind, y, x) else {
-            return declined(self, 10);
+            return decline(self, Declined::NoEdge);
         };
         let byte = self.arrays.edges[boardrecord::slot_of(pads)];
         Answer {
-            number: 0,
-            answer: boardparts::wide(byte),
+            said: Ok(boardparts::wide(byte)),
             board: self,
         }
     }
@@ -225,14 +252,13 @@ impl Board {
     {
         let standing = self.standing;
         if standing >= MOST_CHECKPOINTS {
-            return declined(self, 12);
+            return decline(self, Declined::NoCheckpoint);
         }
         let mut board = self;
         board.marks[standing] = self.arrays.count;
         board.standing = standing + 1;
         Answer {
-            number: 0,
-            answer: 0,
+            said: Ok(0),
             board,
         }
     }

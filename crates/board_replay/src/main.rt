@@ -25,8 +25,7 @@ fn called(board: Board, first: u8, column: u8) -> Answer
     match first / 32 {
         0 => board.add_checkpoint(),
         1 => Answer {
-            number: 0,
-            answer: 0,
+            said: Ok(0),
             board: board.undo(),
         },
         2 => board.get_edge(y, x),
@@ -61,7 +60,7 @@ fn sum_of_calls(stream: &[u8], place: usize, calls: usize, fresh: Board) -> u64
         let at = later(place, 2 * call);
         let answer = called(board, byte_at(stream, at), byte_at(stream, later(at, 1)));
         board = answer.board;
-        sum = taken_board(sum, answer.answer, board);
+        sum = taken_board(sum, answer.answer(), board);
     }
     sum
 }

@@ -19,7 +19,7 @@ use Rattle.model.specs.Board.{EdgeState, undecided, line, none, State, decide, e
 use Rattle.model.specs.Refusals.{first_bad_cell, grid_refusal}
 use Rattle.model.specs.RefusalLaws.{size_of_test}
 use Rattle.model.specs.Calls.{Board, Answer, state_byte, decide_edge, decide_at, edge_at, read_edge, read_at, add_checkpoint, undo, undo_to, fresh_board, new}
-use Rattle.board.specs.Held.{Held, Says}
+use Rattle.board.specs.Held.{Held, answer_said, Says}
 use Rattle.board.specs.declared.Board as code
 use Rattle.board.specs.declared.Answer as code_answer
 use Rattle.hunekowha.specs.Replay.{Given, fresh_answer, called, block, block_size, blocks, all_blocks}
@@ -125,7 +125,7 @@ unfolding decide_edge read_edge
 called_small g b kind row column state = by_kind (λ A. A.answer ≤ 255) g b kind row column state
     (decided_small b (edge_at b.grid row column) state) (read_small b (edge_at b.grid row column)) (checkpoint_small b) (omega arith) (fresh_small g)
 
-pub said_small : {r : code_answer.Answer} {A : Answer} → Says r A → A.answer ≤ 255 → r.answer ≤ 255
+pub said_small : {r : code_answer.Answer} {A : Answer} → Says r A → A.answer ≤ 255 → answer_said r.said ≤ 255
 said_small says small = omega (arith, says.answer)
 
 -- THE BLOCKS, call by call

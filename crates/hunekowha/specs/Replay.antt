@@ -5,7 +5,7 @@ use Rattle.std.specs.Prelude.{ℕ, ◌+◌, ◌*◌, ◌/◌, ◌≤◌, ◌≡�
 use Rattle.rules.specs.Grid.{places, pads}
 use Rattle.rules.specs.Drawing.{num}
 use Rattle.model.specs.Calls.{Board, Answer, new, decide_edge, read_edge, add_checkpoint, undo, shown}
-use Rattle.board.specs.Held.{Held, Says}
+use Rattle.board.specs.Held.{Held, answer_said, Says}
 use Rattle.board.specs.declared.Answer as code
 use Rattle.board.specs.declared.Board as codeboard
 use Rattle.hunekowha.specs.Lent.{written}
@@ -66,7 +66,7 @@ replay_gives g calls answer =
 pub record Writable (made : code.Answer) (place room : ℕ) : Type 0 where
   pub says : Answer
   pub said : Says made says
-  pub small : made.answer ≤ 255
+  pub small : answer_said made.said ≤ 255
   pub fits : place + block_size says.board ≤ room
 
 -- what writing all blocks asks: a fresh board of the grid, the size of a block, the number of calls, and room

@@ -199,8 +199,7 @@ fn called(
         2 => board.get_edge(row, column),
         3 => board.add_checkpoint(),
         4 => Answer {
-            number: 0,
-            answer: 0,
+            said: Ok(0),
             board: board.undo(),
         },
         _ => Board::new(height, width, cells),
@@ -231,7 +230,7 @@ fn put_block(answer: &mut [i64], place: usize, made: Answer)
     let edges = shown.edges;
     let ends = shown.ends;
     let flag = shown.flag;
-    let head = [made.number, made.answer as u8, flag as u8];
+    let head = [made.number(), made.answer() as u8, flag as u8];
     lend::put_bytes(answer, place, &head);
     lend::put_bytes(answer, place + 3, &edges[..places]);
     lend::put(answer, place + 3 + places, &ends[..height * width]);

@@ -5,7 +5,7 @@ use Rattle.board.specs.Sizes.{in_range, few_places, few_pads}
 use lib.Seq.{length-take-le}
 use lib.ListN.{length}
 use native.Mathlib.Omega.{arith}
-use mathlib.Core.Path.{◌≡◌, sym, ap}
+use mathlib.Core.Path.{◌≡◌, sym, ap, ◌∙◌}
 use borrow.Author.Rules.{rules}
 use Rattle.hunekowha.proofs.put_block.Goals as goal
 
@@ -49,4 +49,4 @@ pub put-requires : goal.put-requires
 put-requires c = room_for_ends _ _ c.requires.says _ (c.shown-shown.ensures _ c.requires.said.board) c.requires.fits _ _ _ _ c.put_bytes.ensures _ c.put_bytes-2.ensures
 
 pub returns : goal.returns
-returns c = λ A says. block_written _ _ A _ (c.shown-shown.ensures _ says.board) (omega (arith, c.requires.fits, size_shown (c.shown-shown.ensures _ c.requires.said.board), size_shown (c.shown-shown.ensures _ says.board))) _ _ _ _ c.put_bytes.ensures _ c.put_bytes-2.ensures says.number says.answer (ap num (c.shown-shown.ensures _ says.board).flag) _ c.put.ensures
+returns c = λ A says. block_written _ _ A _ (c.shown-shown.ensures _ says.board) (omega (arith, c.requires.fits, size_shown (c.shown-shown.ensures _ c.requires.said.board), size_shown (c.shown-shown.ensures _ says.board))) _ _ _ _ c.put_bytes.ensures _ c.put_bytes-2.ensures (c.number.ensures ∙ says.number) (c.answer.ensures ∙ says.answer) (ap num (c.shown-shown.ensures _ says.board).flag) _ c.put.ensures

@@ -4,7 +4,7 @@ use Rattle.board.specs.PlaceCalls.{declined_decision, on_it, says_line, says_non
 use Rattle.board.proofs.Board.decide_edge.Goals as goal
 
 pub returns-in_default : goal.returns-in_default
-returns-in_default c = λ B held. rw c.declined.ensures (declined_decision _ B held _ _ (search rules) _)
+returns-in_default c = λ B held. rw c.decline.ensures (declined_decision _ B held _ _ (search rules) _)
 
 pub decided-requires : goal.decided-requires
 decided-requires c = (c.requires, on_it _ _ c.requires.1 _ _ _ c.in-Some.ensures)
@@ -19,4 +19,4 @@ pub returns-then-eq-2 : goal.returns-then-eq-2
 returns-then-eq-2 c = λ B held. says_none _ B held _ _ _ c.in-Some.ensures _ (search rules) (search rules) (c.decided-then-eq-2.ensures B held)
 
 pub returns : goal.returns
-returns c = λ B held. rw c.declined-2.ensures (says_no_state _ B held _ _ _ c.in-Some.ensures _ (search rules) (search rules))
+returns c = λ B held. rw c.decline-2.ensures (says_no_state _ B held _ _ _ c.in-Some.ensures _ (search rules) (search rules))

@@ -4,7 +4,7 @@ use Rattle.board.specs.PlaceCalls.{declined_reading, inside_it, says_byte}
 use Rattle.board.proofs.Board.get_edge.Goals as goal
 
 pub returns-in_default : goal.returns-in_default
-returns-in_default c = λ B held. rw c.declined.ensures (declined_reading _ B held _ _ (search rules))
+returns-in_default c = λ B held. rw c.decline.ensures (declined_reading _ B held _ _ (search rules))
 
 pub slot_of-requires : goal.slot_of-requires
 slot_of-requires c = inside_it _ _ c.requires.1 _ _ _ c.in-Some.ensures

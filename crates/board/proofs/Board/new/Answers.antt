@@ -9,4 +9,4 @@ pub returns-in-Ok : goal.returns-in-Ok
 returns-in-Ok c = accepted _ _ _ c.in-Ok.ensures c.fresh.ensures
 
 pub returns-in-Err : goal.returns-in-Err
-returns-in-Err c = rw (c.number.ensures, c.index.ensures) (refused _ _ _ _ c.in-Err.ensures c.blank.ensures)
+returns-in-Err c = rw c.decline.ensures (refused _ _ _ _ c.in-Err.ensures c.blank.ensures)

@@ -1,6 +1,0 @@
--- `board::declined` meets its contract. Assumes nothing.
-use mathlib.Core.Path.{refl}
-use Rattle.board.proofs.declined.Goals as goal
-
-pub returns : goal.returns
-returns c = refl
