@@ -68,7 +68,12 @@ fn print_progress(progress: &impl Print, visited: u64, layouts: u64) {
 }
 
 // One run, of which it is said how far it has come; nothing is said of a refused file.
-fn run(progress: &impl Print, file: &[u8], limit: u64, buffer: &mut [u8]) -> Result<Heading, Declined>
+fn run(
+    progress: &impl Print,
+    file: &[u8],
+    limit: u64,
+    buffer: &mut [u8],
+) -> Result<Heading, Declined>
     ensures { Headed limit file.now buffer.old result buffer.new }
 {
     let head = listing::head(file, limit, buffer);
@@ -91,7 +96,12 @@ fn is_spent(head: Result<Heading, Declined>) -> bool
 
 // Reads the file, searches its grid into the buffer with growing limits, and gives the head of the text. It ends with a run that is not spent, since
 // a higher limit changes nothing then, or with the limit that is asked for.
-pub fn head(progress: &impl Print, file: &[u8], limit: u64, buffer: &mut [u8]) -> Result<Heading, Declined>
+pub fn head(
+    progress: &impl Print,
+    file: &[u8],
+    limit: u64,
+    buffer: &mut [u8],
+) -> Result<Heading, Declined>
     ensures { Headed limit file.now buffer.old result buffer.new }
 {
     let mut reached = first_limit(limit);
