@@ -257,10 +257,7 @@ impl Board {
         let mut board = self;
         board.marks[standing] = self.arrays.count;
         board.standing = standing + 1;
-        Answer {
-            said: Ok(0),
-            board,
-        }
+        Answer { said: Ok(0), board }
     }
 
     // Back to the last checkpoint not yet undone, or to the fresh board.
