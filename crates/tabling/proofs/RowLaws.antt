@@ -6,13 +6,11 @@ use mathlib.Core.Bool.{Bool, true, false, not}
 use mathlib.Core.List.{List, [], ◌∷◌, ◌++◌, map, map-append, append_assoc}
 use native.Mathlib.Nat.{add-sub_cancel_left}
 use native.Mathlib.Numerals.{add-one}
-use native.Mathlib.Omega.{arith}
 use borrow.Author.Tests.{not-true, not-false, le-ltb, lt-ltb}
 use lib.Dec.{ltb}
-use lib.ListN.{length, get_or, take, drop, set, length-append, length-take, length-map}
+use lib.ListN.{length, get_or, take, drop, length-append, length-map}
 use lib.Seq.{take-suc, length-take-le}
 use Rattle.model.specs.Bounds.{is_size}
-use Rattle.model.specs.RefusalLaws.{size_of_test}
 use Rattle.model.specs.Text.{bytes, line_end}
 use Rattle.model.specs.Decimal.{digit_byte}
 use Rattle.rules.specs.Grid.{field_side}

@@ -27,7 +27,7 @@ use Rattle.reading.specs.ReadingLaws.{SoundReading, read_sound}
 use Rattle.reading.specs.LongFiles.{first_bytes_suffice}
 use Rattle.gridfile.specs.declared.Declined.{Declined}
 use Rattle.tabling.specs.declared.Heading.{Heading}
-use Rattle.tabling.specs.Tabling.{rows_printed, common_head, reading_head, row_text, text_of, width_of, rows_of, Headed}
+use Rattle.tabling.specs.Tabling.{rows_printed, common_head, reading_head, row_text, width_of, rows_of, Headed}
 use Rattle.tabling.specs.TableRows.{rows_from, small_digits}
 use Rattle.tabling.specs.Whole.{head_text, grid_text, row_bytes, all_bytes}
 use Rattle.tabling.proofs.TableRows.{all_rows}

@@ -20,7 +20,6 @@ use Rattle.copper.specs.declared.NoTable.TheVariants.{Grid, Short, Incomplete}
 use Rattle.copper.specs.Answers.{search_says, common_says}
 use Rattle.listing.specs.Listing.{head_text}
 use Rattle.listing.specs.HeadLaws.{some_fault}
-use Rattle.tabling.specs.declared.Heading.{Heading}
 use Rattle.tabling.specs.Tabling.{rows_printed, common_head, reading_head, found_in, rows_in, Headed}
 
 -- ## What was found

@@ -16,7 +16,7 @@ pub shared_ref_as_front-solve : goal.shared_ref_as_front-solve
 shared_ref_as_front-solve c = omega (arith, pads_fit _ _ c.in_ok-grid.ensures, cells_fit _ _ c.in_ok-grid.ensures)
 
 pub unreachable-requires : goal.unreachable-requires
-unreachable-requires c = never_declined _ _ _ _ c.in_ok-grid.ensures _ _ c.in-Err.ensures
+unreachable-requires c = never_declined _ _ _ c.in_ok-grid.grid c.in_ok-grid.ensures _ _ c.in-Err.ensures
 
 pub returns : goal.returns
-returns c = accepted_head _ _ _ _ c.in_ok-grid.ensures _ _ c.in-Ok.ensures
+returns c = accepted_head _ _ _ c.in_ok-grid.grid c.in_ok-grid.ensures _ _ c.in-Ok.ensures

@@ -16,7 +16,7 @@ pub shared_ref_as_front-cells : goal.shared_ref_as_front-cells
 shared_ref_as_front-cells c = omega (arith, pads_fit _ _ c.in_ok-grid.ensures, cells_fit _ _ c.in_ok-grid.ensures)
 
 pub rows_in-requires : goal.rows_in-requires
-rows_in-requires c = tall _ _ c.in_ok-grid.ensures
+rows_in-requires c = tall _ c.in_ok-grid.grid c.in_ok-grid.ensures
 
 pub returns : goal.returns
-returns c = rw (c.found_in.ensures, c.rows_in.ensures) (accepted_head _ _ c.in_ok-grid.ensures _ _ _ _ _ c.common-common.ensures)
+returns c = rw (c.found_in.ensures, c.rows_in.ensures) (accepted_head _ c.in_ok-grid.grid c.in_ok-grid.ensures _ _ _ _ _ c.common-common.ensures)

@@ -1,5 +1,5 @@
 -- `tabling::push_digits` meets its contract. The loop's invariant: a digit is put for each byte that was passed. Assumes nothing.
-use Rattle.std.proofs.Common.{sym, ◌∙◌, arith, append-nil}
+use Rattle.std.proofs.Common.{sym, arith, append-nil}
 use Rattle.tabling.proofs.RowLaws.{digit_pushed, so_far_long}
 use Rattle.tabling.proofs.push_digits.Goals as goal
 

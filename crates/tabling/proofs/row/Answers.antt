@@ -1,7 +1,7 @@
 -- `tabling::row` meets its contract: nothing where there is no row k, else the digits of that part of the table and the line's end.
 -- Assumes nothing.
 use native.Mathlib.Omega.{arith}
-use lib.ListN.{length, length-take, length-append, length-map}
+use lib.ListN.{length-take, length-append, length-map}
 use Rattle.std.proofs.Common.{sym, ◌∙◌}
 use Rattle.model.specs.RefusalLaws.{size_of_test}
 use Rattle.tabling.proofs.RowLaws.{its_row, nothing, row_written}
