@@ -3,14 +3,14 @@
 use Rattle.std.specs.Prelude.{ℕ, ◌≤◌, ◌<◌, ◌≡◌, true, Option, Some, None}
 use Rattle.std.proofs.Math.Path.{refl, ap}
 use Rattle.std.proofs.Common.{sym, ◌∙◌, subst, arith}
-use Rattle.rules.specs.Grid.{right, down, edge, no_edge, place_at, field_side, Grid, pads, OnBoard}
-use Rattle.rules.specs.Places.{first_inside}
+use Rattle.rules.specs.Grid.{Edge, right, down, edge, no_edge, place_at, field_side, Grid, pads, OnBoard}
+use Rattle.rules.specs.Places.{first_inside, zero≢one}
 use Rattle.model.specs.PadTests.{on_board}
 use Rattle.model.specs.Board.{EdgeState}
 use Rattle.model.specs.BoardLaws.{on_board_test}
 use Rattle.model.specs.Calls.{edge_at}
 use Rattle.model.specs.EdgeAtLaws.{row_outside, column_outside, in_field, edge_at_on}
-use Rattle.grid.specs.PadsAt.{pads_of, edge_of, place_of, told_place}
+use Rattle.grid.specs.PadsAt.{pads_of, edge_of, place_of, IfEdge, edge_nowhere, told_place}
 use Rattle.grid.specs.declared.Pads.{Pads}
 use Rattle.grid.specs.declared.Pads.TheVariants.{Beside, Above}
 use Rattle.boardview.specs.declared.Arrays.{Arrays}
@@ -32,6 +32,12 @@ module _ (g : Grid) (y x : ℕ) where
     pads_in_field column_in width is are = are ∙ ap (λ (w : ℕ). pads_of w (place_at w y x)) is ∙ ap (pads_of g.width) (sym (in_field g y x row_in column_in))
 
 -- WHAT THE PADS TELL OF
+pub told_edge : (g : Grid) (y x : ℕ) (there : Option Pads) → there ≡ pads_of g.width (edge_at g y x) → place_of there ≡ edge_at g y x
+told_edge g y x there are = told_place g.width (edge_at g y x) are
+
+pub nothing_decided : (there : Option Pads) → there ≡ None → (So : Edge → Type 0) → IfEdge (place_of there) So
+nothing_decided there none So e is = let k : no_edge ≡ edge e = sym (edge_nowhere there none) ∙ is in zero≢one (cc)
+
 module _ (g : Grid) (y x : ℕ) where
   pub none_there : None ≡ pads_of g.width (edge_at g y x) → edge_at g y x ≡ no_edge
   unfolding place_of
