@@ -10,7 +10,7 @@ ghost use Rattle.board.specs.Held.{IsBoard};
 use board::{Answer, Board};
 use grid::Edge;
 use std::os::fd::AsRawFd;
-use stream::{byte_at, cells_at, later, number_at, replay_all, taken, taken_bytes, taken_ends};
+use stream::{byte_at, grid_at, later, number_at, replay_all, taken, taken_bytes, taken_ends};
 
 // No stream is longer.
 const LONGEST: usize = 400000;
@@ -67,19 +67,15 @@ fn sum_of_calls(stream: &[u8], place: usize, calls: usize, fresh: Board) -> u64
 
 // One sequence; the place after it.
 fn sequence_at(rt: &impl Print, stream: &[u8], place: usize, number: u64) -> usize {
-    let height = usize::from(byte_at(stream, place));
-    let width = usize::from(byte_at(stream, later(place, 1)));
-    let count = height * width;
-    if count > 256 {
+    let Some(grid) = grid_at(stream, place) else {
         return LONGEST;
-    }
-    let cells = cells_at(stream, later(place, 2), count);
-    let fresh = Board::new(height, width, &cells[..count]);
-    let calls = number_at(stream, later(place, 2 + count), 2);
+    };
+    let fresh = Board::new(grid.height, grid.width, grid.cells());
+    let calls = number_at(stream, grid.after, 2);
     if calls > 65535 {
         return LONGEST;
     }
-    let first = later(place, 4 + count);
+    let first = later(grid.after, 2);
     let sum = sum_of_calls(stream, first, calls as usize, fresh.board);
     let _ = println!(rt; "{number},{calls},{sum}");
     later(first, 2 * calls as usize)

@@ -4,7 +4,7 @@
 #![tactic(auto)]
 
 use std::os::fd::AsRawFd;
-use stream::{byte_at, cells_at, later, number_at, replay_all, taken_bytes};
+use stream::{Sent, byte_at, grid_at, later, number_at, replay_all, taken_bytes};
 use tally::{Solved, Tally, outcome_number};
 
 // No stream is longer.
@@ -23,17 +23,11 @@ const NOTHING: Solved = Solved {
 };
 
 // One run: the grid's number, outcome, layouts, visited, fewest, and the checksum of the whole room.
-fn print_run(
-    rt: &impl Print,
-    grid: u64,
-    height: usize,
-    width: usize,
-    cells: &[i64],
-    limit: u64,
-    room: &mut [u8],
-) {
+fn print_run(rt: &impl Print, number: u64, grid: &Sent, limit: u64, room: &mut [u8]) {
     room.fill(FILL);
-    let found = solver::solve(height, width, cells, limit, room).unwrap_or(NOTHING);
+    let found = solver::solve(grid.height, grid.width, grid.cells(), limit, room).unwrap_or(
+        NOTHING,
+    );
     let outcome = outcome_number(found.outcome);
     let Tally {
         visited,
@@ -41,50 +35,29 @@ fn print_run(
         fewest,
     } = found.tally;
     let sum = taken_bytes(1, room);
-    let _ = println!(rt; "{grid},{outcome},{layouts},{visited},{fewest},{sum}");
+    let _ = println!(rt; "{number},{outcome},{layouts},{visited},{fewest},{sum}");
 }
 
 // One run of the stream: the limit in eight bytes, the room in four.
-fn run_at(
-    rt: &impl Print,
-    stream: &[u8],
-    place: usize,
-    grid: u64,
-    height: usize,
-    width: usize,
-    cells: &[i64],
-) {
+fn run_at(rt: &impl Print, stream: &[u8], place: usize, number: u64, grid: &Sent) {
     let limit = number_at(stream, place, 8);
     let bytes = number_at(stream, later(place, 8), 4) as usize;
     let mut buffer = io::large_buffer();
     if bytes <= LARGEST_ROOM {
-        print_run(rt, grid, height, width, cells, limit, &mut buffer[..bytes]);
+        print_run(rt, number, grid, limit, &mut buffer[..bytes]);
     }
 }
 
 // All runs of one grid; the place after them.
-fn runs_at(rt: &impl Print, stream: &[u8], place: usize, grid: u64) -> usize {
-    let height = usize::from(byte_at(stream, place));
-    let width = usize::from(byte_at(stream, later(place, 1)));
-    let count = height * width;
-    if count > 256 {
+fn runs_at(rt: &impl Print, stream: &[u8], place: usize, number: u64) -> usize {
+    let Some(grid) = grid_at(stream, place) else {
         return LONGEST;
-    }
-    let cells = cells_at(stream, later(place, 2), count);
-    let runs = later(place, 2 + count);
-    let total = usize::from(byte_at(stream, runs));
+    };
+    let total = usize::from(byte_at(stream, grid.after));
     for run in 0..total {
-        run_at(
-            rt,
-            stream,
-            later(runs, 1 + 12 * run),
-            grid,
-            height,
-            width,
-            &cells[..count],
-        );
+        run_at(rt, stream, later(grid.after, 1 + 12 * run), number, &grid);
     }
-    later(runs, 1 + 12 * total)
+    later(grid.after, 1 + 12 * total)
 }
 
 fn main(rt: HostRuntime) {
@@ -92,5 +65,5 @@ fn main(rt: HostRuntime) {
     // By the kit's io: std fills an array only by read_exact, which fails where the input ends before it.
     let length = io::read_full(rt.stdin().as_raw_fd(), &mut buffer);
     let stream = &buffer[..length];
-    replay_all(length, |place, grid| runs_at(&rt, stream, place, grid));
+    replay_all(length, |place, number| runs_at(&rt, stream, place, number));
 }

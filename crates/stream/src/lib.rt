@@ -2,8 +2,6 @@
 // checksum. These functions read them, and go through one from its start to its end. They are total: past the end of a stream every byte is 0.
 #![tactic(auto)]
 
-ghost use Rattle.std.specs.Prelude.{◌≡◌, length};
-
 use std::array;
 
 // The place so many bytes further on.
@@ -35,15 +33,47 @@ pub fn cell_of(byte: u8) -> i64 {
 }
 
 // So many cells from a place on, and blank ones after them.
-pub fn cells_at(stream: &[u8], place: usize, count: usize) -> [i64; 256]
-    ensures { 256 ≡ length result }
-{
+fn cells_at(stream: &[u8], place: usize, count: usize) -> [i64; 256] {
     array::from_fn(|i| {
         if i < count {
             cell_of(byte_at(stream, later(place, i)))
         } else {
             -1
         }
+    })
+}
+
+// A grid of a stream: its sizes and cells, and the place after it.
+#[derive(Clone, Copy)]
+pub struct Sent {
+    pub height: usize,
+    pub width: usize,
+    count: usize,
+    cells: [i64; 256],
+    pub after: usize,
+}
+
+impl Sent {
+    // The cells of its pads.
+    pub fn cells(&self) -> &[i64] {
+        self.cells.get(..self.count).unwrap_or(&[])
+    }
+}
+
+// The grid at a place: height and width in a byte each, and a byte for each cell. None where there are more than 256.
+pub fn grid_at(stream: &[u8], place: usize) -> Option<Sent> {
+    let height = usize::from(byte_at(stream, place));
+    let width = usize::from(byte_at(stream, later(place, 1)));
+    let count = height * width;
+    if count > 256 {
+        return None;
+    }
+    Some(Sent {
+        height,
+        width,
+        count,
+        cells: cells_at(stream, later(place, 2), count),
+        after: later(place, 2 + count),
     })
 }
 

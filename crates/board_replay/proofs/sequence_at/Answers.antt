@@ -1,17 +1,7 @@
 -- `board_replay::sequence_at` is safe and ends. Assumes nothing.
 use Rattle.board.specs.Sizes.{answered}
-use native.Mathlib.Nat.{mul-le-mul}
-use lib.Seq.{length-take-le}
-use mathlib.Core.Path.{sym}
-use Prim.Native.Nat.{◌≤◌}
 use native.Mathlib.Omega.{arith}
 use Rattle.board_replay.proofs.sequence_at.Goals as goal
-
-pub overflow_mul-count : goal.overflow_mul-count
-overflow_mul-count g c = let h : c.from-height.result ≤ 255 = omega (arith, c.byte_at.type_inv, c.from-height.ensures) in let w : c.from-width.result ≤ 255 = omega (arith, c.byte_at-2.type_inv, c.from-width.ensures) in omega (arith, mul-le-mul h w)
-
-pub slice_bounds-new-end : goal.slice_bounds-new-end
-slice_bounds-new-end g c = sym (length-take-le _ _ (omega (arith, c.cells_at-cells.ensures, c.if-count-gt256.false)))
 
 pub sum_of_calls-sum-requires : goal.sum_of_calls-sum-requires
 sum_of_calls-sum-requires g c = (answered c.new-fresh.ensures, omega (arith, c.if-calls-gt65535.false))
