@@ -1,5 +1,5 @@
 -- Laws of the refusals: what the test of the code says of a cell, and what each answer says. Assumes nothing.
-use Rattle.std.proofs.Common.{◌≡◌, refl, sym, ◌∙◌, Bool, true, false, not, List, length, ℕ, ◌+◌, ◌*◌, ◌≤◌, ◌<◌, ◌∷◌, Some, None, Ok, Err, position, cond}
+use Rattle.std.proofs.Common.{◌≡◌, refl, sym, ◌∙◌, Bool, true, false, not, List, length, ℕ, ◌+◌, ◌*◌, ◌≤◌, ◌<◌, ◌∷◌, Some, None, position, cond}
 use Rattle.std.specs.List.{position_or_len}
 use Rattle.std.proofs.lemmas.List.Recursion.{is_position_or_len}
 use mathlib.Core.Bool.{false≢true}
@@ -16,7 +16,7 @@ use Rattle.rules.specs.Grid.{largest_code}
 use Rattle.model.specs.Bounds.{is_size}
 use Rattle.model.specs.RefusalLaws.{size_of_test}
 use Rattle.model.specs.Refusals.{is_cell, first_bad_cell, grid_refusal}
-use Rattle.grid.specs.Answers.{number_of, index_of, refusal_says}
+use Rattle.grid.specs.Answers.{number_of, index_of}
 use Rattle.grid.specs.declared.Refusal.TheVariants.{Size, CellCount, Cell}
 
 -- ## The code's test of a cell
@@ -63,29 +63,29 @@ first_bad_is = is_position_or_len first_bad_cell _ refl step
         go false h = simp h
 
 module _ (height width : ℕ) (cells : List ℤ) where
-  pub not_high : is_size height ≡ false → refusal_says (Err Size) ≡ grid_refusal height width cells
+  pub not_high : is_size height ≡ false → (number_of Size, index_of Size) ≡ grid_refusal height width cells
   unfolding grid_refusal
   not_high h = simp h
 
   module _ (h : is_size height ≡ true) where
-    pub not_wide : is_size width ≡ false → refusal_says (Err Size) ≡ grid_refusal height width cells
+    pub not_wide : is_size width ≡ false → (number_of Size, index_of Size) ≡ grid_refusal height width cells
     unfolding grid_refusal
     not_wide w = simp (h, w)
 
     module _ (w : is_size width ≡ true) where
-      pub wrong_count : (length cells ≡ height * width → ⊥) → refusal_says (Err CellCount) ≡ grid_refusal height width cells
+      pub wrong_count : (length cells ≡ height * width → ⊥) → (number_of CellCount, index_of CellCount) ≡ grid_refusal height width cells
       unfolding grid_refusal
       wrong_count l = simp (h, w, ne_eqb _ _ l)
 
       module _ (l : length cells ≡ height * width) where
-        pub bad_cell : (index : ℕ) → position (λ cell. not (is_cell cell)) cells ≡ Some index → refusal_says (Err (Cell index)) ≡ grid_refusal height width cells
+        pub bad_cell : (index : ℕ) → position (λ cell. not (is_cell cell)) cells ≡ Some index → (number_of (Cell index), index_of (Cell index)) ≡ grid_refusal height width cells
         unfolding grid_refusal
         bad_cell index at =
             let first : first_bad_cell cells ≡ index = first_bad_is cells ∙ grind (arith, common_steps) in
             let inside : index < length cells = grind (arith, common_steps) in
             simp (h, w, eq-eqb _ _ l, first, lt-ltb _ _ inside)
 
-        pub accepted : position (λ cell. not (is_cell cell)) cells ≡ None → refusal_says (Ok tt) ≡ grid_refusal height width cells
+        pub accepted : position (λ cell. not (is_cell cell)) cells ≡ None → (0, 0) ≡ grid_refusal height width cells
         unfolding grid_refusal
         accepted none =
             let past : length cells ≤ first_bad_cell cells = rw (first_bad_is cells) (grind (arith, common_steps)) in

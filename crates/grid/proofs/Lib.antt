@@ -1,3 +1,4 @@
 -- Laws that the proofs of the crate cite.
 mod Cells
+mod DirectionLaws
 mod TwoCases

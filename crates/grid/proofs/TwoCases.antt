@@ -1,14 +1,13 @@
 -- The two cases of the code, even row and odd row, are those of the rules. Assumes nothing.
 use Prim.Native.Nat.{ℕ, ◌+◌, ◌*◌, ◌/◌, ◌≤◌}
-use mathlib.Core.Path.{◌≡◌, refl, ap, ◌∙◌}
+use mathlib.Core.Path.{◌≡◌, refl, sym, ap, ◌∙◌}
 use native.Mathlib.Omega.{arith}
-use native.Mathlib.Nat.{mul-le-mul, suc-mul}
-use native.Mathlib.Numerals.{add-one}
-use Rattle.rules.specs.Grid.{pad_index, place_at}
+use native.Mathlib.Nat.{mul-le-mul}
+use Rattle.rules.specs.Grid.{right, down, edge, pad_index, place_at}
 use Rattle.rules.proofs.Places.{place_right, place_down, place_of_pad, place_in_the_middle}
 use Rattle.grid.specs.PadsAt.{pads_of}
-use Rattle.std.specs.Prelude.{Some, None}
-use Rattle.grid.specs.declared.Pads.TheVariants.{Beside, Above}
+use Rattle.std.specs.Prelude.{Option, None}
+use Rattle.grid.specs.declared.Pads.{Pads}
 
 -- the rows above a pad have few pads
 pub few_above : (width y : ℕ) → width ≤ 16 → y ≤ 16 → y * width ≤ 256
@@ -26,11 +25,8 @@ module _ (width row column : ℕ) where
   same_place p q = λ i. place_at width (p i) (q i)
 
   module _ (even_row : row ≡ 2 * y) where
-    pub beside : column ≡ 2 * x + 1 → {a b : ℕ} → a ≡ pad_index width y x → b ≡ pad_index width y (x + 1) → Some (Beside a b) ≡ pads_of width (place_at width row column)
-    unfolding pads_of
-    beside odd_column {a} {b} p q =
-        let next : b ≡ pad_index width y x + 1 = omega arith in
-        rw (same_place even_row odd_column ∙ place_right width y x) (λ i. Some (Beside (p i) (next i)))
+    pub beside : column ≡ 2 * x + 1 → {found : Option Pads} → found ≡ pads_of width (edge (right (pad_index width y x))) → found ≡ pads_of width (place_at width row column)
+    beside odd_column is = is ∙ ap (pads_of width) (sym (same_place even_row odd_column ∙ place_right width y x))
 
     pub pad_there : (column ≡ 2 * x + 1 → ⊥) → None ≡ pads_of width (place_at width row column)
     unfolding pads_of
@@ -42,12 +38,8 @@ module _ (width row column : ℕ) where
     odd_row : row ≡ 2 * y + 1
     odd_row = omega arith
 
-    pub above : column ≡ 2 * x → {a b : ℕ} → a ≡ pad_index width y x → b ≡ pad_index width (y + 1) x → Some (Above a b) ≡ pads_of width (place_at width row column)
-    unfolding pads_of
-    above even_column {a} {b} p q =
-        let next_row : (y + 1) * width ≡ y * width + width = ap (λ (n : ℕ). n * width) (add-one y) ∙ suc-mul y width in
-        let next : b ≡ pad_index width y x + width = omega arith in
-        rw (same_place odd_row even_column ∙ place_down width y x) (λ i. Some (Above (p i) (next i)))
+    pub above : column ≡ 2 * x → {found : Option Pads} → found ≡ pads_of width (edge (down (pad_index width y x))) → found ≡ pads_of width (place_at width row column)
+    above even_column is = is ∙ ap (pads_of width) (sym (same_place odd_row even_column ∙ place_down width y x))
 
     pub middle_there : (column ≡ 2 * x → ⊥) → None ≡ pads_of width (place_at width row column)
     unfolding pads_of

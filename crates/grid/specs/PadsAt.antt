@@ -3,19 +3,19 @@ use Rattle.std.specs.Prelude.{ℕ, ◌≡◌, refl, Option, Some, None}
 use Rattle.std.proofs.Math.Path.{ap}
 use Rattle.std.proofs.Common.{◌∙◌}
 use Rattle.rules.specs.Grid.{Edge, right, down, first, second, Place, edge, no_edge}
+use Rattle.grid.specs.declared.Direction.TheVariants.{Right, Down}
 use Rattle.grid.specs.declared.Pads.{Pads}
-use Rattle.grid.specs.declared.Pads.TheVariants.{Beside, Above}
+use Rattle.grid.specs.Directions.{edge_to}
 
 -- the first and the second pad of the edge at a place
 unfoldable pub pads_of : ℕ → Place → Option Pads
-pads_of width (edge (right v)) = Some (Beside (first (right v)) (second width (right v)))
-pads_of width (edge (down v)) = Some (Above (first (down v)) (second width (down v)))
+pads_of width (edge (right v)) = Some (record { direction = Right; first = first (right v); second = second width (right v) })
+pads_of width (edge (down v)) = Some (record { direction = Down; first = first (down v); second = second width (down v) })
 pads_of width no_edge = None
 
 -- the edge between two pads
 unfoldable pub edge_of : Pads → Edge
-edge_of (Beside a b) = right a
-edge_of (Above a b) = down a
+edge_of pads = edge_to pads.direction pads.first
 
 -- what stands at the place: the edge of these pads
 unfoldable pub place_of : Option Pads → Place
@@ -32,15 +32,11 @@ place_back width (edge (right v)) = refl
 place_back width (edge (down v)) = refl
 place_back width no_edge = refl
 
--- by how the pads stand
+-- by whether there are pads
 module _ (pads : Option Pads) where
-  pub edge_beside : {a b : ℕ} → pads ≡ Some (Beside a b) → place_of pads ≡ edge (right a)
-  unfolding place_of edge_of
-  edge_beside are = ap place_of are
-
-  pub edge_above : {a b : ℕ} → pads ≡ Some (Above a b) → place_of pads ≡ edge (down a)
-  unfolding place_of edge_of
-  edge_above are = ap place_of are
+  pub edge_there : {p : Pads} → pads ≡ Some p → place_of pads ≡ edge (edge_of p)
+  unfolding place_of
+  edge_there are = ap place_of are
 
   pub edge_nowhere : pads ≡ None → place_of pads ≡ no_edge
   unfolding place_of

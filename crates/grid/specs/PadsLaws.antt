@@ -10,7 +10,8 @@ use Rattle.rules.specs.PadsOfEdges.{Neighbours, Joins, Gives, OnePlace}
 use Rattle.rules.proofs.PadsOfEdges.{edge_place_gives_its_pads, other_place_gives_none, neighbours_have_one_place}
 use Rattle.grid.specs.PadsAt.{pads_of}
 use Rattle.grid.specs.declared.Pads.{Pads}
-use Rattle.grid.specs.declared.Pads.TheVariants.{Beside, Above}
+use Rattle.grid.specs.declared.Direction.{Direction}
+use Rattle.grid.specs.declared.Direction.TheVariants.{Right, Down}
 
 -- what the contract of `pads_at` says is answered
 abbrev pub answer : Grid → ℕ → ℕ → Option Pads
@@ -18,7 +19,7 @@ answer g row column = pads_of g.width (place_at g.width row column)
 
 -- the answer is these two pads, in this order
 abbrev pub AreThePads : Option Pads → ℕ → ℕ → Type 0
-AreThePads pads a b = (pads ≡ Some (Beside a b)) ⊎ (pads ≡ Some (Above a b))
+AreThePads pads a b = (d : Direction) × (pads ≡ Some (record { direction = d; first = a; second = b }))
 
 -- a place of the field
 abbrev pub InField : Grid → ℕ → ℕ → Type 0
@@ -30,23 +31,28 @@ unfolding pads_of
 told g row column a b gives = go gives.found gives.there gives.first_pad gives.second_pad
   where
     go : (e : Edge) → place_at g.width row column ≡ edge e → first e ≡ a → second g.width e ≡ b → AreThePads (answer g row column) a b
-    go (right v) at p q = inl (ap (pads_of g.width) at ∙ (λ i. Some (Beside (p i) (q i))))
-    go (down v) at p q = inr (ap (pads_of g.width) at ∙ (λ i. Some (Above (p i) (q i))))
+    go (right v) at p q = (Right, ap (pads_of g.width) at ∙ (λ i. Some (record { direction = Right; first = p i; second = q i })))
+    go (down v) at p q = (Down, ap (pads_of g.width) at ∙ (λ i. Some (record { direction = Down; first = p i; second = q i })))
 
 given : (g : Grid) (row column a b : ℕ) → InField g row column → AreThePads (answer g row column) a b → Gives g row column a b
 unfolding pads_of
 given g row column a b inside are = go (place_at g.width row column) refl are
   where
+    first_in : Option Pads → ℕ
+    first_in (Some pads) = pads.first
+    first_in None = 0
+
+    second_in : Option Pads → ℕ
+    second_in (Some pads) = pads.second
+    second_in None = 0
+
     with_edge : (e : Edge) → place_at g.width row column ≡ edge e → first e ≡ a → second g.width e ≡ b → Gives g row column a b
     with_edge e at p q = record { row_in_field = inside.0; column_in_field = inside.1; found = e; there = at; first_pad = p; second_pad = q }
 
     go : (p : Place) → place_at g.width row column ≡ p → AreThePads (pads_of g.width p) a b → Gives g row column a b
-    go (edge (right v)) at (inl is) = with_edge (right v) at (cc) (cc)
-    go (edge (right v)) at (inr is) = zero≢one (cc)
-    go (edge (down v)) at (inl is) = zero≢one (cc)
-    go (edge (down v)) at (inr is) = with_edge (down v) at (cc) (cc)
-    go no_edge at (inl is) = zero≢one (cc)
-    go no_edge at (inr is) = zero≢one (cc)
+    go (edge (right v)) at (d, is) = with_edge (right v) at (ap first_in is) (ap second_in is)
+    go (edge (down v)) at (d, is) = with_edge (down v) at (ap first_in is) (ap second_in is)
+    go no_edge at (d, is) = zero≢one (cc)
 
 module _ (g : Grid) (wide : 2 ≤ g.width) where
   -- EACH EDGE PLACE GIVES EXACTLY THE FIRST AND THE SECOND PAD THAT IT JOINS
