@@ -86,7 +86,11 @@ impl Direction {
     pub fn at(slot: usize) -> Direction
         ensures { edge_to result (slot / 2 - 16) ≡ edge_of slot }
     {
-        if slot % 2 == 0 { Direction::Right } else { Direction::Down }
+        if slot % 2 == 0 {
+            Direction::Right
+        } else {
+            Direction::Down
+        }
     }
 }
 
@@ -119,13 +123,6 @@ pub enum Action {
     Flag,
     Line(usize),
     NoLine(usize),
-}
-
-// A byte as a number.
-pub fn wide(byte: u8) -> usize
-    ensures { result ≡ byte }
-{
-    byte as usize
 }
 
 // The first pad of the edge at a slot.
@@ -290,26 +287,16 @@ fn slot_around(width: usize, v: usize, side: usize) -> usize
     33 + 2 * v
 }
 
-// 1 if it is so, else 0.
-pub fn one_if(test: bool) -> u8
-    ensures { (result ≡ num test) × (result ≤ 1) }
-{
-    if test {
-        return 1;
-    }
-    0
-}
-
 // The index of a pad's code in the table of the pad check: the bytes of its four edges and the clue are the digits.
 fn action_index(edges: &[u8; 1024], kinds: &Kinds, v: usize) -> usize
     requires { (v < 256) × ((n : ℕ) → get_or edges.now n 2 ≤ 2) }
     ensures { (result ≡ action_index kinds.now.bits edges.now kinds.now.width v) × (result < 512) }
 {
-    let left = wide(edges[30 + 2 * v]);
-    let right = wide(edges[32 + 2 * v]);
-    let up = wide(edges[33 + 2 * v - 2 * kinds.width]);
-    let down = wide(edges[33 + 2 * v]);
-    let clue = wide(one_if(kinds.has(v, CLUE)));
+    let left = usize::from(edges[30 + 2 * v]);
+    let right = usize::from(edges[32 + 2 * v]);
+    let up = usize::from(edges[33 + 2 * v - 2 * kinds.width]);
+    let down = usize::from(edges[33 + 2 * v]);
+    let clue = usize::from(kinds.has(v, CLUE));
     left + 4 * right + 16 * up + 64 * down + 256 * clue
 }
 
@@ -319,7 +306,7 @@ pub fn last_action(edges: &[u8; 1024], kinds: &Kinds, v: usize) -> Action
     ensures acts { action_number result ≡ action_around kinds.now.bits edges.now kinds.now.width v }
     ensures at_slot { Undecided edges.now result }
 {
-    let code = wide(kinds.actions[action_index(edges, kinds, v)]);
+    let code = usize::from(kinds.actions[action_index(edges, kinds, v)]);
     if code == 0 {
         return Action::Nothing;
     }

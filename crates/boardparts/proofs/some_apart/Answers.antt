@@ -1,6 +1,5 @@
 -- `boardparts::some_apart` meets its contract.
-use mathlib.Core.Path.{◌≡◌, refl, sym, ◌∙◌}
-use Rattle.std.specs.Prelude.{◌||◌}
+use mathlib.Core.Path.{refl, sym, ◌∙◌}
 use Rattle.boardview.specs.View.{clue_apart}
 use Rattle.boardparts.proofs.Ends.{no_clue}
 use Rattle.boardparts.proofs.Apart.{or_first, or_next, some_of_four}
