@@ -1,2 +1,3 @@
 -- Laws that the proofs of boardparts share.
+mod Ends
 mod Apart

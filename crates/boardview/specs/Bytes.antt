@@ -2,13 +2,21 @@
 -- and what the view shows after a byte is stored. It rests on View.antt.
 use Rattle.std.specs.Prelude.{ℕ, zero, suc, ◌+◌, ◌*◌, ◌-◌, ◌%◌, ◌/◌, ◌≤◌, ◌<◌, ◌≡◌, refl, Bool, true, false, List, [], ◌∷◌, eqb, leb, get_or, set, length, ℤ}
 use Rattle.std.proofs.Common.{sym, ap, ◌∙◌, not-suc-le-zero, le_of_suc-le-suc, arith, get_or-set_same, get_or-set_other, eq-eqb, ne_eqb, eqb-true, le-leb, leb-true}
-use Rattle.std.proofs.lemmas.Bool.{eqb-false}
+use Rattle.std.proofs.lemmas.Bool.{eqb-false, leb-false}
 use Rattle.rules.specs.Grid.{Edge, right, down, Grid}
 use Rattle.rules.specs.Tests.{both}
 use Rattle.model.specs.PadTests.{on_board}
 use Rattle.model.specs.Board.{undecided, line, none, is_line, is_undecided, same_edge, set_edge}
 use Rattle.boardview.specs.declared.Arrays.{Arrays}
-use Rattle.boardview.specs.View.{slot, edge_of, slot_on, state_of, view, pick, undecided_in, flag_in, end_at}
+use Rattle.boardview.specs.Told.{pick}
+use Rattle.boardview.specs.View.{slot, edge_of, slot_on, state_of, view, undecided_in, flag_in, ended_in, end_at}
+
+-- THE TEST whether a decision has ended
+pub has_ended : (t : Bool) (count : ℕ) → t ≡ ended_in count → t ≡ true → 2048 ≤ count
+has_ended t count e h = leb-true 2048 count (sym e ∙ h)
+
+pub goes_on : (t : Bool) (count : ℕ) → t ≡ ended_in count → t ≡ false → count < 2048
+goes_on t count e h = leb-false 2048 count (sym e ∙ h)
 
 -- BYTES
 pub undecided_byte_test : (b : ℕ) → is_undecided (state_of b) ≡ eqb b 0

@@ -1,30 +1,31 @@
 -- The pad check: its last part by actions, the edges to pads of other clues that become none, and the whole check as one item of a
 -- decision. It rests on Settle.antt and Steps.antt.
 use Prim.Native.Nat.{ℕ, zero, suc, ◌+◌, ◌*◌, ◌-◌, ◌≤◌, ◌<◌}
-use Rattle.std.specs.Prelude.{◌≡◌, Bool, ◌&&◌, not, ltb, get_or}
+use Rattle.std.specs.Prelude.{◌≡◌, Bool, ◌&&◌, not, get_or}
 use Rattle.std.proofs.Math.Path.{refl, sym, ap}
-use Rattle.std.proofs.Common.{◌∙◌, subst, arith, not-suc-le-zero}
+use Rattle.std.proofs.Common.{◌∙◌, arith, not-suc-le-zero}
 use Rattle.std.proofs.Math.Bool.{true, false}
 use Rattle.std.proofs.lemmas.Bool.{false≢true}
 use mathlib.Core.List.{List, [], ◌∷◌, ◌++◌}
 use Rattle.std.proofs.Math.Dec.{eqb}
-use borrow.Author.Tests.{eqb-true, eqb-false, eq-eqb, ne_eqb, lt-leb, le-leb, lt-ltb, le-ltb, ltb-true, ltb-false}
+use borrow.Author.Tests.{eqb-true, eqb-false, eq-eqb, ne_eqb, lt-leb, le-leb, lt-ltb}
 use Rattle.rules.specs.Grid.{Edge, right, down, Grid, pads}
-use Rattle.rules.specs.Tests.{not_so}
 use Rattle.model.specs.JoinedEnds.{End, through, at_pad, at_clue}
 use Rattle.model.specs.PadTests.{has_right, has_left, has_down, has_up}
 use Rattle.model.specs.Board.{line, none, is_undecided, other_clue, State, Item, check_pad, keep_apart, settle, when, Decide, Check, with_edge, keep_aparts, around, do_item, do_items, check_items, decide, check}
 use Rattle.boardview.specs.declared.Arrays.{Arrays}
-use Rattle.boardview.specs.View.{flag_in, ended_in, stopped, ended, pick, edge_of, slot_on, view, end_at, grid_in, undecided_in, Ready, Since, Decided, Done, then, in_a_row, shown, check_at, NoneAt, Settled, action_around, code_number, rival, keeps_apart, keep_at}
+use Rattle.boardview.specs.declared.kinds.Kinds.{Kinds}
+use Rattle.boardview.specs.Told.{pick}
+use Rattle.boardview.specs.View.{flag_in, ended_in, stopped, ended, edge_of, slot_on, view, end_at, grid_in, undecided_in, Ready, Since, Decided, Done, then, in_a_row, shown, pad_number, check_at, Settled, action_around, code_number, rival, keeps_apart, keep_at, with_count}
 use Rattle.boardview.specs.Bytes.{elim_true, elim_false, right_slot, down_slot, on_slot}
 use Rattle.boardview.specs.Geometry.{slot_left, slot_right, slot_up, slot_down, edge_left, edge_up}
 use Rattle.boardview.specs.Unwind.{since_still, since_then}
 use Rattle.boardview.specs.Stores.{flag_of_ended, ended_of_ended, logged_of_ended, recounted}
-use Rattle.boardview.specs.Steps.{row_append, row_ended, row_is, with_count, done_nothing, done_still, done_ended, done_decided, view_stopped, view_recounted, undecided_at, slot_is_on}
+use Rattle.boardview.specs.Steps.{row_append, row_ended, row_is, done_nothing, done_still, done_decided, view_stopped, view_recounted, undecided_at, slot_is_on}
 use Rattle.boardview.specs.Settle.{Action, nothing, raise, draw, leave, action_is}
 
 -- THE LAST PART
-module _ (kind : List ℕ) (s : Arrays) (y : Ready (grid_in kind) s) (v t : ℕ) (inside : v < pads (grid_in kind)) (e : t ≡ action_around kind s.edges (grid_in kind).width v) where
+module _ (kind : Kinds) (s : Arrays) (y : Ready (grid_in kind) s) (v t : ℕ) (inside : v < pads (grid_in kind)) (e : t ≡ action_around kind.bits s.edges (grid_in kind).width v) where
   abbrev g : Grid
   g = grid_in kind
 
@@ -65,15 +66,6 @@ module _ (kind : List ℕ) (s : Arrays) (y : Ready (grid_in kind) s) (v t : ℕ)
       go (leave n p h k q) = absurd (omega arith)
 
   -- a line or none at a slot of the board
-  pub leave_slot : 1024 ≤ t → (slot_on g (t - 1024) ≡ true) × (t - 1024 < 1024)
-  leave_slot z = go (action_is kind s y v inside t e)
-    where
-      go : Action kind s v t → (slot_on g (t - 1024) ≡ true) × (t - 1024 < 1024)
-      go (leave n p h k q) = let m : t - 1024 ≡ n = omega arith in rw m (on_slot_first n h k, h)
-      go (nothing p q) = absurd (omega arith)
-      go (raise p q) = absurd (omega arith)
-      go (draw n p h k q) = absurd (omega arith)
-
   pub settle_none : 1024 ≤ t → (s' : Arrays) → Decided g s (edge_of (t - 1024)) none s' → Settled g s v s'
   settle_none z s' d = go (action_is kind s y v inside t e)
     where
@@ -90,15 +82,6 @@ module _ (kind : List ℕ) (s : Arrays) (y : Ready (grid_in kind) s) (v t : ℕ)
       go (draw n p h k q) = absurd (omega arith)
 
   module _ (z₀ : t ≡ 0 → ⊥) (z₁ : t ≡ 1 → ⊥) (z₂ : t < 1024) where
-    pub draw_slot : slot_on g t ≡ true
-    draw_slot = go (action_is kind s y v inside t e)
-      where
-        go : Action kind s v t → slot_on g t ≡ true
-        go (draw n p h k q) = rw p (on_slot_first n h k)
-        go (nothing p q) = absurd (z₀ p)
-        go (raise p q) = absurd (z₁ p)
-        go (leave n p h k q) = absurd (omega arith)
-
     pub settle_line : (s' : Arrays) → Decided g s (edge_of t) line s' → Settled g s v s'
     settle_line s' d = go (action_is kind s y v inside t e)
       where
@@ -168,27 +151,6 @@ module _ (g : Grid) (s : Arrays) (y : Ready g s) (code n u : ℕ) (h : n < 1024)
   unfolding keep_at
   keep_decides b s' d = rw (keeps_on b) (done_decided g 0 (keep_apart code (edge_of n) u) goes_on_yet d (λ dec chk. keep_acts g dec chk (view s) code (edge_of n) u (test_is (keeps_on b) ∙ b)))
 
--- none where the test holds; the slot 0, which is off the board, stands for no edge
-pub keep_step : (g : Grid) (s : Arrays) (y : Ready g s) (code n u : ℕ) → n < 1024 → (n' : ℕ) → n' ≡ pick (ltb s.count 2048) (pick (keeps_apart s.edges s.ends (suc code) n u) n 0) 0
-    → (s' : Arrays) → NoneAt g s n' s' → Done g 0 s (keep_at g code n u) (with_count s' (pick (eqb n' 0) s.count s'.count))
-keep_step g s y code n u h n' e s' d = go (ltb s.count 2048) refl (keeps_apart s.edges s.ends (suc code) n u) refl
-  where
-    off : slot_on g 0 ≡ false
-    off = not_so (slot_on g 0) (λ k. omega (arith, (on_slot g 0 k).0))
-
-    stays : n' ≡ 0 → s ≡ with_count s' (pick (eqb n' 0) s.count s'.count)
-    stays z = let r = d.rests (ap (slot_on g) z ∙ off) in let k : pick (eqb n' 0) s.count s'.count ≡ s.count = rw (eq-eqb n' 0 z) refl in
-        λ i. record { edges = sym r.0 i; ends = sym r.1 i; log = sym r.2 i; count = sym k i }
-
-    go : (a : Bool) → ltb s.count 2048 ≡ a → (b : Bool) → keeps_apart s.edges s.ends (suc code) n u ≡ b → Done g 0 s (keep_at g code n u) (with_count s' (pick (eqb n' 0) s.count s'.count))
-    go true p true q =
-        let on = keeps_on g s y code n u h (ltb-true s.count 2048 p) q in
-        let m : n' ≡ n = e ∙ rw (p, q) refl in
-        rw (ne_eqb n' 0 (omega (arith, m, (on_slot g n on).0)))
-        (keep_decides g s y code n u h (ltb-true s.count 2048 p) q s' (rw m at (d.acts (ap (slot_on g) m ∙ on))))
-    go true p false q = let z : n' ≡ 0 = e ∙ rw (p, q) refl in subst (λ (x : Arrays). Done g 0 s (keep_at g code n u) x) (stays z) (keep_rests g s y code n u h (ltb-true s.count 2048 p) q)
-    go false p b q = let z : n' ≡ 0 = e ∙ rw p refl in subst (λ (x : Arrays). Done g 0 s (keep_at g code n u) x) (stays z) (done_ended g 0 s (keep_at g code n u) y (ltb-false s.count 2048 p))
-
 -- the four edges at a pad
 pub keeps_is : (g : Grid) → 2 ≤ g.width → g.width ≤ 16 → (code v : ℕ) → v < pads g
     → keep_at g code (30 + 2 * v) (v - 1) ++ (keep_at g code (32 + 2 * v) (v + 1) ++ (keep_at g code (33 + 2 * v - 2 * g.width) (v - g.width) ++ keep_at g code (33 + 2 * v) (v + g.width)))
@@ -225,9 +187,11 @@ keeps_is g p q code v h = left (has_left g v) refl
     left false e = rw (slot_left g p q v h ∙ e, two (has_right g v) refl) refl
 
 -- no pad
-pub check_nothing : (g : Grid) (s : Arrays) → Ready g s → (v : ℕ) → v ≡ 512 → Done g 1 s (check_at v) s
-unfolding check_at
-check_nothing g s y v e = rw (le-ltb v 512 (omega arith)) (done_nothing g 1 s y)
+pub check_nothing : (g : Grid) (s : Arrays) → Ready g s → (E : End) → ((a : ℕ) → E ≡ at_pad a → ⊥) → Done g 1 s (check_at (pad_number E)) s
+unfolding check_at pad_number
+check_nothing g s y through other = done_nothing g 1 s y
+check_nothing g s y (at_clue code) other = done_nothing g 1 s y
+check_nothing g s y (at_pad a) other = absurd (other a refl)
 
 -- THE WHOLE CHECK
 unfoldable pub first_items : Grid → ℕ → End → List Item

@@ -1,18 +1,16 @@
 -- What the calls of the decision ask, and what its ways through give, in the shape in which the code's paths come to them: numbers as the
 -- code computed them, arrays as it left them. It rests on Items.antt, Check.antt and Geometry.antt.
-use Prim.Native.Nat.{ℕ, zero, suc, ◌+◌, ◌*◌, ◌-◌, ◌%◌, ◌/◌, ◌≤◌, ◌<◌}
-use Rattle.std.specs.Prelude.{◌≡◌, Bool, ◌&&◌, ltb, set, length, pos}
+use Prim.Native.Nat.{ℕ, suc, ◌+◌, ◌*◌, ◌-◌, ◌%◌, ◌/◌, ◌≤◌, ◌<◌}
+use Rattle.std.specs.Prelude.{◌≡◌, Bool, ◌&&◌, set, length, pos}
 use Rattle.std.proofs.Math.Path.{refl, sym}
 use Rattle.std.proofs.Common.{ap, ◌∙◌, subst}
 use Rattle.std.proofs.Math.Bool.{true, false}
-use Rattle.std.proofs.lemmas.Bool.{false≢true}
-use mathlib.Core.List.{List, [], ◌++◌, append_assoc}
+use mathlib.Core.List.{List, ◌++◌}
 use native.Mathlib.Omega.{arith}
 use Rattle.std.proofs.Math.Nat.{mod-le}
-use Rattle.std.proofs.Math.Decide.{dec_lt}
 use Rattle.std.proofs.Math.Dec.{eqb}
 use Rattle.std.proofs.Math.ListN.{get_or}
-use borrow.Author.Tests.{eqb-true, eqb-false, eq-eqb, ne_eqb, lt-ltb, ltb-true}
+use borrow.Author.Tests.{ne_eqb, lt-ltb, ltb-true}
 use Rattle.rules.specs.Grid.{Edge, right, down, first, second, Grid, pads}
 use Rattle.rules.specs.Drawing.{Side, on_left, on_right}
 use Rattle.rules.specs.Tests.{both, neither, conflict, not_so, is_so}
@@ -20,21 +18,23 @@ use Rattle.model.specs.JoinedEnds.{End, through, at_pad, at_clue, unjoinable}
 use Rattle.model.specs.PadTests.{has_right, has_left, has_down, has_up, on_board}
 use Rattle.model.specs.Board.{line, Item, has_side, barred, shape_items, keep_aparts, around}
 use Rattle.boardview.specs.declared.Arrays.{Arrays}
-use Rattle.boardview.specs.View.{logged, beside, stopped, ended, going, pick, slot, edge_of, slot_on, state_of, end_at, second_pad, has_bit, grid_in, corner_bit, joined, undecided_in, Kinds, Ready, Decided, Done, NoneAt, Settled, pad_number, detour_at, corner_at, bar_at, check_at, code_number, keeps_apart, some_apart, clue_apart, keep_at, slot_around, past_around, action_around}
+use Rattle.boardview.specs.declared.kinds.Kinds.{Kinds}
+use Rattle.boardview.specs.Told.{pick, has_bit, corner_bit}
+use Rattle.boardview.specs.View.{logged, beside, stopped, ended, going, slot, edge_of, slot_on, state_of, end_at, second_pad, grid_in, joined, Ready, Decided, Done, NoneAt, Settled, pad_number, detour_at, corner_at, bar_at, check_at, code_number, keeps_apart, some_apart, clue_apart, keep_at, action_around, with_count}
 use Rattle.model.specs.Lists.{default_free}
 use Rattle.boardview.specs.Bytes.{slot_of_edge, on_slot}
 use Rattle.boardview.specs.Unwind.{log_stored, log_joined, stored, LineBegun}
 use Rattle.boardview.specs.Geometry.{column_before, right_on, down_on, beyond_right, upper_left, upper_right, upper, lower_left, lower_right, lower, right_items, left_side, lower_left_side, far_left, right_side, lower_right_side, far_right, down_items, next_down_on}
 use Rattle.boardview.specs.Stores.{Stored, going_count, few_logged, first_inside, second_inside}
-use Rattle.boardview.specs.Steps.{with_count, done_then, done_as, done_nothing, slot_is_on}
-use Rattle.boardview.specs.Check.{settle_nothing, settle_raise, leave_slot, settle_none, draw_slot, settle_line, keep_rests, keep_step, keeps_is, first_items}
+use Rattle.boardview.specs.Steps.{done_then, done_as, done_nothing, done_ended, slot_is_on}
+use Rattle.boardview.specs.Check.{settle_none, settle_line, keep_rests, keep_decides, keeps_on, keeps_is, first_items}
 use Rattle.boardview.specs.Items.{none_arrays, none_stored, decided_none, decided_same, decided_other, line_stopped, line_arrays, line_stored, decided_line}
 
 pub same_on : {a b c : Bool} → a ≡ c → b ≡ c → a ≡ true → b ≡ true
 same_on p q h = q ∙ (sym p ∙ h)
 
 -- NONE AT A SLOT
-module _ (kind : List ℕ) (s : Arrays) (n : ℕ) (h : n < 1024) (k : Kinds kind) (y : Ready (grid_in kind) s) where
+module _ (kind : Kinds) (s : Arrays) (n : ℕ) (h : n < 1024) (y : Ready (grid_in kind) s) where
   abbrev g : Grid
   g = grid_in kind
 
@@ -124,7 +124,7 @@ module _ (kind : List ℕ) (s : Arrays) (n : ℕ) (h : n < 1024) (k : Kinds kind
         two on = omega (arith, same_byte on, z, o, y.bytes n, default_free s.edges n 2 0 (omega (arith, y.edges_long)))
 
 -- A LINE
-module _ (kind : List ℕ) (s : Arrays) (e : Edge) (k : Kinds kind) (y : Ready (grid_in kind) s) (on : on_board (grid_in kind) e ≡ true) where
+module _ (kind : Kinds) (s : Arrays) (e : Edge) (y : Ready (grid_in kind) s) (on : on_board (grid_in kind) e ≡ true) where
   abbrev gg : Grid
   gg = grid_in kind
 
@@ -195,177 +195,183 @@ module _ (kind : List ℕ) (s : Arrays) (e : Edge) (k : Kinds kind) (y : Ready (
     line_end v hv a ea = rw ea (near_pad (end_at s.ends v) (λ b eb. y.near v b hv eb))
 
 -- STEPS D AND E of a line to the right
-module _ (kind : List ℕ) (k : Kinds kind) (few : pads (grid_in kind) ≤ 256) (v w : ℕ) (ew : w ≡ (grid_in kind).width) (on : on_board (grid_in kind) (right v) ≡ true) where
+module _ (kind : Kinds) (few : pads (grid_in kind) ≤ 256) (v : ℕ) (on : on_board (grid_in kind) (right v) ≡ true) where
   abbrev gr : Grid
   gr = grid_in kind
 
+  abbrev wr : ℕ
+  wr = kind.width
+
   pub right_inside : (v % gr.width + 1 < gr.width) × (v < pads gr)
-  right_inside = right_on gr k.least_width k.largest_width v on
+  right_inside = right_on gr kind.told.least_width kind.told.largest_width v on
 
   pub right_beyond : v + 1 < pads gr
-  right_beyond = beyond_right gr k.least_width k.largest_width v on
+  right_beyond = beyond_right gr kind.told.least_width kind.told.largest_width v on
 
-  pub right_up_left : slot_on gr (33 + 2 * v - 2 * w) ≡ has_up gr v
-  right_up_left = rw ew (upper_left gr k.least_width k.largest_width v on)
+  pub right_up_left : slot_on gr (33 + 2 * v - 2 * wr) ≡ has_up gr v
+  right_up_left = (upper_left gr kind.told.least_width kind.told.largest_width v on)
 
-  pub right_up_right : slot_on gr (35 + 2 * v - 2 * w) ≡ has_up gr v
-  right_up_right = rw ew (upper_right gr k.least_width k.largest_width v on)
+  pub right_up_right : slot_on gr (35 + 2 * v - 2 * wr) ≡ has_up gr v
+  right_up_right = (upper_right gr kind.told.least_width kind.told.largest_width v on)
 
-  pub right_up : slot_on gr (32 + 2 * v - 2 * w) ≡ has_up gr v
-  right_up = rw ew (upper gr k.least_width k.largest_width v on)
+  pub right_up : slot_on gr (32 + 2 * v - 2 * wr) ≡ has_up gr v
+  right_up = (upper gr kind.told.least_width kind.told.largest_width v on)
 
   pub right_left : slot_on gr (33 + 2 * v) ≡ has_down gr v
-  right_left = lower_left gr k.least_width k.largest_width v on
+  right_left = lower_left gr kind.told.least_width kind.told.largest_width v on
 
   pub right_right : slot_on gr (35 + 2 * v) ≡ has_down gr v
-  right_right = lower_right gr k.least_width k.largest_width v on
+  right_right = lower_right gr kind.told.least_width kind.told.largest_width v on
 
-  pub right_below : slot_on gr (32 + 2 * v + 2 * w) ≡ has_down gr v
-  right_below = rw ew (lower gr k.least_width k.largest_width v on)
+  pub right_below : slot_on gr (32 + 2 * v + 2 * wr) ≡ has_down gr v
+  right_below = (lower gr kind.told.least_width kind.told.largest_width v on)
 
   next_below : has_down gr v ≡ true → v + gr.width + 1 < pads gr
   next_below h = omega (arith, ltb-true (v + 1 + gr.width) (pads gr) (sym (next_down_on gr v) ∙ (right_right ∙ h)))
 
   -- the pads below the corners
-  pub right_corner : (q : ℕ) → q ≡ v + w + 1 → slot_on gr (33 + 2 * v) ≡ true → q < pads gr
-  right_corner q e h = omega (arith, ew, next_below (sym right_left ∙ h))
+  pub right_corner : (q : ℕ) → q ≡ v + wr + 1 → slot_on gr (33 + 2 * v) ≡ true → q < pads gr
+  right_corner q e h = omega (arith, next_below (sym right_left ∙ h))
 
-  pub left_corner : (q : ℕ) → q ≡ v + w → slot_on gr (35 + 2 * v) ≡ true → q < pads gr
-  left_corner q e h = omega (arith, ew, next_below (sym right_right ∙ h))
+  pub left_corner : (q : ℕ) → q ≡ v + wr → slot_on gr (35 + 2 * v) ≡ true → q < pads gr
+  left_corner q e h = omega (arith, next_below (sym right_right ∙ h))
 
-  bars_right : has_bit kind v 2 ≡ ((has_down gr v && has_side gr on_right v) && barred gr on_right gr.height v)
-  bars_right = k.bars on_right v right_inside.1
+  bars_right : has_bit kind.bits v 2 ≡ ((has_down gr v && has_side gr on_right v) && barred gr on_right gr.height v)
+  bars_right = kind.told.bars on_right v right_inside.1
 
-  bars_left : has_bit kind (v + 1) 4 ≡ ((has_down gr (v + 1) && has_side gr on_left (v + 1)) && barred gr on_left gr.height (v + 1))
-  bars_left = k.bars on_left (v + 1) right_beyond
+  bars_left : has_bit kind.bits (v + 1) 4 ≡ ((has_down gr (v + 1) && has_side gr on_left (v + 1)) && barred gr on_left gr.height (v + 1))
+  bars_left = kind.told.bars on_left (v + 1) right_beyond
 
-  pub right_bar_on : has_bit kind v 2 ≡ true → slot_on gr (33 + 2 * v) ≡ true
+  pub right_bar_on : has_bit kind.bits v 2 ≡ true → slot_on gr (33 + 2 * v) ≡ true
   right_bar_on h = right_left ∙ (both (has_down gr v) (has_right gr v) (both _ (barred gr on_right gr.height v) (sym bars_right ∙ h)).0).0
 
-  pub left_bar_on : has_bit kind (v + 1) 4 ≡ true → slot_on gr (35 + 2 * v) ≡ true
+  pub left_bar_on : has_bit kind.bits (v + 1) 4 ≡ true → slot_on gr (35 + 2 * v) ≡ true
   left_bar_on h = next_down_on gr v ∙ (both (has_down gr (v + 1)) (has_left gr (v + 1)) (both _ (barred gr on_left gr.height (v + 1)) (sym bars_left ∙ h)).0).0
 
   pub right_done : {s₀ s' : Arrays} (L : List Item)
-      → Done gr 1 s₀ (detour_at gr (33 + 2 * v - 2 * w) (35 + 2 * v - 2 * w) (32 + 2 * v - 2 * w)
-      ++ (detour_at gr (35 + 2 * v - 2 * w) (33 + 2 * v - 2 * w) (32 + 2 * v - 2 * w)
-      ++ (detour_at gr (32 + 2 * v - 2 * w) (33 + 2 * v - 2 * w) (35 + 2 * v - 2 * w)
-      ++ (detour_at gr (33 + 2 * v) (35 + 2 * v) (32 + 2 * v + 2 * w)
-      ++ (detour_at gr (35 + 2 * v) (33 + 2 * v) (32 + 2 * v + 2 * w)
-      ++ (detour_at gr (32 + 2 * v + 2 * w) (33 + 2 * v) (35 + 2 * v)
-      ++ (corner_at gr on_right (v + w + 1) (33 + 2 * v) ++ (corner_at gr on_left (v + w) (35 + 2 * v)
-      ++ (bar_at gr (has_bit kind v 2) (33 + 2 * v) ++ (bar_at gr (has_bit kind (v + 1) 4) (35 + 2 * v) ++ L)))))))))) s'
+      → Done gr 1 s₀ (detour_at gr (33 + 2 * v - 2 * wr) (35 + 2 * v - 2 * wr) (32 + 2 * v - 2 * wr)
+      ++ (detour_at gr (35 + 2 * v - 2 * wr) (33 + 2 * v - 2 * wr) (32 + 2 * v - 2 * wr)
+      ++ (detour_at gr (32 + 2 * v - 2 * wr) (33 + 2 * v - 2 * wr) (35 + 2 * v - 2 * wr)
+      ++ (detour_at gr (33 + 2 * v) (35 + 2 * v) (32 + 2 * v + 2 * wr)
+      ++ (detour_at gr (35 + 2 * v) (33 + 2 * v) (32 + 2 * v + 2 * wr)
+      ++ (detour_at gr (32 + 2 * v + 2 * wr) (33 + 2 * v) (35 + 2 * v)
+      ++ (corner_at gr on_right (v + wr + 1) (33 + 2 * v) ++ (corner_at gr on_left (v + wr) (35 + 2 * v)
+      ++ (bar_at gr (has_bit kind.bits v 2) (33 + 2 * v) ++ (bar_at gr (has_bit kind.bits (v + 1) 4) (35 + 2 * v) ++ L)))))))))) s'
       → Done gr 1 s₀ (shape_items gr (right v) ++ L) s'
-  right_done L d = done_as gr (right_items gr k.least_width k.largest_width v on (has_bit kind v 2) (has_bit kind (v + 1) 4) bars_right bars_left L) (rw ew at d)
+  right_done L d = done_as gr (right_items gr kind.told.least_width kind.told.largest_width v on (has_bit kind.bits v 2) (has_bit kind.bits (v + 1) 4) bars_right bars_left L) d
 
 -- and of a line downward
-module _ (kind : List ℕ) (k : Kinds kind) (few : pads (grid_in kind) ≤ 256) (v w : ℕ) (ew : w ≡ (grid_in kind).width) (on : on_board (grid_in kind) (down v) ≡ true) where
+module _ (kind : Kinds) (few : pads (grid_in kind) ≤ 256) (v : ℕ) (on : on_board (grid_in kind) (down v) ≡ true) where
   abbrev gd : Grid
   gd = grid_in kind
 
+  abbrev wd : ℕ
+  wd = kind.width
+
   pub down_inside : v + gd.width < pads gd
-  down_inside = down_on gd k.least_width k.largest_width v on
+  down_inside = down_on gd kind.told.least_width kind.told.largest_width v on
 
-  corners_left : has_bit kind v 16 ≡ (has_down gd v && has_side gd on_left v)
-  corners_left = k.corners on_left v (omega (arith, down_inside))
+  corners_left : has_bit kind.bits v 16 ≡ (has_down gd v && has_side gd on_left v)
+  corners_left = kind.told.corners on_left v (omega (arith, down_inside))
 
-  corners_right : has_bit kind v 8 ≡ (has_down gd v && has_side gd on_right v)
-  corners_right = k.corners on_right v (omega (arith, down_inside))
+  corners_right : has_bit kind.bits v 8 ≡ (has_down gd v && has_side gd on_right v)
+  corners_right = kind.told.corners on_right v (omega (arith, down_inside))
 
   pub down_left : slot_on gd (30 + 2 * v) ≡ has_left gd v
-  down_left = left_side gd k.least_width k.largest_width v on
+  down_left = left_side gd kind.told.least_width kind.told.largest_width v on
 
-  pub down_left_below : slot_on gd (30 + 2 * v + 2 * w) ≡ has_left gd v
-  down_left_below = rw ew (lower_left_side gd k.least_width k.largest_width v on)
+  pub down_left_below : slot_on gd (30 + 2 * v + 2 * wd) ≡ has_left gd v
+  down_left_below = (lower_left_side gd kind.told.least_width kind.told.largest_width v on)
 
-  pub down_if_left : (x : ℕ) → x ≡ pick (has_bit kind v 16) (31 + 2 * v) 0 → slot_on gd x ≡ has_left gd v
-  down_if_left x e = rw e (far_left gd k.least_width k.largest_width v on (has_bit kind v 16) corners_left)
+  pub down_if_left : (x : ℕ) → x ≡ pick (has_bit kind.bits v 16) (31 + 2 * v) 0 → slot_on gd x ≡ has_left gd v
+  down_if_left x e = rw e (far_left gd kind.told.least_width kind.told.largest_width v on (has_bit kind.bits v 16) corners_left)
 
   pub down_right : slot_on gd (32 + 2 * v) ≡ has_right gd v
-  down_right = right_side gd k.least_width k.largest_width v on
+  down_right = right_side gd kind.told.least_width kind.told.largest_width v on
 
-  pub down_right_below : slot_on gd (32 + 2 * v + 2 * w) ≡ has_right gd v
-  down_right_below = rw ew (lower_right_side gd k.least_width k.largest_width v on)
+  pub down_right_below : slot_on gd (32 + 2 * v + 2 * wd) ≡ has_right gd v
+  down_right_below = (lower_right_side gd kind.told.least_width kind.told.largest_width v on)
 
-  pub down_if_right : (x : ℕ) → x ≡ pick (has_bit kind v 8) (35 + 2 * v) 0 → slot_on gd x ≡ has_right gd v
-  down_if_right x e = rw e (far_right gd k.least_width k.largest_width v on (has_bit kind v 8) corners_right)
+  pub down_if_right : (x : ℕ) → x ≡ pick (has_bit kind.bits v 8) (35 + 2 * v) 0 → slot_on gd x ≡ has_right gd v
+  down_if_right x e = rw e (far_right gd kind.told.least_width kind.told.largest_width v on (has_bit kind.bits v 8) corners_right)
 
   -- where the edges beside it are, the far ones are too
   pub down_far_left : has_left gd v ≡ true → slot_on gd (31 + 2 * v) ≡ true
   down_far_left h = ap (slot_on gd) (sym picked) ∙ (down_if_left _ refl ∙ h)
     where
-      picked : pick (has_bit kind v 16) (31 + 2 * v) 0 ≡ 31 + 2 * v
+      picked : pick (has_bit kind.bits v 16) (31 + 2 * v) 0 ≡ 31 + 2 * v
       picked = rw (corners_left, on, h) refl
 
   pub down_far_right : has_right gd v ≡ true → slot_on gd (35 + 2 * v) ≡ true
   down_far_right h = ap (slot_on gd) (sym picked) ∙ (down_if_right _ refl ∙ h)
     where
-      picked : pick (has_bit kind v 8) (35 + 2 * v) 0 ≡ 35 + 2 * v
+      picked : pick (has_bit kind.bits v 8) (35 + 2 * v) 0 ≡ 35 + 2 * v
       picked = rw (corners_right, on, h) refl
 
   pub picked_small : (b : Bool) (x n : ℕ) → x ≡ pick b n 0 → n < 1024 → x < 1024
   picked_small true x n e h = omega arith
   picked_small false x n e h = omega arith
 
-  pub down_right_corner : (q : ℕ) → q ≡ v + w + 1 → slot_on gd (32 + 2 * v) ≡ true → q < pads gd
-  down_right_corner q e h = omega (arith, ew, ltb-true (v + 1 + gd.width) (pads gd) (sym (next_down_on gd v) ∙ down_far_right (sym down_right ∙ h)))
+  pub down_right_corner : (q : ℕ) → q ≡ v + wd + 1 → slot_on gd (32 + 2 * v) ≡ true → q < pads gd
+  down_right_corner q e h = omega (arith, ltb-true (v + 1 + gd.width) (pads gd) (sym (next_down_on gd v) ∙ down_far_right (sym down_right ∙ h)))
 
-  pub down_left_corner : (q : ℕ) → q ≡ v + w - 1 → q < pads gd
-  down_left_corner q e = omega (arith, ew, down_inside)
+  pub down_left_corner : (q : ℕ) → q ≡ v + wd - 1 → q < pads gd
+  down_left_corner q e = omega (arith, down_inside)
 
-  bars_down_left : has_bit kind v 4 ≡ ((has_down gd v && has_side gd on_left v) && barred gd on_left gd.height v)
-  bars_down_left = k.bars on_left v (omega (arith, down_inside))
+  bars_down_left : has_bit kind.bits v 4 ≡ ((has_down gd v && has_side gd on_left v) && barred gd on_left gd.height v)
+  bars_down_left = kind.told.bars on_left v (omega (arith, down_inside))
 
-  bars_down_right : has_bit kind v 2 ≡ ((has_down gd v && has_side gd on_right v) && barred gd on_right gd.height v)
-  bars_down_right = k.bars on_right v (omega (arith, down_inside))
+  bars_down_right : has_bit kind.bits v 2 ≡ ((has_down gd v && has_side gd on_right v) && barred gd on_right gd.height v)
+  bars_down_right = kind.told.bars on_right v (omega (arith, down_inside))
 
-  pub down_left_bar_on : has_bit kind v 4 ≡ true → slot_on gd (30 + 2 * v) ≡ true
+  pub down_left_bar_on : has_bit kind.bits v 4 ≡ true → slot_on gd (30 + 2 * v) ≡ true
   down_left_bar_on h = down_left ∙ (both (has_down gd v) (has_left gd v) (both _ (barred gd on_left gd.height v) (sym bars_down_left ∙ h)).0).1
 
-  pub down_right_bar_on : has_bit kind v 2 ≡ true → slot_on gd (32 + 2 * v) ≡ true
+  pub down_right_bar_on : has_bit kind.bits v 2 ≡ true → slot_on gd (32 + 2 * v) ≡ true
   down_right_bar_on h = down_right ∙ (both (has_down gd v) (has_right gd v) (both _ (barred gd on_right gd.height v) (sym bars_down_right ∙ h)).0).1
 
-  pub down_done : {s₀ s' : Arrays} (x y : ℕ) → x ≡ pick (has_bit kind v 16) (31 + 2 * v) 0 → y ≡ pick (has_bit kind v 8) (35 + 2 * v) 0 → (L : List Item)
-      → Done gd 1 s₀ (detour_at gd (30 + 2 * v) (30 + 2 * v + 2 * w) (31 + 2 * v)
-      ++ (detour_at gd (30 + 2 * v + 2 * w) (30 + 2 * v) (31 + 2 * v)
-      ++ (detour_at gd x (30 + 2 * v) (30 + 2 * v + 2 * w)
-      ++ (detour_at gd (32 + 2 * v) (32 + 2 * v + 2 * w) (35 + 2 * v)
-      ++ (detour_at gd (32 + 2 * v + 2 * w) (32 + 2 * v) (35 + 2 * v)
-      ++ (detour_at gd y (32 + 2 * v) (32 + 2 * v + 2 * w)
-      ++ (corner_at gd on_left (v + w - 1) (30 + 2 * v) ++ (corner_at gd on_right (v + w + 1) (32 + 2 * v)
-      ++ (bar_at gd (has_bit kind v 4) (30 + 2 * v) ++ (bar_at gd (has_bit kind v 2) (32 + 2 * v) ++ L)))))))))) s'
+  pub down_done : {s₀ s' : Arrays} (x y : ℕ) → x ≡ pick (has_bit kind.bits v 16) (31 + 2 * v) 0 → y ≡ pick (has_bit kind.bits v 8) (35 + 2 * v) 0 → (L : List Item)
+      → Done gd 1 s₀ (detour_at gd (30 + 2 * v) (30 + 2 * v + 2 * wd) (31 + 2 * v)
+      ++ (detour_at gd (30 + 2 * v + 2 * wd) (30 + 2 * v) (31 + 2 * v)
+      ++ (detour_at gd x (30 + 2 * v) (30 + 2 * v + 2 * wd)
+      ++ (detour_at gd (32 + 2 * v) (32 + 2 * v + 2 * wd) (35 + 2 * v)
+      ++ (detour_at gd (32 + 2 * v + 2 * wd) (32 + 2 * v) (35 + 2 * v)
+      ++ (detour_at gd y (32 + 2 * v) (32 + 2 * v + 2 * wd)
+      ++ (corner_at gd on_left (v + wd - 1) (30 + 2 * v) ++ (corner_at gd on_right (v + wd + 1) (32 + 2 * v)
+      ++ (bar_at gd (has_bit kind.bits v 4) (30 + 2 * v) ++ (bar_at gd (has_bit kind.bits v 2) (32 + 2 * v) ++ L)))))))))) s'
       → Done gd 1 s₀ (shape_items gd (down v) ++ L) s'
-  down_done x y ex ey L d = done_as gd (down_items gd k.least_width k.largest_width v on (has_bit kind v 16) (has_bit kind v 8) (has_bit kind v 4) (has_bit kind v 2)
-      corners_left corners_right bars_down_left bars_down_right L) (rw (ew, ex, ey) at d)
+  down_done x y ex ey L d = done_as gd (down_items gd kind.told.least_width kind.told.largest_width v on (has_bit kind.bits v 16) (has_bit kind.bits v 8) (has_bit kind.bits v 4) (has_bit kind.bits v 2)
+      corners_left corners_right bars_down_left bars_down_right L) (rw (ex, ey) at d)
 
 -- A CORNER asks for its two lines
-module _ (kind : List ℕ) (k : Kinds kind) (q : ℕ) (inside : q < pads (grid_in kind)) (t : Bool) where
+module _ (kind : Kinds) (q : ℕ) (inside : q < pads (grid_in kind)) (t : Bool) where
   abbrev gc : Grid
   gc = grid_in kind
 
-  module _ (side : Side) (et : t ≡ has_bit kind q (corner_bit side)) where
+  module _ (side : Side) (et : t ≡ has_bit kind.bits q (corner_bit side)) where
     pub corner_exists : (has_down gc q && has_side gc side q) ≡ t
-    corner_exists = sym (k.corners side q inside) ∙ sym et
+    corner_exists = sym (kind.told.corners side q inside) ∙ sym et
 
-  pub corner_down : (side : Side) → t ≡ has_bit kind q (corner_bit side) → t ≡ true → on_board gc (down q) ≡ true
+  pub corner_down : (side : Side) → t ≡ has_bit kind.bits q (corner_bit side) → t ≡ true → on_board gc (down q) ≡ true
   corner_down side et ht = (both (has_down gc q) (has_side gc side q) (corner_exists side et ∙ ht)).0
 
-  pub corner_line_right : t ≡ has_bit kind q 8 → t ≡ true → on_board gc (right q) ≡ true
+  pub corner_line_right : t ≡ has_bit kind.bits q 8 → t ≡ true → on_board gc (right q) ≡ true
   corner_line_right et ht = rw ((both (has_down gc q) (has_right gc q) (corner_exists on_right et ∙ ht)).1, lt-ltb q (pads gc) inside) refl
 
-  left_column : t ≡ has_bit kind q 16 → t ≡ true → 0 < q % gc.width
+  left_column : t ≡ has_bit kind.bits q 16 → t ≡ true → 0 < q % gc.width
   left_column et ht = ltb-true 0 (q % gc.width) (both (has_down gc q) (has_left gc q) (corner_exists on_left et ∙ ht)).1
 
-  pub corner_not_first : t ≡ has_bit kind q 16 → t ≡ true → 1 ≤ q
+  pub corner_not_first : t ≡ has_bit kind.bits q 16 → t ≡ true → 1 ≤ q
   corner_not_first et ht = omega (arith, left_column et ht, mod-le q gc.width)
 
-  pub corner_line_left : t ≡ has_bit kind q 16 → t ≡ true → on_board gc (right (q - 1)) ≡ true
-  corner_line_left et ht = rw (lt-ltb ((q - 1) % gc.width + 1) gc.width (column_before gc.width q (omega (arith, k.least_width)) (left_column et ht)), lt-ltb (q - 1) (pads gc) (omega arith)) refl
+  pub corner_line_left : t ≡ has_bit kind.bits q 16 → t ≡ true → on_board gc (right (q - 1)) ≡ true
+  corner_line_left et ht = rw (lt-ltb ((q - 1) % gc.width + 1) gc.width (column_before gc.width q (omega (arith, kind.told.least_width)) (left_column et ht)), lt-ltb (q - 1) (pads gc) (omega arith)) refl
 
-  pub corner_line : (side : Side) → t ≡ has_bit kind q (corner_bit side) → t ≡ true → on_board gc (beside side q) ≡ true
+  pub corner_line : (side : Side) → t ≡ has_bit kind.bits q (corner_bit side) → t ≡ true → on_board gc (beside side q) ≡ true
   corner_line on_right et ht = corner_line_right et ht
   corner_line on_left et ht = corner_line_left et ht
 
-  pub corner_not_left : (side : Side) → t ≡ has_bit kind q (corner_bit side) → t ≡ true → side ≡ on_left → 1 ≤ q
+  pub corner_not_left : (side : Side) → t ≡ has_bit kind.bits q (corner_bit side) → t ≡ true → side ≡ on_left → 1 ≤ q
   corner_not_left side et ht is = corner_not_first (rw is at et) ht
 
 -- the pads beyond, as the code counts them
@@ -381,218 +387,101 @@ beyond_up v w h = omega arith
 pub beyond_down : (v w : ℕ) → 16 + v + w - 16 ≡ v + w
 beyond_down v w = omega arith
 
--- the sides of a pad, told one after the other: the items of those before a side
-unfoldable pub told : Grid → ℕ → ℕ → ℕ → ℕ → List Item
-told g w v code zero = []
-told g w v code (suc side) = told g w v code side ++ keep_at g (code - 1) (slot_around w v side) (past_around w v side - 16)
+-- ONE OF A PAD'S FOUR EDGES, which becomes none where it leads to another clue's pad
+module _ (g : Grid) (s : Arrays) (y : Ready g s) (code n past : ℕ) (h : n < 1024) where
+  pub apart_ends : 2048 ≤ s.count → Done g 0 s (keep_at g code n (past - 16)) s
+  apart_ends high = done_ended g 0 s _ y high
 
--- THE FIRST PART of the pad check, up to a side: its items have been done, and after the last side they are all that document 01 names.
--- Where no edge is to be none it begins behind the last side.
-pub record Apart (kind : List ℕ) (s : Arrays) (v w code side : ℕ) (s' : Arrays) : Type 0 where
-  pub few : side ≤ 4
-  pub clue : side < 4 → 1 ≤ code
-  pub some : side < 4 → Done (grid_in kind) 0 s (told (grid_in kind) w v code side) s'
-  pub all : side ≡ 4 → Done (grid_in kind) 0 s (first_items (grid_in kind) v (end_at s.ends v)) s'
+  pub apart_pad : (slot_on g n ≡ true → 16 ≤ past) → get_or s.edges n 0 ≡ 0 → 16 ≤ past
+  apart_pad there z = there (slot_is_on g s y n h (omega arith))
 
--- one of the four
-pub one_apart : (g : Grid) (s : Arrays) → Ready g s → (code n past : ℕ) → 1 ≤ code → n < 1024 → (n' : ℕ) → n' ≡ pick (ltb s.count 2048) (pick (keeps_apart s.edges s.ends code n (past - 16)) n 0) 0
-    → (s' : Arrays) → NoneAt g s n' s' → (r : ℕ) → r ≡ pick (eqb n' 0) s.count s'.count → Done g 0 s (keep_at g (code - 1) n (past - 16)) (with_count s' r)
-one_apart g s y code n past hc h n' e s' d r er = let c : suc (code - 1) ≡ code = omega arith in rw er (keep_step g s y (code - 1) n (past - 16) h n' (rw c e) s' d)
+  module _ (goes_on_yet : s.count < 2048) where
+    pub apart_rests : keeps_apart s.edges s.ends (suc code) n (past - 16) ≡ false → Done g 0 s (keep_at g code n (past - 16)) s
+    apart_rests = keep_rests g s y code n (past - 16) h goes_on_yet
+
+    pub apart_decides : keeps_apart s.edges s.ends (suc code) n (past - 16) ≡ true → (s' : Arrays) → NoneAt g s n s' → Done g 0 s (keep_at g code n (past - 16)) s'
+    apart_decides t s' d = keep_decides g s y code n (past - 16) h goes_on_yet t s' (d.acts (keeps_on g s y code n (past - 16) h goes_on_yet t))
 
 -- THE PAD CHECK
-module _ (kind : List ℕ) (s : Arrays) (k : Kinds kind) (y : Ready (grid_in kind) s) (v : ℕ) (inside : v < pads (grid_in kind)) where
+module _ (kind : Kinds) (s : Arrays) (y : Ready (grid_in kind) s) (v : ℕ) (inside : v < pads (grid_in kind)) where
   abbrev gk : Grid
   gk = grid_in kind
+
+  abbrev wk : ℕ
+  wk = kind.width
 
   pub small_pad : v < 256
   small_pad = omega (arith, y.few_pads)
 
-  -- the pads beyond undecided edges
-  pub past_left : get_or s.edges (30 + 2 * v) 0 ≡ 0 → 1 ≤ v
-  past_left z = omega (arith, (on_slot gk (30 + 2 * v) (slot_is_on gk s y (30 + 2 * v) (omega (arith, small_pad)) (omega arith))).0)
+  -- the pads beyond edges of the board
+  pub left_there : slot_on gk (30 + 2 * v) ≡ true → 1 ≤ v
+  left_there on = omega (arith, (on_slot gk (30 + 2 * v) on).0)
 
-  pub past_up : (w : ℕ) → w ≡ gk.width → get_or s.edges (33 + 2 * v - 2 * w) 0 ≡ 0 → w ≤ v
-  past_up w ew z = omega (arith, (on_slot gk (33 + 2 * v - 2 * w) (slot_is_on gk s y (33 + 2 * v - 2 * w) (omega (arith, small_pad)) (omega arith))).0)
+  pub up_there : slot_on gk (33 + 2 * v - 2 * wk) ≡ true → wk ≤ v
+  up_there on = omega (arith, (on_slot gk (33 + 2 * v - 2 * wk) on).0)
+
+  pub past_left : get_or s.edges (30 + 2 * v) 0 ≡ 0 → 1 ≤ v
+  past_left z = left_there (slot_is_on gk s y (30 + 2 * v) (omega (arith, small_pad)) (omega arith))
+
+  pub past_up : get_or s.edges (33 + 2 * v - 2 * wk) 0 ≡ 0 → wk ≤ v
+  past_up z = up_there (slot_is_on gk s y (33 + 2 * v - 2 * wk) (omega (arith, small_pad)) (omega arith))
+
+  low_slots : (30 + 2 * v < 1024) × (32 + 2 * v < 1024) × (33 + 2 * v - 2 * wk < 1024) × (33 + 2 * v < 1024)
+  low_slots = omega (arith, small_pad)
 
   -- the first part: no edge is to be none
-  module _ (w : ℕ) (ew : w ≡ gk.width) (goes_on_yet : s.count < 2048) (t : Bool) (et : t ≡ clue_apart s.edges s.ends w v) where
-    low_slots : (30 + 2 * v < 1024) × (32 + 2 * v < 1024) × (33 + 2 * v - 2 * w < 1024) × (33 + 2 * v < 1024)
-    low_slots = omega (arith, small_pad)
-
-    none_apart : (code : ℕ) → some_apart s.edges s.ends w (suc code) v ≡ false → Done gk 0 s (keep_aparts code (around gk v)) s
+  module _ (goes_on_yet : s.count < 2048) where
+    none_apart : (code : ℕ) → some_apart s.edges s.ends wk (suc code) v ≡ false → Done gk 0 s (keep_aparts code (around gk v)) s
     unfolding some_apart
     none_apart code h =
         let a = neither (keeps_apart s.edges s.ends (suc code) (30 + 2 * v) (v - 1)) _ h in
         let b = neither (keeps_apart s.edges s.ends (suc code) (32 + 2 * v) (v + 1)) _ a.1 in
-        let c = neither (keeps_apart s.edges s.ends (suc code) (33 + 2 * v - 2 * w) (v - w)) _ b.1 in
-        done_as gk (keeps_is gk k.least_width k.largest_width code v inside) (rw ew at
+        let c = neither (keeps_apart s.edges s.ends (suc code) (33 + 2 * v - 2 * wk) (v - wk)) _ b.1 in
+        done_as gk (keeps_is gk kind.told.least_width kind.told.largest_width code v inside)
         (done_then gk (keep_rests gk s y code (30 + 2 * v) (v - 1) low_slots.0 goes_on_yet a.0)
         (done_then gk (keep_rests gk s y code (32 + 2 * v) (v + 1) low_slots.1 goes_on_yet b.0)
-        (done_then gk (keep_rests gk s y code (33 + 2 * v - 2 * w) (v - w) low_slots.2 goes_on_yet c.0)
-        (keep_rests gk s y code (33 + 2 * v) (v + w) low_slots.3 goes_on_yet c.1)))))
+        (done_then gk (keep_rests gk s y code (33 + 2 * v - 2 * wk) (v - wk) low_slots.2 goes_on_yet c.0)
+        (keep_rests gk s y code (33 + 2 * v) (v + wk) low_slots.3 goes_on_yet c.1))))
 
-    pub no_apart : t ≡ false → Done gk 0 s (first_items gk v (end_at s.ends v)) s
+    pub no_apart : clue_apart s.edges s.ends wk v ≡ false → Done gk 0 s (first_items gk v (end_at s.ends v)) s
     unfolding clue_apart first_items code_number
-    no_apart ht = go (end_at s.ends v) (sym et ∙ ht)
+    no_apart h = go (end_at s.ends v) h
       where
-        go : (E : End) → pick (eqb (code_number E) 0) false (some_apart s.edges s.ends w (code_number E) v) ≡ false → Done gk 0 s (first_items gk v E) s
+        go : (E : End) → pick (eqb (code_number E) 0) false (some_apart s.edges s.ends wk (code_number E) v) ≡ false → Done gk 0 s (first_items gk v E) s
         go through h = done_nothing gk 0 s y
         go (at_pad a) h = done_nothing gk 0 s y
-        go (at_clue code) h = none_apart code (sym (ap (λ (b : Bool). pick b false (some_apart s.edges s.ends w (suc code) v)) (ne_eqb (suc code) 0 (omega arith))) ∙ h)
+        go (at_clue code) h = none_apart code (sym (ap (λ (b : Bool). pick b false (some_apart s.edges s.ends wk (suc code) v)) (ne_eqb (suc code) 0 (omega arith))) ∙ h)
 
-    -- some edge is to be none: the pad's end is of a clue
-    pub clue_there : t ≡ true → (code : ℕ) → code ≡ code_number (end_at s.ends v) → 1 ≤ code
-    unfolding clue_apart
-    clue_there ht code ec = go (eqb (code_number (end_at s.ends v)) 0) refl (sym et ∙ ht)
-      where
-        go : (b : Bool) → eqb (code_number (end_at s.ends v)) 0 ≡ b → pick b false (some_apart s.edges s.ends w (code_number (end_at s.ends v)) v) ≡ true → 1 ≤ code
-        go true e h = absurd (false≢true h)
-        go false e h = omega (arith, ec, eqb-false (code_number (end_at s.ends v)) 0 e)
-
-  clue_items : (code : ℕ) (E : End) → code ≡ code_number E → 1 ≤ code → first_items gk v E ≡ keep_aparts (code - 1) (around gk v)
-  unfolding first_items code_number
-  clue_items code through ec h = absurd (omega arith)
-  clue_items code (at_pad a) ec h = absurd (omega arith)
-  clue_items code (at_clue c) ec h = let same : c ≡ code - 1 = omega arith in rw same refl
+  -- the pad's end is of no clue
+  pub clueless : (E : End) → E ≡ end_at s.ends v → ((code : ℕ) → E ≡ at_clue code → ⊥) → Done gk 0 s (first_items gk v (end_at s.ends v)) s
+  unfolding first_items
+  clueless E e other = rw (← e) (go E other)
+    where
+      go : (E : End) → ((code : ℕ) → E ≡ at_clue code → ⊥) → Done gk 0 s (first_items gk v E) s
+      go through other = done_nothing gk 0 s y
+      go (at_pad a) other = done_nothing gk 0 s y
+      go (at_clue code) other = absurd (other code refl)
 
   -- all four are told
-  pub four_apart : (w : ℕ) → w ≡ gk.width → (code : ℕ) → code ≡ code_number (end_at s.ends v) → 1 ≤ code → (s' : Arrays)
-      → Done gk 0 s (keep_at gk (code - 1) (30 + 2 * v) (15 + v - 16) ++ (keep_at gk (code - 1) (32 + 2 * v) (17 + v - 16) ++ (keep_at gk (code - 1) (33 + 2 * v - 2 * w) (16 + v - w - 16) ++ keep_at gk (code - 1) (33 + 2 * v) (16 + v + w - 16)))) s'
-      → Done gk 0 s (first_items gk v (end_at s.ends v)) s'
-  four_apart w ew code ec h s' d =
-      done_as gk (keeps_is gk k.least_width k.largest_width (code - 1) v inside ∙ sym (clue_items code (end_at s.ends v) ec h)) (rw (beyond_left v, beyond_right_side v, beyond_up v w (rw ew k.largest_width), beyond_down v w, ew) at d)
+  pub four_apart : (code : ℕ) → at_clue code ≡ end_at s.ends v → {s₁ s₂ s₃ s₄ : Arrays} → Done gk 0 s (keep_at gk code (30 + 2 * v) (15 + v - 16)) s₁ → Done gk 0 s₁ (keep_at gk code (32 + 2 * v) (17 + v - 16)) s₂
+      → Done gk 0 s₂ (keep_at gk code (33 + 2 * v - 2 * wk) (16 + v - wk - 16)) s₃ → Done gk 0 s₃ (keep_at gk code (33 + 2 * v) (16 + v + wk - 16)) s₄ → Done gk 0 s (first_items gk v (end_at s.ends v)) s₄
+  unfolding first_items
+  four_apart code e a b c d = rw (← e) (done_as gk (keeps_is gk kind.told.least_width kind.told.largest_width code v inside)
+      (rw (beyond_left v, beyond_right_side v, beyond_up v wk kind.told.largest_width, beyond_down v wk) at (done_then gk a (done_then gk b (done_then gk c d)))))
 
-  module _ (w : ℕ) (ew : w ≡ gk.width) (code : ℕ) (ec : code ≡ code_number (end_at s.ends v)) where
-    pub apart_begins : s.count < 2048 → (side : ℕ) → side ≡ pick (clue_apart s.edges s.ends w v) 0 4 → Apart kind s v w code side s
-    unfolding told
-    apart_begins low side es = go (clue_apart s.edges s.ends w v) refl side es
+  -- the last part: what it does by the code's branches
+  module _ (n : ℕ) (low : n < 1024) (undecided : get_or s.edges n 0 ≡ 0) where
+    pub slot_there : on_board gk (edge_of n) ≡ true
+    slot_there = (on_slot gk n (slot_is_on gk s y n low (omega arith))).1
+
+    slot_high : 32 ≤ n
+    slot_high = (on_slot gk n (slot_is_on gk s y n low (omega arith))).0
+
+    pub settle_leaves : n + 1024 ≡ action_around kind.bits s.edges wk v → (s' : Arrays) → NoneAt gk s n s' → Settled gk s v s'
+    settle_leaves e s' d = settle_none kind s y v (n + 1024) inside e (omega arith) s' (rw same (d.acts (slot_is_on gk s y n low (omega arith))))
       where
-        go : (b : Bool) → clue_apart s.edges s.ends w v ≡ b → (side : ℕ) → side ≡ pick b 0 4 → Apart kind s v w code side s
-        go true e side es = rw es (record { few = omega arith; clue = λ h. clue_there w ew low true (sym e) refl code ec; some = λ h. done_nothing gk 0 s y; all = λ h. absurd (omega arith) })
-        go false e side es = rw es (record { few = omega arith; clue = λ h. absurd (omega arith); some = λ h. absurd (omega arith); all = λ h. no_apart w ew low false (sym e) refl })
+        same : n + 1024 - 1024 ≡ n
+        same = omega arith
 
-    side_small : (side : ℕ) → slot_around w v side < 1024
-    unfolding slot_around
-    side_small side = go (eqb side 0) (eqb side 1) (eqb side 2)
-      where
-        go : (a b c : Bool) → pick a (30 + 2 * v) (pick b (32 + 2 * v) (pick c (33 + 2 * v - 2 * w) (33 + 2 * v))) < 1024
-        go true b c = omega (arith, small_pad)
-        go false true c = omega (arith, small_pad)
-        go false false true = omega (arith, small_pad)
-        go false false false = omega (arith, small_pad)
-
-    module _ (side : ℕ) (s₁ : Arrays) (so_far : Apart kind s v w code side s₁) where
-      apart_either : (Ready gk s₁) × (undecided_in s₁.edges ≤ undecided_in s.edges)
-      apart_either = elim (dec_lt side 4) [
-        | yes low ↦ ((so_far.some low).ready, (so_far.some low).fewer)
-        | no high ↦ ((so_far.all (last high)).ready, (so_far.all (last high)).fewer)
-      ]
-        where
-          last : (side < 4 → ⊥) → side ≡ 4
-          last high = omega (arith, so_far.few)
-
-      pub apart_ready : Ready gk s₁
-      apart_ready = apart_either.0
-
-      pub apart_fewer : undecided_in s₁.edges ≤ undecided_in s.edges
-      apart_fewer = apart_either.1
-
-      pub apart_done : (side < 4 → ⊥) → Done gk 0 s (first_items gk v (end_at s.ends v)) s₁
-      apart_done high = so_far.all (omega (arith, so_far.few))
-
-      module _ (low : side < 4) where
-        all_told : side + 1 ≡ 4 → (s' : Arrays) → Done gk 0 s (told gk w v code (suc side)) s' → Done gk 0 s (first_items gk v (end_at s.ends v)) s'
-        unfolding slot_around past_around told keep_at
-        all_told h s' d = let three : side ≡ 3 = omega arith in four_apart w ew code ec (so_far.clue low) s' (done_as gk in_order (rw three at d))
-          where
-            in_order : told gk w v code 4 ≡ (keep_at gk (code - 1) (30 + 2 * v) (15 + v - 16) ++ (keep_at gk (code - 1) (32 + 2 * v) (17 + v - 16) ++ (keep_at gk (code - 1) (33 + 2 * v - 2 * w) (16 + v - w - 16) ++ keep_at gk (code - 1) (33 + 2 * v) (16 + v + w - 16))))
-            in_order = append_assoc (keep_at gk (code - 1) (30 + 2 * v) (15 + v - 16) ++ keep_at gk (code - 1) (32 + 2 * v) (17 + v - 16)) (keep_at gk (code - 1) (33 + 2 * v - 2 * w) (16 + v - w - 16)) (keep_at gk (code - 1) (33 + 2 * v) (16 + v + w - 16))
-                ∙ append_assoc (keep_at gk (code - 1) (30 + 2 * v) (15 + v - 16)) (keep_at gk (code - 1) (32 + 2 * v) (17 + v - 16)) (keep_at gk (code - 1) (33 + 2 * v - 2 * w) (16 + v - w - 16) ++ keep_at gk (code - 1) (33 + 2 * v) (16 + v + w - 16))
-
-        pub apart_more : (n : ℕ) → n ≡ pick (ltb s₁.count 2048) (pick (keeps_apart s₁.edges s₁.ends code (slot_around w v side) (past_around w v side - 16)) (slot_around w v side) 0) 0
-            → (s₂ : Arrays) → NoneAt gk s₁ n s₂ → (r : ℕ) → r ≡ pick (eqb n 0) s₁.count s₂.count → Apart kind s v w code (side + 1) (with_count s₂ r)
-        unfolding told
-        apart_more n en s₂ none_there r er =
-            let d = done_then gk (so_far.some low) (one_apart gk s₁ apart_ready code (slot_around w v side) (past_around w v side) (so_far.clue low) (side_small side) n en s₂ none_there r er) in
-            let next : side + 1 ≡ suc side = omega arith in
-            record { few = omega arith; clue = λ h. so_far.clue low; some = λ h. rw next d; all = λ h. all_told h (with_count s₂ r) d }
-
-        -- as the code does it: the edge becomes none, or there is nothing to do
-        module _ (n : ℕ) (en : n ≡ pick (ltb s₁.count 2048) (pick (keeps_apart s₁.edges s₁.ends code (slot_around w v side) (past_around w v side - 16)) (slot_around w v side) 0) 0) where
-          pub apart_takes : (n ≡ 0 → ⊥) → (s₂ : Arrays) → NoneAt gk s₁ n s₂ → Apart kind s v w code (side + 1) s₂
-          apart_takes some s₂ none_there = apart_more n en s₂ none_there s₂.count (rw (ne_eqb n 0 some) refl)
-
-          pub apart_skips : n ≡ 0 → Apart kind s v w code (side + 1) s₁
-          unfolding slot_on
-          apart_skips none = apart_more n en (with_count s₁ (ended s₁.count)) (rw none again) s₁.count (rw none refl)
-            where
-              again : NoneAt gk s₁ 0 (with_count s₁ (ended s₁.count))
-              again = let two = apart_ready.rim 0 (omega arith) refl in
-                  none_again kind s₁ 0 (omega arith) k apart_ready (λ z. omega (arith, two, z)) (λ o. omega (arith, two, o)) (ended s₁.count) refl
-
-        -- an undecided edge on that side leads to a pad
-        pub past_there : get_or s₁.edges (slot_around w v side) 0 ≡ 0 → 16 ≤ past_around w v side
-        unfolding slot_around past_around
-        past_there = go (eqb side 0) (eqb side 1) (eqb side 2)
-          where
-            go : (a b c : Bool) → get_or s₁.edges (pick a (30 + 2 * v) (pick b (32 + 2 * v) (pick c (33 + 2 * v - 2 * w) (33 + 2 * v)))) 0 ≡ 0 → 16 ≤ pick a (15 + v) (pick b (17 + v) (pick c (16 + v - w) (16 + v + w)))
-            go true b c z = omega (arith, (on_slot gk (30 + 2 * v) (slot_is_on gk s₁ apart_ready (30 + 2 * v) (omega (arith, small_pad)) (omega arith))).0)
-            go false true c z = omega arith
-            go false false true z = omega (arith, (on_slot gk (33 + 2 * v - 2 * w) (slot_is_on gk s₁ apart_ready (33 + 2 * v - 2 * w) (omega (arith, small_pad)) (omega arith))).0)
-            go false false false z = omega arith
-
--- THE LAST PART by the code's branches
-module _ (kind : List ℕ) (s : Arrays) (k : Kinds kind) (y : Ready (grid_in kind) s) (v : ℕ) (inside : v < pads (grid_in kind)) (w : ℕ) (ew : w ≡ (grid_in kind).width) (t : ℕ) (et : t ≡ action_around kind s.edges w v) where
-  abbrev gs : Grid
-  gs = grid_in kind
-
-  action_eq : t ≡ action_around kind s.edges gs.width v
-  action_eq = rw ew at et
-
-  pub settle_rests : t < 2 → (c : ℕ) → c ≡ pick (eqb t 0) (ended s.count) (stopped s.count) → Settled gs s v (with_count s c)
-  settle_rests h c ec = go (eqb t 0) refl
-    where
-      go : (b : Bool) → eqb t 0 ≡ b → Settled gs s v (with_count s c)
-      go true e = rw (ec, e) (settle_nothing kind s y v t inside action_eq (eqb-true t 0 e))
-      go false e = rw (ec, e) (settle_raise kind s y v t inside action_eq (omega (arith, eqb-false t 0 e)))
-
-  pub leave_there : 1024 ≤ t → t - 1024 < 1024
-  leave_there h = (leave_slot kind s y v t inside action_eq h).1
-
-  pub settle_leaves : 1024 ≤ t → (s' : Arrays) → NoneAt gs s (t - 1024) s' → Settled gs s v s'
-  settle_leaves h s' d = settle_none kind s y v t inside action_eq h s' (d.acts (leave_slot kind s y v t inside action_eq h).0)
-
-  module _ (lo : 2 ≤ t) (hi : t < 1024) where
-    drawn : slot_on gs t ≡ true
-    drawn = draw_slot kind s y v t inside action_eq (omega arith) (omega arith) hi
-
-    pub draw_high : 32 ≤ t
-    draw_high = (on_slot gs t drawn).0
-
-    module _ (pad : ℕ) (ep : pad ≡ t / 2 - 16) where
-      right_there : t % 2 ≡ 0 → edge_of t ≡ right pad
-      unfolding edge_of
-      right_there e = rw (eq-eqb (t % 2) 0 e, ← ep) refl
-
-      down_there : (t % 2 ≡ 0 → ⊥) → edge_of t ≡ down pad
-      unfolding edge_of
-      down_there e = rw (ne_eqb (t % 2) 0 e, ← ep) refl
-
-      pub draw_right : t % 2 ≡ 0 → on_board gs (right pad) ≡ true
-      draw_right e = ap (on_board gs) (sym (right_there e)) ∙ (on_slot gs t drawn).1
-
-      pub draw_down : (t % 2 ≡ 0 → ⊥) → on_board gs (down pad) ≡ true
-      draw_down e = ap (on_board gs) (sym (down_there e)) ∙ (on_slot gs t drawn).1
-
-      pub draw_small : pad < 256
-      draw_small = go (eqb (t % 2) 0) refl
-        where
-          go : (b : Bool) → eqb (t % 2) 0 ≡ b → pad < 256
-          go true e = omega (arith, (right_on gs y.least_width y.largest_width pad (draw_right (eqb-true (t % 2) 0 e))).1, y.few_pads)
-          go false e = omega (arith, down_on gs y.least_width y.largest_width pad (draw_down (eqb-false (t % 2) 0 e)), y.few_pads)
-
-      pub settle_draws_right : t % 2 ≡ 0 → (s' : Arrays) → Decided gs s (right pad) line s' → Settled gs s v s'
-      settle_draws_right e s' d = settle_line kind s y v t inside action_eq (omega arith) (omega arith) hi s' (subst (λ (x : Edge). Decided gs s x line s') (sym (right_there e)) d)
-
-      pub settle_draws_down : (t % 2 ≡ 0 → ⊥) → (s' : Arrays) → Decided gs s (down pad) line s' → Settled gs s v s'
-      settle_draws_down e s' d = settle_line kind s y v t inside action_eq (omega arith) (omega arith) hi s' (subst (λ (x : Edge). Decided gs s x line s') (sym (down_there e)) d)
+    pub settle_draws : n ≡ action_around kind.bits s.edges wk v → (s' : Arrays) → Decided gk s (edge_of n) line s' → Settled gk s v s'
+    settle_draws e s' d = settle_line kind s y v n inside e (omega (arith, slot_high)) (omega (arith, slot_high)) low s' d

@@ -14,7 +14,8 @@ use Rattle.rules.specs.Places.{next_column, next_in_row, previous_column}
 use Rattle.model.specs.PadTests.{has_right, has_left, has_down, has_up, on_board}
 use Rattle.model.specs.Board.{Item, bar, detours, when, has_side, barred, corner_right, corner_left, shape_items}
 use Rattle.model.specs.BoardLaws.{left_of_next}
-use Rattle.boardview.specs.View.{pick, slot, edge_of, second_pad, slot_on, detour_at, corner_at, bar_at}
+use Rattle.boardview.specs.Told.{pick}
+use Rattle.boardview.specs.View.{slot, edge_of, second_pad, slot_on, detour_at, corner_at, bar_at}
 use Rattle.boardview.specs.Bytes.{right_slot, down_slot, edge_on, on_slot}
 
 -- COLUMNS

@@ -13,30 +13,30 @@ use Rattle.model.specs.JoinedEnds.{End, through, at_pad, at_clue, is_through, un
 use Rattle.model.specs.PadTests.{is_blank, is_clue, on_board, has_down}
 use Rattle.model.specs.Board.{EdgeState, line, none, is_line, is_undecided, same_state, State, set_edge, set_flag, Item, corner, bar, check_pad, check_end, when, has_side, shape_items, do_items, cannot_join, join_ends, after_store, decide, check}
 use Rattle.boardview.specs.declared.Arrays.{Arrays}
-use Rattle.boardview.specs.View.{logged, flag_in, stopped, ended, going, slot, edge_of, slot_on, state_of, view, end_at, has_bit, clue_bit, taken_bit, cell_in, grid_in, joined, undecided_in, Kinds, Ready, Decided, Done, then, in_a_row, shown, corner_at, bar_at, check_at, beside, pad_number}
+use Rattle.boardview.specs.declared.kinds.Kinds.{Kinds}
+use Rattle.boardview.specs.Told.{has_bit, clue_bit, taken_bit, cell_in}
+use Rattle.boardview.specs.View.{logged, flag_in, stopped, ended, going, slot, edge_of, slot_on, state_of, view, end_at, grid_in, joined, undecided_in, Ready, Decided, Done, then, in_a_row, shown, corner_at, bar_at, check_at, beside, pad_number, with_count}
 use Rattle.model.specs.Lists.{default_free}
 use Rattle.boardview.specs.Bytes.{elim_true, elim_false, undecided_byte_test, view_stored}
 use Rattle.boardview.specs.Unwind.{since_still, since_then, log_stored, log_joined}
 use Rattle.boardview.specs.Stores.{flag_of_ended, ended_of_ended, logged_of_ended, going_count, next_count, recounted, Stored, slot_inside, few_logged, first_inside, second_inside, edge_is_stored, line_is_joined, joined_view}
-use Rattle.boardview.specs.Steps.{row_is, with_count, done_nothing, done_still, done_stopped, done_decided, view_stopped, view_recounted, slot_is_on, corner_no, corner_two, corner_stops, bar_no, bar_acts, line_test, line_there}
+use Rattle.boardview.specs.Steps.{row_is, done_nothing, done_still, done_stopped, done_decided, view_stopped, view_recounted, slot_is_on, corner_no, corner_two, corner_stops, bar_no, bar_acts, line_test, line_there}
 
 -- a decision hands its arrays on with another count
 pub recount_decided : {g : Grid} {s s' : Arrays} {e : Edge} {m : EdgeState} → Decided g s e m s' → Ready g (with_count s' (going s'.count))
 recount_decided {g} {s} {s'} d = let k = going_count s'.count d.ready.mode in recounted g s' (going s'.count) d.ready k.0 (omega (arith, k.1))
 
 -- THE BITS OF A PAD tell whether it is a clue, and whether it is blank
-pub clue_test : (kind : List ℕ) (v : ℕ) → v < 256 → is_clue ((grid_in kind).cell v) ≡ has_bit kind v clue_bit
-unfolding grid_in
-clue_test kind v h = rw (lt-ltb v 256 h) (go (has_bit kind v clue_bit) (has_bit kind v taken_bit))
+pub clue_test : (kind : Kinds) (v : ℕ) → v < 256 → is_clue ((grid_in kind).cell v) ≡ has_bit kind.bits v clue_bit
+clue_test kind v h = rw (lt-ltb v 256 h) (go (has_bit kind.bits v clue_bit) (has_bit kind.bits v taken_bit))
   where
     go : (c t : Bool) → is_clue (cell_in c t) ≡ c
     go true t = refl
     go false true = refl
     go false false = refl
 
-pub blank_test : (kind : List ℕ) → Kinds kind → (v : ℕ) → v < 256 → is_blank ((grid_in kind).cell v) ≡ not (has_bit kind v taken_bit)
-unfolding grid_in
-blank_test kind kinds v h = rw (lt-ltb v 256 h) (go (has_bit kind v clue_bit) (has_bit kind v taken_bit) (kinds.clue_taken v h))
+pub blank_test : (kind : Kinds) (v : ℕ) → v < 256 → is_blank ((grid_in kind).cell v) ≡ not (has_bit kind.bits v taken_bit)
+blank_test kind v h = rw (lt-ltb v 256 h) (go (has_bit kind.bits v clue_bit) (has_bit kind.bits v taken_bit) (kind.told.clue_taken v h))
   where
     go : (c t : Bool) → (c ≡ true → t ≡ true) → is_blank (cell_in c t) ≡ not t
     go true t taken = rw (taken refl) refl
@@ -44,7 +44,7 @@ blank_test kind kinds v h = rw (lt-ltb v 256 h) (go (has_bit kind v clue_bit) (h
     go false false taken = refl
 
 -- CORNER
-module _ (kind : List ℕ) (side : Side) (s : Arrays) (y : Ready (grid_in kind) s) (q a : ℕ) (h : a < 1024) (going_on : s.count < 2048) where
+module _ (kind : Kinds) (side : Side) (s : Arrays) (y : Ready (grid_in kind) s) (q a : ℕ) (h : a < 1024) (going_on : s.count < 2048) where
   abbrev g : Grid
   g = grid_in kind
 
@@ -61,15 +61,15 @@ module _ (kind : List ℕ) (side : Side) (s : Arrays) (y : Ready (grid_in kind) 
     corner_on : slot_on g a ≡ true
     corner_on = slot_is_on g s y a h (omega arith)
 
-    module _ (kinds : Kinds kind) (b : q < 256) where
-      pub corner_taken : has_bit kind q taken_bit ≡ true → Done g 1 s (corner_at g side q a) s
+    module _ (b : q < 256) where
+      pub corner_taken : has_bit kind.bits q taken_bit ≡ true → Done g 1 s (corner_at g side q a) s
       unfolding corner_at
       corner_taken t = rw corner_on (done_still g 1 s _ y going_on
-          (λ f. corner_no g (decide g f) (check g f) (view s) q _ _ _ _ (rw (blank_test kind kinds q b, t) refl)))
+          (λ f. corner_no g (decide g f) (check g f) (view s) q _ _ _ _ (rw (blank_test kind q b, t) refl)))
 
-      module _ (t : has_bit kind q taken_bit ≡ false) where
+      module _ (t : has_bit kind.bits q taken_bit ≡ false) where
         acts : (is_blank (g.cell q) && is_line ((view s).edge (edge_of a))) ≡ true
-        acts = rw (blank_test kind kinds q b, t, line_there g s y a h l) refl
+        acts = rw (blank_test kind q b, t, line_there g s y a h l) refl
 
         pub corner_ends : (has_down g q && has_side g side q) ≡ false → Done g 1 s (corner_at g side q a) (with_count s (stopped s.count))
         unfolding corner_at

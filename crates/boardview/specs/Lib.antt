@@ -1,4 +1,5 @@
 -- What the arrays of a board show of the model, in the order in which the files build on each other.
+pub mod Told
 pub mod View
 pub mod Bytes
 pub mod Ends

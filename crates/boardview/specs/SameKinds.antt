@@ -9,6 +9,7 @@ use mathlib.Core.List.{List, [], ◌∷◌, ◌++◌}
 use Rattle.std.proofs.Math.Dec.{eqb, leb}
 use Rattle.rules.specs.Grid.{Edge, right, down, first, second, Cell, blank, clue, hole, Grid}
 use Rattle.rules.specs.Drawing.{num, Side, on_left, on_right}
+use Rattle.boardview.specs.declared.kinds.Kinds.{Kinds}
 use Rattle.boardview.specs.View.{grid_in}
 use Rattle.model.specs.JoinedEnds.{End, through, at_pad, at_clue}
 use Rattle.model.specs.PadTests.{is_blank, is_clue, is_hole, has_down, on_board}
@@ -145,12 +146,12 @@ module _ (g : Grid) where
       (λ i. elim (same_hole v i) [ true ↦ same_shut (around g v) S i | false ↦ S ])
 
 -- WHAT KINDS SHOW of a grid: its sizes, and whether each pad is blank, a clue or a hole
-pub record Shows (g : Grid) (kind : List ℕ) : Type 0 where
+pub record Shows (g : Grid) (kind : Kinds) : Type 0 where
   pub height : (grid_in kind).height ≡ g.height
   pub width : (grid_in kind).width ≡ g.width
   pub cells : (v : ℕ) → (grid_in kind).cell v ≡ plain_cell (g.cell v)
 
-module _ {g : Grid} {kind : List ℕ} (told : Shows g kind) where
+module _ {g : Grid} {kind : Kinds} (told : Shows g kind) where
   pub shown_plain : grid_in kind ≡ plain g
   unfolding plain
   shown_plain = λ i. record { height = told.height i; width = told.width i; cell = λ v. told.cells v i }

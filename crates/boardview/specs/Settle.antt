@@ -12,7 +12,9 @@ use Rattle.rules.specs.Drawing.{num}
 use Rattle.model.specs.PadTests.{has_right, has_left, has_down, has_up}
 use Rattle.model.specs.Board.{EdgeState, line, none, is_undecided, State, set_flag, Decide, with_edge, lines, undecideds, decide_first, line_or_none, around, degree, settled}
 use Rattle.boardview.specs.declared.Arrays.{Arrays}
-use Rattle.boardview.specs.View.{pick, edge_of, slot_on, view, grid_in, Ready, edges_around, undecided_around, degree_around, first_around, action_around}
+use Rattle.boardview.specs.declared.kinds.Kinds.{Kinds}
+use Rattle.boardview.specs.Told.{pick}
+use Rattle.boardview.specs.View.{edge_of, slot_on, view, grid_in, Ready, edges_around, undecided_around, degree_around, first_around, action_around}
 use Rattle.boardview.specs.Bytes.{elim_true, elim_false, right_slot, down_slot, on_slot}
 use Rattle.boardview.specs.Geometry.{slot_left, slot_right, slot_up, slot_down, edge_left, edge_up}
 use Rattle.boardview.specs.Steps.{line_at, undecided_at}
@@ -59,14 +61,14 @@ module _ (g : Grid) (s : Arrays) (y : Ready g s) (n : ℕ) (h : n < 1024) (b : B
       go false q k = refl
 
 -- THE ACTION of the last part, as the model has it
-pub data Action (kind : List ℕ) (s : Arrays) (v t : ℕ) : Type 0 where
+pub data Action (kind : Kinds) (s : Arrays) (v t : ℕ) : Type 0 where
   nothing : t ≡ 0 → ((dec : Decide) → settled (grid_in kind) dec v (view s) ≡ view s) → Action kind s v t
   raise : t ≡ 1 → ((dec : Decide) → settled (grid_in kind) dec v (view s) ≡ set_flag (view s)) → Action kind s v t
   draw : (n : ℕ) → t ≡ n → n < 1024 → get_or s.edges n 0 ≡ 0 → ((dec : Decide) → settled (grid_in kind) dec v (view s) ≡ dec (edge_of n) line (view s)) → Action kind s v t
   leave : (n : ℕ) → t ≡ n + 1024 → n < 1024 → get_or s.edges n 0 ≡ 0 → ((dec : Decide) → settled (grid_in kind) dec v (view s) ≡ dec (edge_of n) none (view s)) → Action kind s v t
 
 -- ALL FOUR
-module _ (kind : List ℕ) (s : Arrays) (y : Ready (grid_in kind) s) (v : ℕ) (inside_board : v < pads (grid_in kind)) where
+module _ (kind : Kinds) (s : Arrays) (y : Ready (grid_in kind) s) (v : ℕ) (inside_board : v < pads (grid_in kind)) where
   abbrev g : Grid
   g = grid_in kind
 
@@ -133,7 +135,7 @@ module _ (kind : List ℕ) (s : Arrays) (y : Ready (grid_in kind) s) (v : ℕ) (
         undecideds_one g s y (33 + 2 * v) low_down (has_down g v) at_down (down v) is_down (v + w) [],
       ) (omega arith)
 
-  pub degree_is : degree g (view s) v ≡ degree_around kind es w v
+  pub degree_is : degree g (view s) v ≡ degree_around kind.bits es w v
   unfolding around degree edges_around degree_around lines
   degree_is = rw (
     clue_test kind v small,
@@ -218,7 +220,7 @@ module _ (kind : List ℕ) (s : Arrays) (y : Ready (grid_in kind) s) (v : ℕ) (
   -- THE MODEL'S LAST PART, by its tests
   module _ (dec : Decide) where
     abbrev D : ℕ
-    D = degree_around kind es w v
+    D = degree_around kind.bits es w v
 
     abbrev N : ℕ
     N = undecided_around es w v
@@ -247,7 +249,7 @@ module _ (kind : List ℕ) (s : Arrays) (y : Ready (grid_in kind) s) (v : ℕ) (
   first_facts h = let c = first_undecided (λ e m S. S) line h in (c.1, c.2)
 
   abbrev dd : ℕ
-  dd = degree_around kind es w v
+  dd = degree_around kind.bits es w v
 
   abbrev nn : ℕ
   nn = undecided_around es w v
@@ -255,7 +257,7 @@ module _ (kind : List ℕ) (s : Arrays) (y : Ready (grid_in kind) s) (v : ℕ) (
   abbrev ff : ℕ
   ff = first_around es w v
 
-  pub action_is : (t : ℕ) → t ≡ action_around kind es w v → Action kind s v t
+  pub action_is : (t : ℕ) → t ≡ action_around kind.bits es w v → Action kind s v t
   unfolding action_around
   action_is t h = rw h (go (ltb 2 dd) refl (eqb nn 0) refl (eqb dd 1) refl (eqb dd 2) refl (eqb nn 1) refl)
     where

@@ -11,7 +11,7 @@ use Rattle.rules.specs.Tests.{is_so}
 use Rattle.model.specs.PadTests.{is_blank}
 use Rattle.model.specs.Board.{EdgeState, line, none, is_line, is_undecided, State, set_flag, Item, detour, corner, bar, when, Decide, Check, do_item, do_items, decide, check}
 use Rattle.boardview.specs.declared.Arrays.{Arrays}
-use Rattle.boardview.specs.View.{flag_in, ended_in, stopped, edge_of, slot_on, state_of, view, undecided_in, Ready, Decided, Done, then, in_a_row, shown, detour_at}
+use Rattle.boardview.specs.View.{flag_in, ended_in, stopped, edge_of, slot_on, state_of, view, undecided_in, Ready, Decided, Done, then, in_a_row, shown, detour_at, with_count}
 use Rattle.model.specs.Lists.{default_free}
 use Rattle.boardview.specs.Bytes.{elim_true, elim_false, line_byte_test, undecided_byte_test, slot_of_edge, on_slot}
 use Rattle.boardview.specs.Unwind.{since_still, since_then}
@@ -39,9 +39,6 @@ module _ (g : Grid) (dec : Decide) (chk : Check) where
           → (in_a_row g dec chk is (do_item g dec chk it S)).0 ≡ elim b [ true ↦ (do_item g dec chk it S).0 | false ↦ do_items g dec chk is (do_item g dec chk it S).0 ]
       go true e r = ap (λ (b : Bool). (in_a_row g dec chk is ((do_item g dec chk it S).0, b)).0) e ∙ ap (λ (P : State × Bool). P.0) (row_ended is (do_item g dec chk it S).0)
       go false e r = ap (λ (b : Bool). (in_a_row g dec chk is ((do_item g dec chk it S).0, b)).0) e ∙ r
-
-abbrev pub with_count : Arrays → ℕ → Arrays
-with_count s c = record { edges = s.edges; ends = s.ends; log = s.log; count = c }
 
 -- PARTS OF A DECISION
 module _ (g : Grid) where

@@ -10,7 +10,8 @@ use Rattle.model.specs.JoinedEnds.{at_pad, is_through, joined_ends}
 use Rattle.model.specs.PadTests.{on_board}
 use Rattle.model.specs.Board.{set_edge, join_ends}
 use Rattle.boardview.specs.declared.Arrays.{Arrays}
-use Rattle.boardview.specs.View.{logged, flag_in, ended_in, stopped, ended, going, pick, slot, slot_on, state_of, view, end_of, end_at, second_pad, joined, undecided_in, Entry, Ready, Since}
+use Rattle.boardview.specs.Told.{pick}
+use Rattle.boardview.specs.View.{logged, flag_in, ended_in, stopped, ended, going, slot, slot_on, state_of, view, end_of, end_at, second_pad, joined, undecided_in, Entry, Ready, Since}
 use Rattle.boardview.specs.Bytes.{edge_on, one_fewer, some_undecided, edge_stored}
 use Rattle.boardview.specs.Ends.{stay_paired, stay_near, joined_long, joined_at, unjoined_is}
 use Rattle.boardview.specs.Unwind.{log_stored, log_joined, slot_stored, mark_stored, slot_joined, first_joined, second_joined, stored_kept, stored_back, joined_kept, joined_back, since_one}

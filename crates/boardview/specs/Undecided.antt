@@ -8,7 +8,8 @@ use Rattle.rules.specs.Tests.{both, not_so}
 use Rattle.model.specs.PadTests.{on_board, has_right}
 use Rattle.model.specs.Board.{enough}
 use Rattle.boardview.specs.declared.Arrays.{Arrays}
-use Rattle.boardview.specs.View.{pick, slot, slot_on, edge_of, undecided_in, Ready}
+use Rattle.boardview.specs.Told.{pick}
+use Rattle.boardview.specs.View.{slot, slot_on, edge_of, undecided_in, Ready}
 use Rattle.boardview.specs.Bytes.{on_slot, slot_of_edge}
 
 -- bytes below a and from b on are no zeros: there are at most b - a zeros

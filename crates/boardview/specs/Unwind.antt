@@ -5,7 +5,8 @@ use Rattle.std.proofs.Common.{sym, ap, ◌∙◌, arith, length-set, get_or-set_
 use Rattle.std.proofs.lemmas.List.{set-get_or}
 use Rattle.model.specs.JoinedEnds.{is_through, unjoinable}
 use Rattle.boardview.specs.declared.Arrays.{Arrays}
-use Rattle.boardview.specs.View.{logged, pick, end_of, end_at, put_number, joined, unjoined, second_pad, slot_logged, undone_one, unwound, Since, stopped, going}
+use Rattle.boardview.specs.Told.{pick}
+use Rattle.boardview.specs.View.{logged, end_of, end_at, put_number, joined, unjoined, second_pad, slot_logged, undone_one, unwound, Since, stopped, going}
 use Rattle.boardview.specs.Ends.{length_put}
 
 -- UNDOING ENTRIES

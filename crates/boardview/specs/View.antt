@@ -2,18 +2,14 @@
 -- here: a byte for each edge, an end number for each pad, the log of decided edges, and a count that holds the log's length and the flag.
 -- It rests on the model's Board.antt. Nothing is proved in this file.
 use Rattle.std.specs.Prelude.{ℕ, zero, suc, ◌+◌, ◌*◌, ◌-◌, ◌%◌, ◌/◌, ◌≤◌, ◌<◌, ◌≡◌, Bool, true, false, ◌&&◌, ◌||◌, not, List, [], ◌∷◌, eqb, ltb, leb, get_or, set, length, ℤ, pos, negsuc, nat_abs}
-use Rattle.std.specs.Int.Bits.{bit_and}
-use Rattle.rules.specs.Grid.{Edge, right, down, Cell, blank, clue, hole, Grid, pads}
+use Rattle.rules.specs.Grid.{Edge, right, down, Grid, pads}
 use Rattle.rules.specs.Drawing.{num, Side, on_left, on_right}
 use Rattle.model.specs.JoinedEnds.{End, through, at_pad, at_clue, is_through}
 use Rattle.model.specs.PadTests.{has_down, on_board}
 use Rattle.boardview.specs.declared.Arrays.{Arrays}
+use Rattle.boardview.specs.declared.kinds.Kinds.{Kinds}
+use Rattle.boardview.specs.Told.{pick, has_bit, clue_bit, grid_told, bytes_equal}
 use Rattle.model.specs.Board.{EdgeState, undecided, line, none, State, Item, detour, corner, bar, check_pad, keep_apart, when, has_side, barred, do_item, settled, decide, check, Decide, Check}
-
--- one of two values, by a test
-abbrev pub pick : {A : Type 0} → Bool → A → A → A
-pick true a b = a
-pick false a b = b
 
 -- THE COUNT: the log's length, plus 1024 if the flag is set, plus 2048 if the flag is set and the decision has ended.
 abbrev pub logged : Arrays → ℕ
@@ -36,6 +32,10 @@ ended count = pick (ltb count 1024) count (stopped count)
 -- the decision goes on, whether the flag is set or not
 unfoldable pub going : ℕ → ℕ
 going count = pick (ltb count 2048) count (count - 1024)
+
+-- the same arrays with this count
+abbrev pub with_count : Arrays → ℕ → Arrays
+with_count s c = record { edges = s.edges; ends = s.ends; log = s.log; count = c }
 
 -- SLOTS: the byte of an edge stands here; 32 bytes before the first edge hold none for ever.
 abbrev pub slot : Edge → ℕ
@@ -67,76 +67,13 @@ end_at ends v = end_of (get_or ends v (pos v))
 unfoldable pub view : Arrays → State
 view s = record { edge = λ e. state_of (get_or s.edges (slot e) 2); end = λ v. end_at s.ends v; flag = flag_in s.count }
 
--- THE KINDS of the pads: a byte for each pad, with a bit for each of six facts; then the height and the width.
-unfoldable pub has_bit : List ℕ → ℕ → ℕ → Bool
-has_bit kind v bit = not (eqb (bit_and (get_or kind v 0) bit) 0)
+-- THE GRID that the kinds tell of: its sizes, and which pads are blank, clues or holes
+abbrev pub grid_in : Kinds → Grid
+grid_in kinds = grid_told kinds.height kinds.width kinds.bits
 
-abbrev pub clue_bit : ℕ
-clue_bit = 1
-
-abbrev pub bar_bit : Side → ℕ
-bar_bit on_right = 2
-bar_bit on_left = 4
-
-abbrev pub corner_bit : Side → ℕ
-corner_bit on_right = 8
-corner_bit on_left = 16
-
--- not blank: a clue or a hole
-abbrev pub taken_bit : ℕ
-taken_bit = 32
-
--- the grid that the kinds tell of: its sizes, and which pads are blank, clues or holes. A decision asks no more of a grid (SameKinds.antt).
-abbrev pub cell_in : (clue_is is_taken : Bool) → Cell
-cell_in true is_taken = clue 0
-cell_in false true = hole
-cell_in false false = blank
-
-unfoldable pub grid_in : List ℕ → Grid
-grid_in kind = record {
-  height = get_or kind 510 0;
-  width = get_or kind 511 0;
-  cell = λ v. cell_in (ltb v 256 && has_bit kind v clue_bit) (ltb v 256 && has_bit kind v taken_bit);
-}
-
--- the four sides of a pad: 0 left, 1 right, 2 up, 3 down. The slot of the edge on a side, and 16 more than the pad beyond it
+-- the slot of the edge on a side of a pad: 0 left, 1 right, 2 up, 3 down
 unfoldable pub slot_around : ℕ → ℕ → ℕ → ℕ
 slot_around width v side = pick (eqb side 0) (30 + 2 * v) (pick (eqb side 1) (32 + 2 * v) (pick (eqb side 2) (33 + 2 * v - 2 * width) (33 + 2 * v)))
-
-unfoldable pub past_around : ℕ → ℕ → ℕ → ℕ
-past_around width v side = pick (eqb side 0) (15 + v) (pick (eqb side 1) (17 + v) (pick (eqb side 2) (16 + v - width) (16 + v + width)))
-
--- WHAT THE PAD CHECK DOES LAST, as a code: 0 nothing, 1 the flag, 2 + a side a line there, 6 + a side none there. It depends on the clue (1 or
--- 0) and on the bytes of the edges left, right, up and down.
-abbrev pub bytes_equal : (at_left at_right at_up at_down byte : ℕ) → ℕ
-bytes_equal at_left at_right at_up at_down byte = num (eqb at_left byte) + num (eqb at_right byte) + num (eqb at_up byte) + num (eqb at_down byte)
-
-unfoldable pub undecided_side : (at_left at_right at_up : ℕ) → ℕ
-undecided_side at_left at_right at_up = pick (eqb at_left 0) 0 (pick (eqb at_right 0) 1 (pick (eqb at_up 0) 2 3))
-
-unfoldable pub action_code : (clues at_left at_right at_up at_down : ℕ) → ℕ
-action_code clues at_left at_right at_up at_down =
-    pick (ltb 2 (clues + bytes_equal at_left at_right at_up at_down 1)) 1
-    (pick (eqb (bytes_equal at_left at_right at_up at_down 0) 0) (pick (eqb (clues + bytes_equal at_left at_right at_up at_down 1) 1) 1 0)
-    (pick (eqb (clues + bytes_equal at_left at_right at_up at_down 1) 2) (6 + undecided_side at_left at_right at_up)
-    (pick (eqb (bytes_equal at_left at_right at_up at_down 0) 1) (pick (eqb (clues + bytes_equal at_left at_right at_up at_down 1) 1) (2 + undecided_side at_left at_right at_up) (6 + undecided_side at_left at_right at_up)) 0)))
-
--- the table of the codes: the clue and the four bytes are the digits of the index
-unfoldable pub action_entry : ℕ → ℕ
-action_entry i = action_code (i / 256) (i % 4) (i / 4 % 4) (i / 16 % 4) (i / 64 % 4)
-
--- a clue is taken, the bits of the barred pads and of the corners are right, the sizes are in range, and behind them stands the table of the
--- pad check's codes
-pub record Kinds (kind : List ℕ) : Type 0 where
-  pub long : length kind ≡ 1024
-  pub least_width : 2 ≤ (grid_in kind).width
-  pub largest_width : (grid_in kind).width ≤ 16
-  pub least_height : 2 ≤ (grid_in kind).height
-  pub largest_height : (grid_in kind).height ≤ 16
-  pub clue_taken : (v : ℕ) → v < 256 → has_bit kind v clue_bit ≡ true → has_bit kind v taken_bit ≡ true
-  pub corners : (side : Side) (v : ℕ) → v < pads (grid_in kind) → has_bit kind v (corner_bit side) ≡ (has_down (grid_in kind) v && has_side (grid_in kind) side v)
-  pub actions : (i : ℕ) → i < 512 → get_or kind (512 + i) 0 ≡ action_entry i
-  pub bars : (side : Side) (v : ℕ) → v < pads (grid_in kind) → has_bit kind v (bar_bit side) ≡ ((has_down (grid_in kind) v && has_side (grid_in kind) side v) && barred (grid_in kind) side (grid_in kind).height v)
 
 -- the number of undecided edges
 unfoldable pub undecided_in : List ℕ → ℕ
@@ -292,17 +229,17 @@ abbrev pub undecided_around : List ℕ → ℕ → ℕ → ℕ
 undecided_around edges width v = edges_around edges width v 0
 
 unfoldable pub degree_around : List ℕ → List ℕ → ℕ → ℕ → ℕ
-degree_around kind edges width v = num (has_bit kind v clue_bit) + edges_around edges width v 1
+degree_around bits edges width v = num (has_bit bits v clue_bit) + edges_around edges width v 1
 
 unfoldable pub first_around : List ℕ → ℕ → ℕ → ℕ
 first_around edges width v = pick (eqb (get_or edges (30 + 2 * v) 0) 0) (30 + 2 * v) (pick (eqb (get_or edges (32 + 2 * v) 0) 0) (32 + 2 * v) (pick (eqb (get_or edges (33 + 2 * v - 2 * width) 0) 0) (33 + 2 * v - 2 * width) (33 + 2 * v)))
 
 -- what the pad check does last: 0 nothing, 1 the flag, a slot: a line there, 1024 + a slot: none there
 unfoldable pub action_around : List ℕ → List ℕ → ℕ → ℕ → ℕ
-action_around kind edges width v = pick (ltb 2 (degree_around kind edges width v)) 1
-    (pick (eqb (undecided_around edges width v) 0) (pick (eqb (degree_around kind edges width v) 1) 1 0)
-    (pick (eqb (degree_around kind edges width v) 2) (first_around edges width v + 1024)
-    (pick (eqb (undecided_around edges width v) 1) (pick (eqb (degree_around kind edges width v) 1) (first_around edges width v) (first_around edges width v + 1024)) 0)))
+action_around bits edges width v = pick (ltb 2 (degree_around bits edges width v)) 1
+    (pick (eqb (undecided_around edges width v) 0) (pick (eqb (degree_around bits edges width v) 1) 1 0)
+    (pick (eqb (degree_around bits edges width v) 2) (first_around edges width v + 1024)
+    (pick (eqb (undecided_around edges width v) 1) (pick (eqb (degree_around bits edges width v) 1) (first_around edges width v) (first_around edges width v + 1024)) 0)))
 
 -- none at a slot: a decision on the board, nothing off it
 pub record NoneAt (g : Grid) (s : Arrays) (n : ℕ) (s' : Arrays) : Type 0 where

@@ -1,22 +1,28 @@
--- `boardparts::cannot_join` meets its contract.
-use Rattle.boardview.specs.Signed.{unjoinable_1, unjoinable_2, unjoinable_3, unjoinable_4}
-use Rattle.boardview.specs.View.{end_at}
-use mathlib.Core.Path.{refl, sym, ◌∙◌}
+-- `boardparts::cannot_join` meets its contract, by what the two ends say.
+use mathlib.Core.Path.{refl}
+use Rattle.model.specs.JoinedEnds.{unjoinable}
+use Rattle.boardparts.proofs.Ends.{ends_at_pad, or_nothing}
 use Rattle.boardparts.proofs.cannot_join.Goals as goal
 
-pub returns-then-passed : goal.returns-then-passed
-returns-then-passed c = unjoinable_1 (end_at c.args.ends.now c.args.v) (end_at c.args.ends.now c.args.q) c.args.q (sym c.passed.ensures ∙ c.if-passed.true)
+pub returns-in-Through : goal.returns-in-Through
+unfolding unjoinable
+returns-in-Through c = rw (← c.in-Through.ensures) refl
 
-pub returns-then-passed-2 : goal.returns-then-passed-2
-returns-then-passed-2 c = unjoinable_2 (end_at c.args.ends.now c.args.v) (end_at c.args.ends.now c.args.q) c.args.q (sym c.passed.ensures ∙ c.if-passed.false) (sym c.passed-2.ensures ∙ c.if-passed-2.true)
+pub returns-in-Through-second_end : goal.returns-in-Through-second_end
+unfolding unjoinable
+returns-in-Through-second_end c = rw (← c.in-Pad.ensures, ← c.in-Through-second_end.ensures) refl
 
-pub returns-then-a-ne0 : goal.returns-then-a-ne0
-returns-then-a-ne0 c =
-    let start = c in
-    let end-code-says = c.end_code-a.ensures in
-    c.rivals.ensures ∙ (rw (end-code-says, c.end_code.ensures) refl ∙ unjoinable_3 (end_at start.args.ends.now start.args.v) (end_at start.args.ends.now start.args.q) start.args.q (sym c.passed.ensures ∙ c.if-passed.false) (sym c.passed-2.ensures ∙ c.if-passed-2.false) (rw (end-code-says) at c.if-a-ne0.true))
+pub returns-in_default : goal.returns-in_default
+returns-in_default c = rw (← c.in-Pad.ensures, ← c.end_at-second_end.ensures) (ends_at_pad c.end_at-second_end.result c.in_default.not-Through c.in-Pad.a c.args.q)
 
-pub returns : goal.returns
-returns c =
-    let start = c in
-    rw c.end_pad.ensures (unjoinable_4 (end_at start.args.ends.now start.args.v) (end_at start.args.ends.now start.args.q) start.args.q (sym c.passed.ensures ∙ c.if-passed.false) (sym c.passed-2.ensures ∙ c.if-passed-2.false) (sym c.end_code-a.ensures ∙ c.if-a-ne0.false))
+pub returns-in-Through-second_end-2 : goal.returns-in-Through-second_end-2
+unfolding unjoinable
+returns-in-Through-second_end-2 c = rw (← c.in-Clue.ensures, ← c.in-Through-second_end-2.ensures) refl
+
+pub returns-in-Pad-second_end : goal.returns-in-Pad-second_end
+unfolding unjoinable
+returns-in-Pad-second_end c = rw (← c.in-Clue.ensures, ← c.in-Pad-second_end.ensures) refl
+
+pub returns-in-Clue-second_end : goal.returns-in-Clue-second_end
+unfolding unjoinable
+returns-in-Clue-second_end c = rw (← c.in-Clue.ensures, ← c.in-Clue-second_end.ensures) (or_nothing _)

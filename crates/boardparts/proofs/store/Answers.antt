@@ -4,4 +4,4 @@ use mathlib.Core.Path.{refl}
 use Rattle.boardparts.proofs.store.Goals as goal
 
 pub returns : goal.returns
-returns c = rw (slot_number c.args.slot c.requires.0) refl
+returns c = rw (c.logged-k.ensures, slot_number c.args.slot c.requires.0) refl

@@ -1,7 +1,0 @@
--- `boardparts::width` meets its contract.
-use Rattle.boardview.specs.View.{grid_in}
-use Rattle.boardparts.proofs.width.Goals as goal
-
-pub returns : goal.returns
-unfolding grid_in
-returns c = c.wide.ensures

@@ -1,0 +1,1 @@
+-- The answers stand in the folders of the functions; no laws are shared.
