@@ -2,7 +2,7 @@
 use Prim.Native.Nat.{ℕ, ◌+◌, ◌≤◌, ◌<◌}
 use mathlib.Core.Path.{◌≡◌}
 use borrow.Author.Tests.{lt-ltb, le-ltb, eq-eqb, ne_eqb}
-use Rattle.boardview.specs.View.{bytes_equal, undecided_side, action_code}
+use Rattle.boardview.specs.Told.{bytes_equal, undecided_side, action_code}
 
 module _ (clues l r u d : ℕ) where
   abbrev degree : ℕ

@@ -14,11 +14,13 @@ use Rattle.model.specs.JoinedEnds.{at_pad, bare_end}
 use Rattle.model.specs.PadTests.{is_blank, is_clue, on_board}
 use Rattle.model.specs.Board.{undecided, none, barred, bare}
 use Rattle.boardview.specs.declared.Arrays.{Arrays}
-use Rattle.boardview.specs.View.{pick, slot, slot_on, state_of, end_of, end_at, view, has_bit, clue_bit, taken_bit, corner_bit, bar_bit, cell_in, grid_in, Kinds, Ready}
+use Rattle.boardview.specs.declared.kinds.Kinds.{Kinds}
+use Rattle.boardview.specs.Told.{pick, has_bit, clue_bit, taken_bit, corner_bit, bar_bit, cell_in, grid_told, Told}
+use Rattle.boardview.specs.View.{slot, slot_on, state_of, end_of, end_at, view, Ready}
 use Rattle.model.specs.Lists.{default_free}
 use Rattle.boardview.specs.Bytes.{edge_on}
 use Rattle.boardview.specs.SameKinds.{plain_cell, plain, same_barred, Shows, shown_plain}
-use Rattle.boardbare.specs.BareArrays.{EdgesFrom, EndsFrom, bare_end_number, end_number_at, AllKinds}
+use Rattle.boardbare.specs.BareArrays.{EdgesFrom, EndsFrom, bare_end_number, end_number_at, BitsFrom, Table}
 use Rattle.boardbare.specs.BareView.{BareBoard}
 use Rattle.boardbare.specs.EdgeBytes.{few_pads, edge_byte_is, past_the_edges}
 use Rattle.boardbare.specs.Bars.{corner, clue_held, taken_held, corner_held, bar_held}
@@ -92,61 +94,65 @@ clue_is_taken blank h = h
 clue_is_taken (clue code) h = refl
 clue_is_taken hole h = refl
 
-module _ (height width : ℕ) (cells : List ℤ) (ok : Accepted height width cells) (kind : List ℕ) (all : AllKinds height width cells kind) where
+module _ (height width : ℕ) (cells : List ℤ) (ok : Accepted height width cells) where
   abbrev the_grid : Grid
   the_grid = grid_of height width cells
 
   few : height * width ≤ 256
   few = few_pads height width ok.height_in_range ok.width_in_range
 
-  -- a bit that says something of the cell, below 256; past it every cell is blank
-  bit_in : (bit : ℕ) (test : Cell → Bool) → test blank ≡ false → ((v : ℕ) → v < 256 → has_bit kind v bit ≡ test (the_grid.cell v)) → (v : ℕ)
-      → ltb v 256 && has_bit kind v bit ≡ test (the_grid.cell v)
-  unfolding grid_of cell_of
-  bit_in bit test off held v = go (ltb v 256) refl
-    where
-      go : (b : Bool) → ltb v 256 ≡ b → b && has_bit kind v bit ≡ test (the_grid.cell v)
-      go true e = held v (ltb-true v 256 e)
-      go false e = let past = ltb-false v 256 e in
-          rw (get_or-eq_default cells blank_cell {n = v} (omega (arith, ok.one_cell_a_pad, few))) (sym off)
+  module _ (bits : List ℕ) (filled : BitsFrom the_grid 0 bits) where
+    -- a bit that says something of the cell, below 256; past it every cell is blank
+    bit_in : (bit : ℕ) (test : Cell → Bool) → test blank ≡ false → ((v : ℕ) → v < 256 → has_bit bits v bit ≡ test (the_grid.cell v)) → (v : ℕ)
+        → ltb v 256 && has_bit bits v bit ≡ test (the_grid.cell v)
+    unfolding grid_of cell_of
+    bit_in bit test off held v = go (ltb v 256) refl
+      where
+        go : (b : Bool) → ltb v 256 ≡ b → b && has_bit bits v bit ≡ test (the_grid.cell v)
+        go true e = held v (ltb-true v 256 e)
+        go false e = let past = ltb-false v 256 e in
+            rw (get_or-eq_default cells blank_cell {n = v} (omega (arith, ok.one_cell_a_pad, few))) (sym off)
 
-  clue_bits : (v : ℕ) → v < 256 → has_bit kind v clue_bit ≡ is_clue (the_grid.cell v)
-  clue_bits v h = clue_held the_grid kind 0 all.filled v (omega arith) h
+    clue_bits : (v : ℕ) → v < 256 → has_bit bits v clue_bit ≡ is_clue (the_grid.cell v)
+    clue_bits v h = clue_held the_grid bits 0 filled v (omega arith) h
 
-  taken_bits : (v : ℕ) → v < 256 → has_bit kind v taken_bit ≡ not (is_blank (the_grid.cell v))
-  taken_bits v h = taken_held the_grid kind 0 all.filled v (omega arith) h
+    taken_bits : (v : ℕ) → v < 256 → has_bit bits v taken_bit ≡ not (is_blank (the_grid.cell v))
+    taken_bits v h = taken_held the_grid bits 0 filled v (omega arith) h
 
-  grid_told : Shows the_grid kind
-  unfolding grid_in grid_of
-  grid_told = record {
-    height = all.height_held;
-    width = all.width_held;
-    cells = λ v. rw (bit_in clue_bit is_clue refl clue_bits v, bit_in taken_bit (λ c. not (is_blank c)) refl taken_bits v) (cell_told (the_grid.cell v));
-  }
+    cells_told : (v : ℕ) → (grid_told height width bits).cell v ≡ plain_cell (the_grid.cell v)
+    cells_told v = rw (bit_in clue_bit is_clue refl clue_bits v, bit_in taken_bit (λ c. not (is_blank c)) refl taken_bits v) (cell_told (the_grid.cell v))
 
-  -- the kinds are right for the grid without codes
-  told_corners : (side : Side) (v : ℕ) → v < pads (plain the_grid) → has_bit kind v (corner_bit side) ≡ corner (plain the_grid) side v
-  unfolding plain grid_of
-  told_corners side v h = corner_held the_grid kind 0 all.filled v (omega arith) (omega (arith, few)) side
+    pub shows_grid : (kinds : Kinds) → kinds.height ≡ height → kinds.width ≡ width → kinds.bits ≡ bits → Shows the_grid kinds
+    unfolding grid_of
+    shows_grid kinds high wide same = record { height = high; width = wide; cells = λ v. rw same (cells_told v) }
 
-  told_bars : (side : Side) (v : ℕ) → v < pads (plain the_grid) → has_bit kind v (bar_bit side) ≡ corner (plain the_grid) side v && barred (plain the_grid) side (plain the_grid).height v
-  unfolding plain grid_of
-  told_bars side v h = bar_held the_grid kind 0 all.filled v (omega arith) (omega (arith, few)) side
-      ∙ ap (λ b. corner the_grid side v && b) (sym (same_barred the_grid side height v))
+    same_grid : grid_told height width bits ≡ plain the_grid
+    unfolding plain grid_of
+    same_grid = λ i. record { height = height; width = width; cell = λ v. cells_told v i }
 
-  kinds_told : Kinds kind
-  unfolding grid_in
-  kinds_told = record {
-    long = all.filled.as_long;
-    least_width = rw all.width_held ok.width_in_range.0;
-    largest_width = rw all.width_held ok.width_in_range.1;
-    least_height = rw all.height_held ok.height_in_range.0;
-    largest_height = rw all.height_held ok.height_in_range.1;
-    clue_taken = λ v h c. taken_bits v h ∙ clue_is_taken (the_grid.cell v) (sym (clue_bits v h) ∙ c);
-    actions = all.table.holds;
-    corners = subst (λ G. (side : Side) (v : ℕ) → v < pads G → has_bit kind v (corner_bit side) ≡ corner G side v) (sym (shown_plain grid_told)) told_corners;
-    bars = subst (λ G. (side : Side) (v : ℕ) → v < pads G → has_bit kind v (bar_bit side) ≡ corner G side v && barred G side G.height v) (sym (shown_plain grid_told)) told_bars;
-  }
+    -- what is told is right for the grid without codes
+    told_corners : (side : Side) (v : ℕ) → v < pads (plain the_grid) → has_bit bits v (corner_bit side) ≡ corner (plain the_grid) side v
+    unfolding plain grid_of
+    told_corners side v h = corner_held the_grid bits 0 filled v (omega arith) (omega (arith, few)) side
+
+    told_bars : (side : Side) (v : ℕ) → v < pads (plain the_grid) → has_bit bits v (bar_bit side) ≡ corner (plain the_grid) side v && barred (plain the_grid) side (plain the_grid).height v
+    unfolding plain grid_of
+    told_bars side v h = bar_held the_grid bits 0 filled v (omega arith) (omega (arith, few)) side
+        ∙ ap (λ b. corner the_grid side v && b) (sym (same_barred the_grid side height v))
+
+    pub told : (actions : List ℕ) → Table actions → Told height width bits actions
+    told actions table = record {
+      bits_long = filled.as_long;
+      actions_long = table.as_long;
+      least_width = ok.width_in_range.0;
+      largest_width = ok.width_in_range.1;
+      least_height = ok.height_in_range.0;
+      largest_height = ok.height_in_range.1;
+      clue_taken = λ v h c. taken_bits v h ∙ clue_is_taken (the_grid.cell v) (sym (clue_bits v h) ∙ c);
+      table = table.holds;
+      corners = subst (λ G. (side : Side) (v : ℕ) → v < pads G → has_bit bits v (corner_bit side) ≡ corner G side v) (sym same_grid) told_corners;
+      bars = subst (λ G. (side : Side) (v : ℕ) → v < pads G → has_bit bits v (bar_bit side) ≡ corner G side v && barred G side G.height v) (sym same_grid) told_bars;
+    }
 
   -- THE WHOLE
   module _ (edges : List ℕ) (filled_edges : EdgesFrom width (height * width) 0 edges) (ends : List ℤ) (filled_ends : EndsFrom cells 0 ends) where
@@ -182,10 +188,9 @@ module _ (height width : ℕ) (cells : List ℤ) (ok : Accepted height width cel
       flag = false;
     }
 
-    pub bare_board : BareBoard the_grid edges ends kind
-    bare_board = record {
-      kinds = kinds_told;
-      told = grid_told;
-      ready = λ log long. subst (λ G. Ready G (the_arrays log)) (sym (shown_plain grid_told)) (ready_told log long);
+    pub bare_board : (kinds : Kinds) → Shows the_grid kinds → BareBoard the_grid edges ends kinds
+    bare_board kinds shown = record {
+      told = shown;
+      ready = λ log long. subst (λ G. Ready G (the_arrays log)) (sym (shown_plain shown)) (ready_told log long);
       shows = shows_bare;
     }

@@ -1,16 +1,16 @@
--- What the arrays of a bare board hold at each index: a byte for each edge, an end number for each pad, and the kinds of the pads. The
+-- What the arrays of a bare board hold at each index: a byte for each edge, an end number for each pad, and what is told of the pads. The
 -- contracts of the code cite these definitions; proofs/BareView.antt shows what they mean. It rests on boardview's View.antt.
 use Rattle.std.specs.Prelude.{ℕ, suc, ◌+◌, ◌*◌, ◌-◌, ◌/◌, ◌%◌, ◌≤◌, ◌<◌, ◌≡◌, Bool, true, false, ◌&&◌, not, List, eqb, ltb, get_or, length, ℤ, pos, negsuc}
-use Rattle.rules.specs.Grid.{CellInRange, blank_cell, cell_of, Grid, grid_of}
+use Rattle.rules.specs.Grid.{CellInRange, blank_cell, cell_of, Grid}
 use Rattle.rules.specs.Drawing.{num, on_left, on_right}
 use Rattle.model.specs.PadTests.{is_blank, is_clue, has_down}
 use Rattle.model.specs.Board.{has_side, barred}
 use Rattle.boardbare.specs.declared.Facts.{Facts}
 use Rattle.boardparts.specs.declared.Side.{Side}
 use Rattle.boardparts.specs.declared.Side.TheVariants.{Left, Right}
-use Rattle.boardview.specs.View.{pick, has_bit, taken_bit, action_entry}
+use Rattle.boardview.specs.Told.{pick, has_bit, taken_bit, action_entry}
 
--- FILLED: a list of this length, which from `start` up to `size` holds what f says. The kinds are filled from the last index down to 0.
+-- FILLED: a list of this length, which from `start` up to `size` holds what f says. The bytes of the pads are filled from the last index down to 0.
 pub record Filled {A : Type 0} (f : ℕ → A) (rest : A) (long size start : ℕ) (l : List A) : Type 0 where
   pub as_long : length l ≡ long
   pub holds : (i : ℕ) → start ≤ i → i < size → get_or l i rest ≡ f i
@@ -43,7 +43,7 @@ EndsFrom cells start ends = Filled (end_number_at cells) (pos 0) 512 512 start e
 abbrev pub CellsInRange : List ℤ → Type 0
 CellsInRange cells = (v : ℕ) → v < length cells → CellInRange (get_or cells v blank_cell)
 
--- KINDS: a byte of six facts of a pad: a clue, barred to the right, barred to the left, a corner to the right, a corner to the left, taken
+-- BITS: a byte of six facts of a pad: a clue, barred to the right, barred to the left, a corner to the right, a corner to the left, taken
 unfoldable pub kind_byte : Bool → Bool → Bool → Bool → Bool → Bool → ℕ
 kind_byte clue bar_right bar_left corner_right corner_left taken =
     num clue + 2 * num bar_right + 4 * num bar_left + 8 * num corner_right + 16 * num corner_left + 32 * num taken
@@ -88,25 +88,10 @@ kind_of g v = kind_byte (is_clue (g.cell v))
     ((has_down g v && has_side g on_right v) && barred g on_right g.height v) ((has_down g v && has_side g on_left v) && barred g on_left g.height v)
     (has_down g v && has_side g on_right v) (has_down g v && has_side g on_left v) (not (is_blank (g.cell v)))
 
-abbrev pub KindsFrom : ℕ → ℕ → List ℤ → ℕ → List ℕ → Type 0
-KindsFrom height width cells start kind = Filled (kind_of (grid_of height width cells)) 0 1024 256 start kind
+abbrev pub BitsFrom : Grid → ℕ → List ℕ → Type 0
+BitsFrom g start bits = Filled (kind_of g) 0 512 256 start bits
 
--- a byte of the kinds before any is told, with the pad check's table behind them
-unfoldable pub table_byte : ℕ → ℕ
-table_byte i = pick (ltb i 512) 0 (action_entry (i - 512))
-
--- the pad check's table from an entry on, behind kinds that are not told yet
-pub record TableFrom (start : ℕ) (kind : List ℕ) : Type 0 where
-  pub as_long : length kind ≡ 1024
-  pub untold : (v : ℕ) → v < 512 → get_or kind v 0 ≡ 0
-  pub entries : (i : ℕ) → start ≤ i → i < 512 → get_or kind (512 + i) 0 ≡ action_entry i
-
-pub record Table (kind : List ℕ) : Type 0 where
-  pub holds : (i : ℕ) → i < 512 → get_or kind (512 + i) 0 ≡ action_entry i
-
--- the kinds of all pads, the sizes, and the table
-pub record AllKinds (height width : ℕ) (cells : List ℤ) (kind : List ℕ) : Type 0 where
-  pub filled : KindsFrom height width cells 0 kind
-  pub height_held : get_or kind 510 0 ≡ height
-  pub width_held : get_or kind 511 0 ≡ width
-  pub table : Table kind
+-- the pad check's table
+pub record Table (actions : List ℕ) : Type 0 where
+  pub as_long : length actions ≡ 512
+  pub holds : (i : ℕ) → i < 512 → get_or actions i 0 ≡ action_entry i

@@ -3,15 +3,15 @@
 use Rattle.std.specs.Prelude.{ℕ, ◌≡◌, List, length, ℤ}
 use Rattle.rules.specs.Grid.{Grid, Accepted}
 use Rattle.model.specs.Board.{bare}
-use Rattle.boardview.specs.View.{view, grid_in, Kinds, Ready}
+use Rattle.boardview.specs.declared.kinds.Kinds.{Kinds}
+use Rattle.boardview.specs.View.{view, grid_in, Ready}
 use Rattle.boardview.specs.SameKinds.{Shows}
 use Rattle.boardbare.specs.BareArrays.{CellsInRange}
 
 -- WHAT THE CALLERS OF THE BARE ARRAYS GET
-pub record BareBoard (g : Grid) (edges : List ℕ) (ends : List ℤ) (kind : List ℕ) : Type 0 where
-  pub kinds : Kinds kind
-  pub told : Shows g kind
-  pub ready : (log : List ℤ) → length log ≡ 1440 → Ready (grid_in kind) (record { edges = edges; ends = ends; log = log; count = 0 })
+pub record BareBoard (g : Grid) (edges : List ℕ) (ends : List ℤ) (kinds : Kinds) : Type 0 where
+  pub told : Shows g kinds
+  pub ready : (log : List ℤ) → length log ≡ 1440 → Ready (grid_in kinds) (record { edges = edges; ends = ends; log = log; count = 0 })
   pub shows : (log : List ℤ) → view (record { edges = edges; ends = ends; log = log; count = 0 }) ≡ bare g
 
 -- the cells of an accepted grid are in range

@@ -15,7 +15,7 @@ use Rattle.rules.specs.Tests.{both}
 use Rattle.rules.specs.Places.{next_in_row}
 use Rattle.model.specs.PadTests.{is_blank, is_clue, has_down}
 use Rattle.model.specs.Board.{has_side, diagonal, barred}
-use Rattle.boardview.specs.View.{pick, has_bit, clue_bit, corner_bit, bar_bit, taken_bit}
+use Rattle.boardview.specs.Told.{pick, has_bit, clue_bit, corner_bit, bar_bit, taken_bit}
 use Rattle.boardbare.specs.BareArrays.{Filled, kind_byte, is_clue_at, is_taken, corner_test, barred_in, barred_below, bar_test, kind_from, kind_of}
 use Rattle.boardbare.specs.KindBits.{SixBits, six_bits}
 
@@ -76,28 +76,28 @@ module _ (g : Grid) where
     barred_at_rim e = ap (λ n. barred g side n v) high ∙ at_rim e
 
   -- THE BITS OF A PAD that is filled
-  module _ (kind : List ℕ) (start : ℕ) (filled : Filled (kind_of g) 0 1024 256 start kind) (v : ℕ) (low : start ≤ v) (high : v < 256) where
-    bits : SixBits kind v (is_clue (g.cell v)) (corner on_right v && barred g on_right g.height v) (corner on_left v && barred g on_left g.height v)
+  module _ (bits : List ℕ) (start : ℕ) (filled : Filled (kind_of g) 0 512 256 start bits) (v : ℕ) (low : start ≤ v) (high : v < 256) where
+    six : SixBits bits v (is_clue (g.cell v)) (corner on_right v && barred g on_right g.height v) (corner on_left v && barred g on_left g.height v)
         (corner on_right v) (corner on_left v) (not (is_blank (g.cell v)))
     unfolding kind_of
-    bits = six_bits kind v _ _ _ _ _ _ (filled.holds v low high)
+    six = six_bits bits v _ _ _ _ _ _ (filled.holds v low high)
 
-    pub clue_held : has_bit kind v clue_bit ≡ is_clue (g.cell v)
-    clue_held = bits.clue
+    pub clue_held : has_bit bits v clue_bit ≡ is_clue (g.cell v)
+    clue_held = six.clue
 
-    pub taken_held : has_bit kind v taken_bit ≡ not (is_blank (g.cell v))
-    taken_held = bits.taken
+    pub taken_held : has_bit bits v taken_bit ≡ not (is_blank (g.cell v))
+    taken_held = six.taken
 
-    pub corner_held : (side : Side) → has_bit kind v (corner_bit side) ≡ corner side v
-    corner_held on_right = bits.corner_right
-    corner_held on_left = bits.corner_left
+    pub corner_held : (side : Side) → has_bit bits v (corner_bit side) ≡ corner side v
+    corner_held on_right = six.corner_right
+    corner_held on_left = six.corner_left
 
-    pub bar_held : (side : Side) → has_bit kind v (bar_bit side) ≡ corner side v && barred g side g.height v
-    bar_held on_right = bits.bar_right
-    bar_held on_left = bits.bar_left
+    pub bar_held : (side : Side) → has_bit bits v (bar_bit side) ≡ corner side v && barred g side g.height v
+    bar_held on_right = six.bar_right
+    bar_held on_left = six.bar_left
 
     -- a byte tells whether its pad is barred
-    pub barred_held : (side : Side) (h : ℕ) → g.height ≡ suc h → barred_in kind v (corner_bit side) (bar_bit side) ≡ barred g side g.height v
+    pub barred_held : (side : Side) (h : ℕ) → g.height ≡ suc h → barred_in bits v (corner_bit side) (bar_bit side) ≡ barred g side g.height v
     unfolding barred_in
     barred_held side h tall = rw (corner_held side, bar_held side, taken_held, not-not (is_blank (g.cell v))) (go (corner side v) refl)
       where
@@ -119,10 +119,10 @@ module _ (height width : ℕ) (cells : List ℤ) (wide : 2 ≤ width) (few : hei
   same_corner on_right v = refl
   same_corner on_left v = refl
 
-  below_at : (kind : List ℕ) (side : Side) (v : ℕ) → barred_below kind width (is_right side) v ≡ barred_in kind (diagonal the_grid side v) (corner_bit side) (bar_bit side)
+  below_at : (bits : List ℕ) (side : Side) (v : ℕ) → barred_below bits width (is_right side) v ≡ barred_in bits (diagonal the_grid side v) (corner_bit side) (bar_bit side)
   unfolding barred_below grid_of
-  below_at kind on_right v = refl
-  below_at kind on_left v = refl
+  below_at bits on_right v = refl
+  below_at bits on_left v = refl
 
   -- the diagonal pad is one of the grid, further on
   diagonal_pad : (side : Side) (v : ℕ) → corner the_grid side v ≡ true → (v + 1 ≤ diagonal the_grid side v) × (diagonal the_grid side v < 256)
@@ -135,18 +135,18 @@ module _ (height width : ℕ) (cells : List ℤ) (wide : 2 ≤ width) (few : hei
       (omega arith, omega arith)
   diagonal_pad on_left v e = let below : v + width < height * width = ltb-true _ _ (both _ _ e).0 in (omega arith, omega arith)
 
-  module _ (kind : List ℕ) (v : ℕ) (filled : Filled (kind_of the_grid) 0 1024 256 (v + 1) kind) where
-    same_bar : (side : Side) → bar_test kind width (height * width) (is_taken cells v) (is_right side) v ≡ corner the_grid side v && barred the_grid side height v
+  module _ (bits : List ℕ) (v : ℕ) (filled : Filled (kind_of the_grid) 0 512 256 (v + 1) bits) where
+    same_bar : (side : Side) → bar_test bits width (height * width) (is_taken cells v) (is_right side) v ≡ corner the_grid side v && barred the_grid side height v
     unfolding bar_test is_taken grid_of
-    same_bar side = rw (same_corner side v, below_at kind side v) (go (corner the_grid side v) refl)
+    same_bar side = rw (same_corner side v, below_at bits side v) (go (corner the_grid side v) refl)
       where
         go : (b : Bool) → corner the_grid side v ≡ b
-            → b && (not (not (is_blank (cell_of (get_or cells v blank_cell)))) && barred_in kind (diagonal the_grid side v) (corner_bit side) (bar_bit side)) ≡ b && barred the_grid side height v
+            → b && (not (not (is_blank (cell_of (get_or cells v blank_cell)))) && barred_in bits (diagonal the_grid side v) (corner_bit side) (bar_bit side)) ≡ b && barred the_grid side height v
         go true e = let d = diagonal_pad side v e in
-            rw (not-not (is_blank (cell_of (get_or cells v blank_cell))), barred_held the_grid kind (v + 1) filled (diagonal the_grid side v) d.0 d.1 side h tall) (sym (barred_inside the_grid side h v tall e))
+            rw (not-not (is_blank (cell_of (get_or cells v blank_cell))), barred_held the_grid bits (v + 1) filled (diagonal the_grid side v) d.0 d.1 side h tall) (sym (barred_inside the_grid side h v tall e))
         go false e = refl
 
-    pub next_kind : kind_from kind width (height * width) cells v ≡ kind_of the_grid v
+    pub next_kind : kind_from bits width (height * width) cells v ≡ kind_of the_grid v
     unfolding kind_from kind_of grid_of is_clue_at is_taken
     next_kind = rw (same_bar on_right, same_bar on_left, same_corner on_right v, same_corner on_left v) refl
 

@@ -2,10 +2,11 @@
 use Rattle.std.specs.Prelude.{ℕ, ◌+◌, ◌*◌, ◌-◌, ◌/◌, ◌%◌, ◌≤◌, ◌≡◌, refl, Bool, true, false, ◌&&◌, eqb, ltb, leb}
 use Rattle.std.proofs.Common.{arith, mul-le-mul, le-ltb, ltb-true, ltb-false, le-leb}
 use Rattle.std.proofs.lemmas.Bool.{lt-leb}
-use Rattle.rules.specs.Grid.{Size, right, down, Grid, pads}
+use Rattle.rules.specs.Grid.{Size, Edge, right, down, Grid, pads}
 use Rattle.rules.specs.Tests.{both_off}
 use Rattle.model.specs.PadTests.{on_board}
-use Rattle.boardview.specs.View.{pick, edge_of, slot_on}
+use Rattle.boardview.specs.Told.{pick}
+use Rattle.boardview.specs.View.{edge_of, slot_on}
 use Rattle.boardbare.specs.BareArrays.{right_byte, down_byte, edge_byte}
 
 pub few_pads : (height width : ℕ) → Size height → Size width → height * width ≤ 256
@@ -24,6 +25,12 @@ edge_byte_is g s = go (ltb s 32) refl
         → pick b 2 (pick (eqb (s % 2) 0) (right_byte g.width (pads g) (s / 2 - 16)) (down_byte g.width (pads g) (s / 2 - 16))) ≡ pick (leb 32 s && on_board g (pick (eqb (s % 2) 0) (right (s / 2 - 16)) (down (s / 2 - 16)))) 0 2
     go true e = rw (lt-leb 32 s (ltb-true s 32 e)) refl
     go false e = rw (le-leb 32 s (ltb-false s 32 e)) (parity (eqb (s % 2) 0))
+
+-- by whether the edge of the slot is on the board
+pub byte_by_test : (g : Grid) (s : ℕ) → 32 ≤ s → (e : Edge) → e ≡ edge_of s → (on : Bool) → on_board g e ≡ on → pick on 0 2 ≡ edge_byte g.width (pads g) s
+unfolding slot_on
+byte_by_test g s far e is on test =
+    rw (edge_byte_is g s, le-leb 32 s far, ← is, test) refl
 
 -- past the last pad
 pub past_the_edges : (width pads s : ℕ) → 32 + 2 * pads ≤ s → 2 ≡ edge_byte width pads s

@@ -3,7 +3,7 @@ use Rattle.std.specs.Prelude.{ℕ, ◌≡◌, refl, Bool, true, false, ◌&&◌,
 use Rattle.std.proofs.Common.{sym}
 use Rattle.std.specs.Int.Bits.{bit_and}
 use Rattle.rules.specs.Tests.{both}
-use Rattle.boardview.specs.View.{has_bit}
+use Rattle.boardview.specs.Told.{has_bit}
 use Rattle.boardbare.specs.BareArrays.{kind_byte}
 
 -- a test that holds of both

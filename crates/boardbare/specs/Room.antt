@@ -5,7 +5,8 @@ use Rattle.std.proofs.Common.{sym, ap, ◌∙◌, arith, leb-true, ne_eqb}
 use Rattle.rules.specs.Drawing.{num}
 use Rattle.rules.specs.Grid.{Size}
 use Rattle.rules.specs.Tests.{all_below, all_below_at}
-use Rattle.boardview.specs.View.{pick, undecided_in}
+use Rattle.boardview.specs.Told.{pick}
+use Rattle.boardview.specs.View.{undecided_in}
 use Rattle.boardbare.specs.BareArrays.{EdgesFrom, right_byte, down_byte, edge_byte}
 use Rattle.boardbare.specs.EdgeBytes.{past_the_edges}
 

@@ -1,15 +1,16 @@
-// The arrays of a bare board, from the sizes and a lent list of cells: a byte for each edge, an end number for each pad, and the kinds
-// of the pads. What they hold is said in specs/BareArrays.antt; that they show the model's bare board is proved in proofs/BareView.antt.
+// The arrays of a bare board, from an accepted grid: a byte for each edge, an end number for each pad, and what is told of the grid. What they hold is said in specs/BareArrays.antt; that they show the model's bare board is proved in proofs/BareView.antt.
 #![tactic(auto)]
 
-ghost use Rattle.std.specs.Prelude.{◌≡◌, true, false, ◌+◌, ◌*◌, ◌≤◌, ◌<◌, length, set};
-ghost use Rattle.rules.specs.Grid.{Size, Accepted, grid_of};
-ghost use Rattle.boardview.specs.View.{bytes_equal, undecided_side, action_code, action_entry};
-ghost use Rattle.boardbare.specs.BareArrays.{right_byte, down_byte, edge_byte, EdgesFrom, end_number_at, EndsFrom, CellsInRange, is_right, byte_of_facts, is_clue_at, is_taken, corner_test, barred_in, barred_below, bar_test, kind_from, table_byte, TableFrom, AllKinds};
+ghost use Rattle.std.specs.Prelude.{◌≡◌, ◌*◌, ◌≤◌, ◌<◌, length};
+ghost use Rattle.grid.specs.AsGrid.{as_grid};
+ghost use Rattle.boardview.specs.Told.{bytes_equal, undecided_side, action_code, action_entry};
+ghost use Rattle.boardview.specs.SameKinds.{Shows};
+ghost use Rattle.boardbare.specs.BareArrays.{edge_byte, EdgesFrom, end_number_at, EndsFrom, CellsInRange, is_right, byte_of_facts, is_clue_at, is_taken, corner_test, barred_in, barred_below, bar_test, kind_from, Table, BitsFrom};
 ghost use Rattle.boardbare.specs.BareView.{BareBoard};
 
-use boardparts::{BAR_LEFT, BAR_RIGHT, CORNER_LEFT, CORNER_RIGHT, Side, TAKEN};
-use grid::{BLANK, Edge};
+use boardparts::Side;
+use boardview::{BAR_LEFT, BAR_RIGHT, CORNER_LEFT, CORNER_RIGHT, Kinds, TAKEN};
+use grid::{BLANK, Direction, Edge, Grid};
 use std::array;
 
 // The bytes of an edge's states, as the edge type names them.
@@ -19,51 +20,27 @@ const LINE: u8 = Edge::LINE.0;
 
 const NONE: u8 = Edge::NONE.0;
 
-// The byte of the edge to the right of a pad: undecided, or none in the last column and past the last pad.
-fn right_byte(width: usize, pads: usize, v: usize) -> u8
-    requires { (0 < width) × (width ≤ 16) }
-    ensures { result ≡ right_byte width pads v }
-{
-    if v < pads {
-        if v % width + 1 < width {
-            return UNDECIDED;
-        }
-    }
-    NONE
-}
-
-// The byte of the edge downward: undecided, or none in the last row and past the last pad.
-fn down_byte(width: usize, pads: usize, v: usize) -> u8
-    requires { (width ≤ 16) × (v < 512) }
-    ensures { result ≡ down_byte width pads v }
-{
-    if v + width < pads {
-        return UNDECIDED;
-    }
-    NONE
-}
-
-// The byte of a slot; 32 slots before the first edge hold none.
-fn edge_byte(width: usize, pads: usize, slot: usize) -> u8
-    requires { (0 < width) × (width ≤ 16) × (slot < 1024) }
-    ensures { result ≡ edge_byte width pads slot }
+// The byte of a slot: undecided where the board has the edge, and none elsewhere; 32 slots before the first edge hold none.
+fn edge_byte(grid: &Grid, slot: usize) -> u8
+    requires { slot < 1024 }
+    ensures { result ≡ edge_byte grid.now.width (grid.now.height * grid.now.width) slot }
 {
     if slot < 32 {
         return NONE;
     }
-    if slot % 2 == 0 {
-        return right_byte(width, pads, slot / 2 - 16);
+    let direction = boardparts::direction_at(slot);
+    if direction.has_edge(grid.height, grid.width, boardparts::first_pad(slot)) {
+        UNDECIDED
+    } else {
+        NONE
     }
-    down_byte(width, pads, slot / 2 - 16)
 }
 
 // The bytes of all edges; slots that are no edge of the board hold none.
-fn bare_edges(height: usize, width: usize) -> [u8; 1024]
-    requires { Size height × Size width }
-    ensures { EdgesFrom width (height * width) 0 result }
+fn bare_edges(grid: &Grid) -> [u8; 1024]
+    ensures { EdgesFrom grid.now.width (grid.now.height * grid.now.width) 0 result }
 {
-    let pads = height * width;
-    array::from_fn(|slot| edge_byte(width, pads, slot))
+    array::from_fn(|slot| edge_byte(grid, slot))
 }
 
 // The end number of a pad: -v - 2 for a clue of value v, its own index for a blank pad and for a hole.
@@ -86,62 +63,62 @@ pub fn bare_ends(cells: &[i64]) -> [i64; 512]
 }
 
 // Whether a pad is a clue: a blank pad and a hole are below 0.
-fn clue_at(cells: &[i64], v: usize) -> bool
-    requires { v < length cells.now }
-    ensures { result ≡ is_clue_at cells.now v }
+fn is_clue(grid: &Grid, v: usize) -> bool
+    requires { v < length grid.now.cells.now }
+    ensures { result ≡ is_clue_at grid.now.cells.now v }
 {
-    0 <= cells[v]
+    0 <= grid.cells[v]
 }
 
 // Whether a pad is taken: a clue or a hole.
-fn taken_at(cells: &[i64], v: usize) -> bool
-    requires { v < length cells.now }
-    ensures { result ≡ is_taken cells.now v }
+fn is_taken(grid: &Grid, v: usize) -> bool
+    requires { v < length grid.now.cells.now }
+    ensures { result ≡ is_taken grid.now.cells.now v }
 {
-    cells[v] != BLANK
+    grid.cells[v] != BLANK
 }
 
 // Whether a pad has an edge downward and one to that side.
-fn has_corner(width: usize, pads: usize, side: Side, v: usize) -> bool
-    requires { (0 < width) × (width ≤ 16) × (v < 256) }
-    ensures { result ≡ corner_test width pads (is_right side) v }
+fn has_corner(grid: &Grid, side: Side, v: usize) -> bool
+    requires { v < 256 }
+    ensures { result ≡ corner_test grid.now.width (grid.now.height * grid.now.width) (is_right side) v }
 {
     let beside = match side {
-        Side::Left => 0 < v % width,
-        Side::Right => v % width + 1 < width,
+        Side::Left => 0 < v % grid.width,
+        Side::Right => v % grid.width + 1 < grid.width,
     };
-    v + width < pads && beside
+    Direction::Down.has_edge(grid.height, grid.width, v) && beside
 }
 
 // Whether a pad is barred, by its byte.
-fn is_barred(kind: &[u8; 1024], v: usize, corner: u8, bar: u8) -> bool
-    requires { v < 1024 }
-    ensures { result ≡ barred_in kind.now v corner bar }
+fn is_barred(bits: &[u8; 512], v: usize, corner: u8, bar: u8) -> bool
+    requires { v < 512 }
+    ensures { result ≡ barred_in bits.now v corner bar }
 {
-    if boardparts::has(kind, v, corner) {
-        boardparts::has(kind, v, bar)
+    if boardview::has(bits, v, corner) {
+        boardview::has(bits, v, bar)
     } else {
-        !boardparts::has(kind, v, TAKEN)
+        !boardview::has(bits, v, TAKEN)
     }
 }
 
 // Whether the pad diagonally below on that side is barred.
-fn is_barred_below(kind: &[u8; 1024], width: usize, side: Side, v: usize) -> bool
+fn is_barred_below(bits: &[u8; 512], width: usize, side: Side, v: usize) -> bool
     requires { (0 < width) × (width ≤ 16) × (v < 256) }
-    ensures { result ≡ barred_below kind.now width (is_right side) v }
+    ensures { result ≡ barred_below bits.now width (is_right side) v }
 {
     match side {
-        Side::Left => is_barred(kind, v + width - 1, CORNER_LEFT, BAR_LEFT),
-        Side::Right => is_barred(kind, v + width + 1, CORNER_RIGHT, BAR_RIGHT),
+        Side::Left => is_barred(bits, v + width - 1, CORNER_LEFT, BAR_LEFT),
+        Side::Right => is_barred(bits, v + width + 1, CORNER_RIGHT, BAR_RIGHT),
     }
 }
 
 // Whether a pad with a corner on that side is barred there.
-fn has_bar(kind: &[u8; 1024], width: usize, pads: usize, taken: bool, side: Side, v: usize) -> bool
-    requires { (0 < width) × (width ≤ 16) × (v < 256) }
-    ensures { result ≡ bar_test kind.now width pads taken (is_right side) v }
+fn has_bar(bits: &[u8; 512], grid: &Grid, side: Side, v: usize) -> bool
+    requires { (v < 256) × (v < length grid.now.cells.now) }
+    ensures { result ≡ bar_test bits.now grid.now.width (grid.now.height * grid.now.width) (is_taken grid.now.cells.now v) (is_right side) v }
 {
-    has_corner(width, pads, side, v) && !taken && is_barred_below(kind, width, side, v)
+    has_corner(grid, side, v) && !is_taken(grid, v) && is_barred_below(bits, grid.width, side, v)
 }
 
 // What the byte of a pad tells.
@@ -169,18 +146,17 @@ impl From<Facts> for u8 {
 }
 
 // The byte of a pad, from the bytes of the pads below it.
-fn pad_kind(kind: &[u8; 1024], width: usize, pads: usize, cells: &[i64], v: usize) -> u8
-    requires { (0 < width) × (width ≤ 16) × (v < 256) × (v < length cells.now) }
-    ensures { result ≡ kind_from kind.now width pads cells.now v }
+fn pad_byte(bits: &[u8; 512], grid: &Grid, v: usize) -> u8
+    requires { (v < 256) × (v < length grid.now.cells.now) }
+    ensures { result ≡ kind_from bits.now grid.now.width (grid.now.height * grid.now.width) grid.now.cells.now v }
 {
-    let taken = taken_at(cells, v);
     u8::from(Facts {
-        clue: clue_at(cells, v),
-        bar_right: has_bar(kind, width, pads, taken, Side::Right, v),
-        bar_left: has_bar(kind, width, pads, taken, Side::Left, v),
-        corner_right: has_corner(width, pads, Side::Right, v),
-        corner_left: has_corner(width, pads, Side::Left, v),
-        taken,
+        clue: is_clue(grid, v),
+        bar_right: has_bar(bits, grid, Side::Right, v),
+        bar_left: has_bar(bits, grid, Side::Left, v),
+        corner_right: has_corner(grid, Side::Right, v),
+        corner_left: has_corner(grid, Side::Left, v),
+        taken: is_taken(grid, v),
     })
 }
 
@@ -252,34 +228,36 @@ fn action_entry(i: usize) -> u8
     )
 }
 
-// A byte of the kinds before any is told: the pad check's table stands behind them.
-fn table_byte(i: usize) -> u8
-    requires { i < 1024 }
-    ensures { result ≡ table_byte i }
+// The pad check's table.
+fn action_table() -> [u8; 512]
+    ensures { Table result }
 {
-    if i < 512 { 0 } else { action_entry(i - 512) }
+    array::from_fn(|i| action_entry(i))
 }
 
-// The pad check's table behind the kinds, which are not told yet.
-fn action_table() -> [u8; 1024]
-    ensures { TableFrom 0 result }
+// The bytes of all pads, from the last one up.
+fn all_bits(grid: &Grid) -> [u8; 512]
+    ensures { BitsFrom (as_grid grid.now) 0 result }
 {
-    array::from_fn(|i| table_byte(i))
-}
-
-// The kinds of all pads, from the last one up, the sizes, and the pad check's table.
-fn all_kinds(height: usize, width: usize, cells: &[i64]) -> [u8; 1024]
-    requires { Accepted height width cells.now }
-    ensures { AllKinds height width cells.now result }
-{
-    let mut kind = action_table();
-    let pads = height * width;
-    for v in (0..pads).rev() {
-        kind[v] = pad_kind(&kind, width, pads, cells, v);
+    let mut bits = [0; 512];
+    for v in (0..grid.pads()).rev() {
+        bits[v] = pad_byte(&bits, grid, v);
     }
-    kind[510] = height as u8;
-    kind[511] = width as u8;
-    kind
+    bits
+}
+
+// What is told of a grid: its sizes, the bytes of its pads, and the pad check's table.
+fn all_kinds(grid: &Grid) -> Kinds
+    ensures { Shows (as_grid grid.now) result }
+{
+    let bits = all_bits(grid);
+    let actions = action_table();
+    Kinds {
+        height: grid.height,
+        width: grid.width,
+        bits,
+        actions,
+    }
 }
 
 // The arrays of a bare board.
@@ -287,16 +265,16 @@ fn all_kinds(height: usize, width: usize, cells: &[i64]) -> [u8; 1024]
 pub struct Bare {
     pub edges: [u8; 1024],
     pub ends: [i64; 512],
-    pub kind: [u8; 1024],
+    pub kinds: Kinds,
 }
 
 // The arrays of the bare board of an accepted grid.
-pub fn bare_board(height: usize, width: usize, cells: &[i64]) -> Bare
-    requires { Accepted height width cells.now }
-    ensures { BareBoard (grid_of height width cells.now) result.edges result.ends result.kind }
+pub fn bare_board(grid: &Grid) -> Bare
+    ensures { BareBoard (as_grid grid.now) result.edges result.ends result.kinds }
 {
-    let edges = bare_edges(height, width);
-    let ends = bare_ends(cells);
-    let kind = all_kinds(height, width, cells);
-    Bare { edges, ends, kind }
+    Bare {
+        edges: bare_edges(grid),
+        ends: bare_ends(grid.cells),
+        kinds: all_kinds(grid),
+    }
 }

@@ -3,19 +3,20 @@
 #![tactic(auto)]
 
 ghost use Rattle.std.specs.Prelude.{◌≡◌, true, ℕ, suc, ◌+◌, ◌*◌, ◌-◌, ◌/◌, ◌≤◌, ◌<◌, get_or};
-ghost use Rattle.rules.specs.Grid.{right, second};
+ghost use Rattle.rules.specs.Grid.{right};
 ghost use Rattle.rules.specs.Drawing.{num, on_left};
 ghost use Rattle.model.specs.JoinedEnds.{unjoinable};
+ghost use Rattle.grid.specs.Directions.{edge_to};
 ghost use Rattle.boardview.specs.Told.{corner_bit};
 ghost use Rattle.boardview.specs.View.{logged, slot, edge_of, beside, end_of, end_at, second_pad, put_number, joined, keeps_apart, clue_apart, slot_around, action_around};
 ghost use Rattle.boardview.specs.Actions.{action_index};
 ghost use Rattle.boardview.specs.Unwind.{stored, log_joined, LineBegun};
-ghost use Rattle.boardparts.specs.Sides.{side_of, edge_to};
+ghost use Rattle.boardparts.specs.Sides.{side_of};
 ghost use Rattle.boardparts.specs.Ends.{end_told};
 ghost use Rattle.boardparts.specs.Actions.{action_number, Undecided};
 
 use boardview::{Arrays, CLUE, CORNER_LEFT, CORNER_RIGHT, Kinds};
-use grid::Edge;
+use grid::{Direction, Edge};
 
 // The bytes of an edge's states, as the edge type names them.
 const UNDECIDED: u8 = Edge::UNDECIDED.0;
@@ -52,45 +53,25 @@ impl Side {
     }
 }
 
-// The two directions in which an edge leads from its first pad.
-#[derive(Clone, Copy)]
-pub enum Direction {
-    Right,
-    Down,
+// The slot of the edge in a direction from a pad.
+pub fn slot_from(direction: Direction, v: usize) -> usize
+    requires { v < 256 }
+    ensures { result ≡ slot (edge_to direction v) }
+{
+    match direction {
+        Direction::Right => 32 + 2 * v,
+        Direction::Down => 33 + 2 * v,
+    }
 }
 
-impl Direction {
-    // The slot of the edge from a pad.
-    pub fn slot(self, v: usize) -> usize
-        requires { v < 256 }
-        ensures { result ≡ slot (edge_to self v) }
-    {
-        match self {
-            Direction::Right => 32 + 2 * v,
-            Direction::Down => 33 + 2 * v,
-        }
-    }
-
-    // The second pad of the edge from a pad.
-    pub fn second(self, v: usize, width: usize) -> usize
-        requires { (v < 256) × (width ≤ 16) }
-        ensures { result ≡ second width (edge_to self v) }
-    {
-        match self {
-            Direction::Right => v + 1,
-            Direction::Down => v + width,
-        }
-    }
-
-    // The direction in which the edge at a slot leads.
-    pub fn at(slot: usize) -> Direction
-        ensures { edge_to result (slot / 2 - 16) ≡ edge_of slot }
-    {
-        if slot % 2 == 0 {
-            Direction::Right
-        } else {
-            Direction::Down
-        }
+// The direction in which the edge at a slot leads.
+pub fn direction_at(slot: usize) -> Direction
+    ensures { edge_to result (slot / 2 - 16) ≡ edge_of slot }
+{
+    if slot % 2 == 0 {
+        Direction::Right
+    } else {
+        Direction::Down
     }
 }
 

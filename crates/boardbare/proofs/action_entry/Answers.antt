@@ -1,5 +1,5 @@
 -- `boardbare::action_entry` meets its contract.
-use Rattle.boardview.specs.View.{action_entry}
+use Rattle.boardview.specs.Told.{action_entry}
 use Rattle.boardbare.proofs.action_entry.Goals as goal
 
 pub returns : goal.returns

@@ -3,8 +3,8 @@ use Rattle.boardbare.specs.BareView.{accepted_cells}
 use Rattle.boardbare.proofs.BareView.{bare_board}
 use Rattle.boardbare.proofs.bare_board.Goals as goal
 
-pub bare_ends-ends-requires : goal.bare_ends-ends-requires
-bare_ends-ends-requires c = accepted_cells c.args.height c.args.width c.args.cells.now c.requires
+pub bare_ends-requires : goal.bare_ends-requires
+bare_ends-requires c = accepted_cells _ _ c.args.grid.now.cells.now c.args.grid.now.accepted
 
 pub returns : goal.returns
-returns c = bare_board _ _ c.args.cells.now c.requires _ c.all_kinds-kind.ensures _ c.bare_edges-edges.ensures _ c.bare_ends-ends.ensures
+returns c = bare_board _ _ c.args.grid.now.cells.now c.args.grid.now.accepted _ c.bare_edges.ensures _ c.bare_ends.ensures _ c.all_kinds.ensures

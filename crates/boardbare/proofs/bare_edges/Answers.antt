@@ -9,5 +9,5 @@ returns c =
     let made = c.from_fn.ensures.items in
     record {
       as_long = made.long;
-      holds = λ i low high. made_by made (λ p. (p.0.now ≡ c.args.width) × (p.1.now ≡ c.args.height * c.args.width)) (edge_byte c.args.width (c.args.height * c.args.width)) (refl, refl) (λ p q i y kept called. (search rules, search rules)) i 2 high;
+      holds = λ i low high. made_by made (λ p. p.0.now ≡ c.args.grid.now) (edge_byte c.args.grid.now.width (c.args.grid.now.height * c.args.grid.now.width)) refl (λ p q i y kept called. (search rules, search rules)) i 2 high;
     }

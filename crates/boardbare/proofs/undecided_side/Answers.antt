@@ -2,7 +2,7 @@
 use mathlib.Core.Path.{refl}
 use native.Mathlib.Omega.{arith}
 use borrow.Author.Tests.{eq-eqb, ne_eqb}
-use Rattle.boardview.specs.View.{undecided_side}
+use Rattle.boardview.specs.Told.{undecided_side}
 use Rattle.boardbare.proofs.undecided_side.Goals as goal
 
 pub returns-then-left-eq-UNDECIDED : goal.returns-then-left-eq-UNDECIDED

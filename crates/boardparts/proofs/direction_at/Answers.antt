@@ -1,8 +1,8 @@
--- `boardparts::Direction::at` meets its contract.
+-- `boardparts::direction_at` meets its contract.
 use Rattle.boardview.specs.View.{edge_of}
 use borrow.Author.Tests.{eq-eqb, ne_eqb}
 use mathlib.Core.Path.{refl}
-use Rattle.boardparts.proofs.Direction.at.Goals as goal
+use Rattle.boardparts.proofs.direction_at.Goals as goal
 
 pub returns-then-slot-eq0 : goal.returns-then-slot-eq0
 unfolding edge_of

@@ -1,9 +1,0 @@
--- `boardbare::taken_at` meets its contract.
-use lib.IntN.{pos}
-use native.Mathlib.Omega.{arith}
-use Rattle.model.specs.Lists.{default_free}
-use Rattle.boardbare.proofs.Codes.{taken_is}
-use Rattle.boardbare.proofs.taken_at.Goals as goal
-
-pub returns : goal.returns
-returns c = taken_is c.args.cells.now _ _ (default_free c.args.cells.now _ (pos 0) _ c.requires) (record { sfits = omega arith })
