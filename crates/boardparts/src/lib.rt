@@ -119,10 +119,7 @@ pub fn second_pad(slot: usize, width: usize) -> usize
     requires { (32 ≤ slot) × (slot < 1024) × (width ≤ 16) }
     ensures { result ≡ second_pad width slot }
 {
-    if slot % 2 == 0 {
-        return slot / 2 - 15;
-    }
-    slot / 2 - 16 + width
+    direction_at(slot).second(first_pad(slot), width)
 }
 
 // The end of a pad.

@@ -16,7 +16,7 @@ use Rattle.model.specs.Board.{line, none, is_undecided, other_clue, State, Item,
 use Rattle.boardview.specs.declared.Arrays.{Arrays}
 use Rattle.boardview.specs.declared.kinds.Kinds.{Kinds}
 use Rattle.boardview.specs.Told.{pick}
-use Rattle.boardview.specs.View.{flag_in, ended_in, stopped, ended, edge_of, slot_on, view, end_at, grid_in, undecided_in, Ready, Since, Decided, Done, then, in_a_row, shown, pad_number, check_at, Settled, action_around, code_number, rival, keeps_apart, keep_at, with_count}
+use Rattle.boardview.specs.View.{flag_in, ended_in, stopped, ended, edge_of, slot_on, view, end_at, grid_in, undecided_in, Ready, Since, Decided, Done, then, in_a_row, shown, check_at, Settled, action_around, code_number, rival, keeps_apart, keep_at, with_count}
 use Rattle.boardview.specs.Bytes.{elim_true, elim_false, right_slot, down_slot, on_slot}
 use Rattle.boardview.specs.Geometry.{slot_left, slot_right, slot_up, slot_down, edge_left, edge_up}
 use Rattle.boardview.specs.Unwind.{since_still, since_then}
@@ -185,13 +185,6 @@ keeps_is g p q code v h = left (has_left g v) refl
         ≡ keep_aparts code (with_edge b (right (v - 1)) (v - 1) (with_edge (has_right g v) (right v) (v + 1) (with_edge (has_up g v) (down (v - g.width)) (v - g.width) (with_edge (has_down g v) (down v) (v + g.width) []))))
     left true e = rw (slot_left g p q v h ∙ e, edge_left g p q v h e, two (has_right g v) refl) refl
     left false e = rw (slot_left g p q v h ∙ e, two (has_right g v) refl) refl
-
--- no pad
-pub check_nothing : (g : Grid) (s : Arrays) → Ready g s → (E : End) → ((a : ℕ) → E ≡ at_pad a → ⊥) → Done g 1 s (check_at (pad_number E)) s
-unfolding check_at pad_number
-check_nothing g s y through other = done_nothing g 1 s y
-check_nothing g s y (at_clue code) other = done_nothing g 1 s y
-check_nothing g s y (at_pad a) other = absurd (other a refl)
 
 -- THE WHOLE CHECK
 unfoldable pub first_items : Grid → ℕ → End → List Item

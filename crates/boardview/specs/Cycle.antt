@@ -24,7 +24,7 @@ use Rattle.boardview.specs.View.{logged, beside, stopped, ended, going, slot, ed
 use Rattle.model.specs.Lists.{default_free}
 use Rattle.boardview.specs.Bytes.{slot_of_edge, on_slot}
 use Rattle.boardview.specs.Unwind.{log_stored, log_joined, stored, LineBegun}
-use Rattle.boardview.specs.Geometry.{column_before, right_on, down_on, beyond_right, upper_left, upper_right, upper, lower_left, lower_right, lower, right_items, left_side, lower_left_side, far_left, right_side, lower_right_side, far_right, down_items, next_down_on}
+use Rattle.boardview.specs.Geometry.{column_before, right_on, down_on, beyond_right, upper_left, upper_right, upper, lower_left, lower_right, lower, right_items, left_side, lower_left_side, far_left, right_side, lower_right_side, far_right, down_items, next_down_on, slot_told}
 use Rattle.boardview.specs.Stores.{Stored, going_count, few_logged, first_inside, second_inside}
 use Rattle.boardview.specs.Steps.{done_then, done_as, done_nothing, done_ended, slot_is_on}
 use Rattle.boardview.specs.Check.{settle_none, settle_line, keep_rests, keep_decides, keeps_on, keeps_is, first_items}
@@ -76,25 +76,25 @@ module _ (kind : Kinds) (s : Arrays) (n : ℕ) (h : n < 1024) (y : Ready (grid_i
     pub none_first : (v : ℕ) → v ≡ n / 2 - 16 → v < pads g
     none_first v e = omega (arith, e, first_is, first_inside g s (edge_of n) y edge_there byte_there)
 
-    pub none_second : (q w : ℕ) → w ≡ g.width → q ≡ second_pad w n → q < pads g
-    none_second q w ew e = omega (arith, (rw ew at e) ∙ second_is, second_inside g s (edge_of n) y edge_there byte_there)
+    pub none_second : (q : ℕ) → q ≡ second_pad kind.width n → q < pads g
+    none_second q e = omega (arith, e ∙ second_is, second_inside g s (edge_of n) y edge_there byte_there)
 
-    module _ (s₀ : Arrays) (is : s₀ ≡ stored s n 2) (r : ℕ) (er : r ≡ going s.count) where
+    module _ (s₁ : Arrays) (is : s₁ ≡ with_count (stored s n 2) (going s.count)) where
       abbrev after_store : Arrays
-      after_store = with_count s₀ (r + 1)
+      after_store = with_count s₁ (s₁.count + 1)
 
       starts : none_arrays g s (edge_of n) y edge_there byte_there ≡ after_store
       starts = ap (λ (x : ℕ). record { edges = set s.edges x 2; ends = s.ends; log = log_stored s.log (logged s) x; count = going s.count + 1 }) at_slot
-          ∙ (λ i. with_count (sym is i) (sym er i + 1))
+          ∙ (λ i. with_count (sym is i) ((sym is i).count + 1))
 
       pub none_is_stored : Stored g s after_store
       none_is_stored = subst (λ (x : Arrays). Stored g s x) starts (none_stored g s (edge_of n) y edge_there byte_there)
 
-      pub none_returns : (v q w : ℕ) → v ≡ n / 2 - 16 → w ≡ g.width → q ≡ second_pad w n → (s₁ s₂ : Arrays) → Done g 1 after_store (check_at v) s₁ → Done g 1 s₁ (check_at q) s₂
-          → (c : ℕ) → c ≡ ended s₂.count → NoneAt g s n (with_count s₂ c)
-      none_returns v q w ev ew eq s₁ s₂ d₁ d₂ c ec = record {
-        acts = λ on. rw ec (decided_none g s (edge_of n) y edge_there byte_there s₂ (subst (λ (x : Arrays). Done g 1 x (check_at (first (edge_of n)) ++ check_at (second g.width (edge_of n))) s₂) (sym starts)
-            (rw (ev ∙ first_is, (rw ew at eq) ∙ second_is) at (done_then g d₁ d₂))));
+      pub none_returns : (v q : ℕ) → v ≡ n / 2 - 16 → q ≡ second_pad kind.width n → (s₂ s₃ : Arrays) → Done g 1 after_store (check_at v) s₂ → Done g 1 s₂ (check_at q) s₃
+          → NoneAt g s n (with_count s₃ (ended s₃.count))
+      none_returns v q ev eq s₂ s₃ d₁ d₂ = record {
+        acts = λ on. decided_none g s (edge_of n) y edge_there byte_there s₃ (subst (λ (x : Arrays). Done g 1 x (check_at (first (edge_of n)) ++ check_at (second g.width (edge_of n))) s₃) (sym starts)
+            (rw (ev ∙ first_is, eq ∙ second_is) at (done_then g d₁ d₂)));
         rests = λ off. conflict none_on off;
       }
 
@@ -106,17 +106,17 @@ module _ (kind : Kinds) (s : Arrays) (n : ℕ) (h : n < 1024) (y : Ready (grid_i
     same_byte : slot_on g n ≡ true → get_or s.edges (slot (edge_of n)) 0 ≡ get_or s.edges n 0
     same_byte on = ap (λ (x : ℕ). get_or s.edges x 0) (slot_of_edge n (on_slot g n on).0)
 
-    pub none_raised : get_or s.edges n 0 ≡ 1 → (c : ℕ) → c ≡ stopped s.count → NoneAt g s n (with_count s c)
+    pub none_raised : get_or s.edges n 0 ≡ 1 → NoneAt g s n (with_count s (stopped s.count))
     unfolding state_of
-    none_raised o c ec = record {
-      acts = λ on. rw ec (decided_other g s (edge_of n) y (on_slot g n on).1 (inside on) 2 (omega arith) (omega arith) (λ e. z (sym (same_byte on) ∙ e)) (λ e. absurd (omega (arith, sym (same_byte on) ∙ e))));
+    none_raised o = record {
+      acts = λ on. decided_other g s (edge_of n) y (on_slot g n on).1 (inside on) 2 (omega arith) (omega arith) (λ e. z (sym (same_byte on) ∙ e)) (λ e. absurd (omega (arith, sym (same_byte on) ∙ e)));
       rests = λ off. (refl, refl, refl);
     }
 
-    pub none_again : (get_or s.edges n 0 ≡ 1 → ⊥) → (c : ℕ) → c ≡ ended s.count → NoneAt g s n (with_count s c)
+    pub none_again : (get_or s.edges n 0 ≡ 1 → ⊥) → NoneAt g s n (with_count s (ended s.count))
     unfolding state_of
-    none_again o c ec = record {
-      acts = λ on. rw ec (decided_same g s (edge_of n) y (on_slot g n on).1 (inside on) 2 (omega arith) (omega arith) (λ e. z (sym (same_byte on) ∙ e)) (two on));
+    none_again o = record {
+      acts = λ on. decided_same g s (edge_of n) y (on_slot g n on).1 (inside on) 2 (omega arith) (omega arith) (λ e. z (sym (same_byte on) ∙ e)) (two on);
       rests = λ off. (refl, refl, refl);
     }
       where
@@ -132,13 +132,13 @@ module _ (kind : Kinds) (s : Arrays) (e : Edge) (y : Ready (grid_in kind) s) (on
   line_inside (right v) o = let b = right_on gg y.least_width y.largest_width v o in omega (arith, b.1, y.few_pads, y.edges_long)
   line_inside (down v) o = let b = down_on gg y.least_width y.largest_width v o in omega (arith, b, y.few_pads, y.edges_long)
 
-  pub line_again : get_or s.edges (slot e) 0 ≡ 1 → (c : ℕ) → c ≡ ended s.count → Decided gg s e line (with_count s c)
+  pub line_again : get_or s.edges (slot e) 0 ≡ 1 → Decided gg s e line (with_count s (ended s.count))
   unfolding state_of
-  line_again o c ec = rw ec (decided_same gg s e y on (line_inside e on) 1 (omega arith) (omega arith) (λ z. absurd (omega arith)) o)
+  line_again o = decided_same gg s e y on (line_inside e on) 1 (omega arith) (omega arith) (λ z. absurd (omega arith)) o
 
-  pub line_raised : (get_or s.edges (slot e) 0 ≡ 0 → ⊥) → (get_or s.edges (slot e) 0 ≡ 1 → ⊥) → (c : ℕ) → c ≡ stopped s.count → Decided gg s e line (with_count s c)
+  pub line_raised : (get_or s.edges (slot e) 0 ≡ 0 → ⊥) → (get_or s.edges (slot e) 0 ≡ 1 → ⊥) → Decided gg s e line (with_count s (stopped s.count))
   unfolding state_of
-  line_raised z o c ec = rw ec (decided_other gg s e y on (line_inside e on) 1 (omega arith) (omega arith) z o)
+  line_raised z o = decided_other gg s e y on (line_inside e on) 1 (omega arith) (omega arith) z o
 
   module _ (z : get_or s.edges (slot e) 0 ≡ 0) (q : ℕ) (eq : q ≡ second gg.width e) where
     pub line_room : logged s < 480
@@ -179,20 +179,14 @@ module _ (kind : Kinds) (s : Arrays) (e : Edge) (y : Ready (grid_in kind) s) (on
 
         pub line_returns : (a b : ℕ) → a ≡ pad_number (end_at s.ends (first e)) → b ≡ pad_number (end_at s.ends q) → (s' : Arrays)
             → Done gg 1 s₁ (shape_items gg e ++ (check_at (first e) ++ (check_at q ++ (check_at a ++ check_at b)))) s'
-            → (c : ℕ) → c ≡ ended s'.count → Decided gg s e line (with_count s' c)
-        line_returns a b ea eb s' d c ec = rw ec (decided_line gg s e y on z joinable s' (subst (λ (x : Arrays). Done gg 1 x (shape_items gg e ++ (check_at (first e) ++ (check_at (second gg.width e)
+            → Decided gg s e line (with_count s' (ended s'.count))
+        line_returns a b ea eb s' d = decided_line gg s e y on z joinable s' (subst (λ (x : Arrays). Done gg 1 x (shape_items gg e ++ (check_at (first e) ++ (check_at (second gg.width e)
             ++ (check_at (pad_number (end_at s.ends (first e))) ++ check_at (pad_number (end_at s.ends (second gg.width e))))))) s') (sym joins)
-            (rw (ea, eb, eq) at d)))
+            (rw (ea, eb, eq) at d))
 
-    -- the pads A and B of step c
-    near_pad : (E : End) → ((a : ℕ) → E ≡ at_pad a → a < pads gg) → (pad_number E ≤ 512) × (pad_number E < 512 → pad_number E < pads gg)
-    unfolding pad_number
-    near_pad through n = (omega arith, λ h. absurd (omega arith))
-    near_pad (at_clue c) n = (omega arith, λ h. absurd (omega arith))
-    near_pad (at_pad a) n = (omega (arith, n a refl, y.few_pads), λ h. n a refl)
-
-    pub line_end : (v : ℕ) → v < pads gg → (a : ℕ) → a ≡ pad_number (end_at s.ends v) → (a ≤ 512) × (a < 512 → a < pads gg)
-    line_end v hv a ea = rw ea (near_pad (end_at s.ends v) (λ b eb. y.near v b hv eb))
+-- three slots that are on the board together
+pub all_on : {a b c x : Bool} → a ≡ x → b ≡ x → c ≡ x → a ≡ true → (b ≡ true) × (c ≡ true)
+all_on ea eb ec h = (same_on ea eb h, same_on ea ec h)
 
 -- STEPS D AND E of a line to the right
 module _ (kind : Kinds) (few : pads (grid_in kind) ≤ 256) (v : ℕ) (on : on_board (grid_in kind) (right v) ≡ true) where
@@ -283,6 +277,12 @@ module _ (kind : Kinds) (few : pads (grid_in kind) ≤ 256) (v : ℕ) (on : on_b
   pub down_left_below : slot_on gd (30 + 2 * v + 2 * wd) ≡ has_left gd v
   down_left_below = (lower_left_side gd kind.told.least_width kind.told.largest_width v on)
 
+  pub far_left_on : has_bit kind.bits v 16 ≡ true → has_left gd v ≡ true
+  far_left_on h = (both (has_down gd v) (has_left gd v) (sym corners_left ∙ h)).1
+
+  pub far_right_on : has_bit kind.bits v 8 ≡ true → has_right gd v ≡ true
+  far_right_on h = (both (has_down gd v) (has_right gd v) (sym corners_right ∙ h)).1
+
   pub down_if_left : (x : ℕ) → x ≡ pick (has_bit kind.bits v 16) (31 + 2 * v) 0 → slot_on gd x ≡ has_left gd v
   down_if_left x e = rw e (far_left gd kind.told.least_width kind.told.largest_width v on (has_bit kind.bits v 16) corners_left)
 
@@ -308,10 +308,6 @@ module _ (kind : Kinds) (few : pads (grid_in kind) ≤ 256) (v : ℕ) (on : on_b
       picked : pick (has_bit kind.bits v 8) (35 + 2 * v) 0 ≡ 35 + 2 * v
       picked = rw (corners_right, on, h) refl
 
-  pub picked_small : (b : Bool) (x n : ℕ) → x ≡ pick b n 0 → n < 1024 → x < 1024
-  picked_small true x n e h = omega arith
-  picked_small false x n e h = omega arith
-
   pub down_right_corner : (q : ℕ) → q ≡ v + wd + 1 → slot_on gd (32 + 2 * v) ≡ true → q < pads gd
   down_right_corner q e h = omega (arith, ltb-true (v + 1 + gd.width) (pads gd) (sym (next_down_on gd v) ∙ down_far_right (sym down_right ∙ h)))
 
@@ -330,18 +326,18 @@ module _ (kind : Kinds) (few : pads (grid_in kind) ≤ 256) (v : ℕ) (on : on_b
   pub down_right_bar_on : has_bit kind.bits v 2 ≡ true → slot_on gd (32 + 2 * v) ≡ true
   down_right_bar_on h = down_right ∙ (both (has_down gd v) (has_right gd v) (both _ (barred gd on_right gd.height v) (sym bars_down_right ∙ h)).0).1
 
-  pub down_done : {s₀ s' : Arrays} (x y : ℕ) → x ≡ pick (has_bit kind.bits v 16) (31 + 2 * v) 0 → y ≡ pick (has_bit kind.bits v 8) (35 + 2 * v) 0 → (L : List Item)
+  pub down_done : {s₀ s' : Arrays} (L : List Item)
       → Done gd 1 s₀ (detour_at gd (30 + 2 * v) (30 + 2 * v + 2 * wd) (31 + 2 * v)
       ++ (detour_at gd (30 + 2 * v + 2 * wd) (30 + 2 * v) (31 + 2 * v)
-      ++ (detour_at gd x (30 + 2 * v) (30 + 2 * v + 2 * wd)
+      ++ (detour_at gd (pick (has_bit kind.bits v 16) (31 + 2 * v) 0) (30 + 2 * v) (30 + 2 * v + 2 * wd)
       ++ (detour_at gd (32 + 2 * v) (32 + 2 * v + 2 * wd) (35 + 2 * v)
       ++ (detour_at gd (32 + 2 * v + 2 * wd) (32 + 2 * v) (35 + 2 * v)
-      ++ (detour_at gd y (32 + 2 * v) (32 + 2 * v + 2 * wd)
+      ++ (detour_at gd (pick (has_bit kind.bits v 8) (35 + 2 * v) 0) (32 + 2 * v) (32 + 2 * v + 2 * wd)
       ++ (corner_at gd on_left (v + wd - 1) (30 + 2 * v) ++ (corner_at gd on_right (v + wd + 1) (32 + 2 * v)
       ++ (bar_at gd (has_bit kind.bits v 4) (30 + 2 * v) ++ (bar_at gd (has_bit kind.bits v 2) (32 + 2 * v) ++ L)))))))))) s'
       → Done gd 1 s₀ (shape_items gd (down v) ++ L) s'
-  down_done x y ex ey L d = done_as gd (down_items gd kind.told.least_width kind.told.largest_width v on (has_bit kind.bits v 16) (has_bit kind.bits v 8) (has_bit kind.bits v 4) (has_bit kind.bits v 2)
-      corners_left corners_right bars_down_left bars_down_right L) (rw (ex, ey) at d)
+  down_done L d = done_as gd (down_items gd kind.told.least_width kind.told.largest_width v on (has_bit kind.bits v 16) (has_bit kind.bits v 8) (has_bit kind.bits v 4) (has_bit kind.bits v 2)
+      corners_left corners_right bars_down_left bars_down_right L) d
 
 -- A CORNER asks for its two lines
 module _ (kind : Kinds) (q : ℕ) (inside : q < pads (grid_in kind)) (t : Bool) where
@@ -474,7 +470,10 @@ module _ (kind : Kinds) (s : Arrays) (y : Ready (grid_in kind) s) (v : ℕ) (ins
     pub slot_there : on_board gk (edge_of n) ≡ true
     slot_there = (on_slot gk n (slot_is_on gk s y n low (omega arith))).1
 
-    slot_high : 32 ≤ n
+    pub slot_pad : n / 2 - 16 < 256
+    slot_pad = (slot_told kind n (slot_is_on gk s y n low (omega arith))).2
+
+    pub slot_high : 32 ≤ n
     slot_high = (on_slot gk n (slot_is_on gk s y n low (omega arith))).0
 
     pub settle_leaves : n + 1024 ≡ action_around kind.bits s.edges wk v → (s' : Arrays) → NoneAt gk s n s' → Settled gk s v s'

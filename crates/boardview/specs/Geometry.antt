@@ -5,7 +5,7 @@ use Rattle.std.proofs.Math.Path.{refl, ap}
 use Rattle.std.proofs.Common.{sym, ◌∙◌, arith, mod-eq_of_lt}
 use Rattle.std.proofs.Math.Bool.{true, false, and-true}
 use mathlib.Core.List.{List, [], ◌∷◌, ◌++◌, append_assoc}
-use Rattle.std.proofs.Math.Nat.{add-mod_right, mod-le}
+use Rattle.std.proofs.Math.Nat.{add-mod_right, mod-le, mul-le-mul}
 use borrow.Author.Tests.{lt-ltb, le-ltb, ltb-true, ltb-false, lt-leb, leb-true, leb-false}
 use Rattle.rules.specs.Grid.{Edge, right, down, Grid, pads}
 use Rattle.rules.specs.Drawing.{on_left, on_right}
@@ -15,7 +15,8 @@ use Rattle.model.specs.PadTests.{has_right, has_left, has_down, has_up, on_board
 use Rattle.model.specs.Board.{Item, bar, detours, when, has_side, barred, corner_right, corner_left, shape_items}
 use Rattle.model.specs.BoardLaws.{left_of_next}
 use Rattle.boardview.specs.Told.{pick}
-use Rattle.boardview.specs.View.{slot, edge_of, second_pad, slot_on, detour_at, corner_at, bar_at}
+use Rattle.boardview.specs.declared.kinds.Kinds.{Kinds}
+use Rattle.boardview.specs.View.{slot, edge_of, second_pad, slot_on, grid_in, detour_at, corner_at, bar_at}
 use Rattle.boardview.specs.Bytes.{right_slot, down_slot, edge_on, on_slot}
 
 -- COLUMNS
@@ -392,3 +393,10 @@ slot_bounds g p q few n on = go (eqb (n % 2) 0) refl (on_slot g n on).1
     go : (b : Bool) → eqb (n % 2) 0 ≡ b → on_board g (pick b (right (n / 2 - 16)) (down (n / 2 - 16))) ≡ true → (32 ≤ n) × (n < 544) × (n / 2 - 16 < 256) × (pick b (n / 2 - 15) (n / 2 - 16 + g.width) < 256)
     go true e o = let h = right_on g p q (n / 2 - 16) o in let k = beyond_right g p q (n / 2 - 16) o in (high, omega (arith, high, h.1), omega (arith, h.1), omega (arith, k, high))
     go false e o = let h = down_on g p q (n / 2 - 16) o in (high, omega (arith, high, h), omega (arith, h), omega (arith, h))
+
+-- what is told of a grid is of few pads
+pub few_told : (kind : Kinds) → pads (grid_in kind) ≤ 256
+few_told kind = mul-le-mul kind.told.largest_height kind.told.largest_width
+
+pub slot_told : (kind : Kinds) (n : ℕ) → slot_on (grid_in kind) n ≡ true → (32 ≤ n) × (n < 544) × (n / 2 - 16 < 256) × (second_pad kind.width n < 256)
+slot_told kind n on = slot_bounds (grid_in kind) kind.told.least_width kind.told.largest_width (few_told kind) n on

@@ -1,16 +1,14 @@
 -- Laws of the end numbers as the code holds them: what the sign of an i64 says of the end, that -1 - a is exact for a negative a, and what
 -- the stores of step c and of undo leave. It rests on View.antt and on the kit's account of i64.
-use Rattle.std.specs.Prelude.{◌≡◌, Bool, true, false, not, ◌||◌, List, get_or, set, length, ℤ, pos, negsuc, nat_abs, ◌-ℤ◌, T, eqb}
+use Rattle.std.specs.Prelude.{◌≡◌, true, false, List, get_or, length, ℤ, pos, negsuc, nat_abs, ◌-ℤ◌, T}
 use Rattle.std.proofs.Math.Path.{refl}
-use Rattle.std.proofs.Common.{sym, ap, ◌∙◌, true≢false, arith, length-set, SFits, Fits, to_z, of_z, ltb-true, le-ltb, ne_eqb, eq-eqb, eqb-true}
-use Prim.Native.Nat.{ℕ, zero, suc, ◌^◌, ◌≤◌, ◌<◌}
-use Rattle.std.proofs.Math.Seq.{set_out}
+use Rattle.std.proofs.Common.{sym, ap, ◌∙◌, true≢false, arith, SFits, Fits, to_z, of_z, ltb-true, le-ltb}
+use Prim.Native.Nat.{ℕ, zero, suc, ◌^◌, ◌<◌}
 use Rattle.std.specs.Int.Signed.{lt_z, non_neg}
 use Rattle.std.specs.Int.{w64}
 use Rattle.std.proofs.lemmas.Int.{to_z-of_z, to_z_pos}
-use Rattle.std.proofs.lemmas.Bool.{eqb-false}
-use Rattle.model.specs.JoinedEnds.{End, through, at_pad, at_clue, is_through, unequal_negative, is_pad, unjoinable}
-use Rattle.boardview.specs.View.{end_of, end_at, pad_number, code_number, rival, put_number, joined, unjoined}
+use Rattle.model.specs.JoinedEnds.{through, at_pad, at_clue}
+use Rattle.boardview.specs.View.{end_of, end_at}
 use Rattle.model.specs.Lists.{default_free}
 
 pub back : (z : ℤ) → SFits w64 z → to_z w64 (of_z w64 z) ≡ z

@@ -1,2 +1,3 @@
 -- What the answers of the cycle repeat.
 mod Lines
+mod Checks

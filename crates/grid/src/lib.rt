@@ -48,7 +48,7 @@ pub enum Direction {
 impl Direction {
     // The second pad of the edge from a pad.
     pub fn second(self, v: usize, width: usize) -> usize
-        requires { (v < 256) × (width ≤ 16) }
+        requires { (v < 512) × (width ≤ 16) }
         ensures { result ≡ second width (edge_to self v) }
     {
         match self {

@@ -1,10 +1,6 @@
--- `boardparts::second_pad` meets its contract.
-use borrow.Author.Tests.{eq-eqb, ne_eqb}
-use mathlib.Core.Path.{refl}
+-- `boardparts::second_pad` meets its contract: the second pad of the slot's edge.
+use Rattle.boardparts.proofs.Slots.{second_of_slot}
 use Rattle.boardparts.proofs.second_pad.Goals as goal
 
-pub returns-then-slot-eq0 : goal.returns-then-slot-eq0
-returns-then-slot-eq0 c = rw (eq-eqb _ _ c.if-slot-eq0.true) refl
-
 pub returns : goal.returns
-returns c = rw (ne_eqb _ _ c.if-slot-eq0.false) refl
+returns c = second_of_slot _ _ c.requires.0 _ c.direction_at.ensures _ c.first_pad.ensures c.second.ensures

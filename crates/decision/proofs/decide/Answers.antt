@@ -6,4 +6,4 @@ pub returns-then-line : goal.returns-then-line
 returns-then-line c = decided_line _ _ _ _ _ c.if-line.true c.decide_line.ensures
 
 pub returns : goal.returns
-returns c = decided_none _ _ _ _ _ c.if-line.false c.requires.3 (rw c.slot.ensures at c.decide_none.ensures)
+returns c = decided_none _ _ _ _ _ c.if-line.false c.requires.2 (rw c.slot_from.ensures at c.decide_none.ensures)
