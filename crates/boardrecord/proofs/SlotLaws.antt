@@ -1,4 +1,4 @@
--- The slot of two pads, by how they stand; the byte there; and a test as a number, as the code and as the rules have it. Assumes nothing.
+-- The pads that were found at a place, and the byte at the slot of their edge; and a test as a number, as the code and as the rules have it. Assumes nothing.
 use Prim.Native.Nat.{ℕ, ◌+◌, ◌*◌, ◌≤◌, ◌<◌}
 use mathlib.Core.Path.{◌≡◌, refl, sym, ap, subst}
 use mathlib.Core.List.{List}
@@ -9,30 +9,13 @@ use Rattle.rules.specs.Drawing.{num}
 use Rattle.rules.specs.Grid.{first, Place, edge}
 use Rattle.rules.specs.Record.{byte_at_place}
 use Rattle.std.specs.Prelude.{Some, None}
+use Rattle.grid.specs.Directions.{edge_to, first_to}
+use Rattle.boardparts.specs.Sides.{slot_small}
 use Rattle.grid.specs.PadsAt.{pads_of, edge_of, place_of, IfEdge, told_place}
 use Rattle.grid.specs.declared.Pads.{Pads}
-use Rattle.grid.specs.declared.Pads.TheVariants.{Beside, Above}
 use Rattle.boardview.specs.View.{slot}
 use Rattle.boardview.specs.ShownRecord.{bytes_shown, slot_of_place}
 use Rattle.boardview.specs.ShownRecordLaws.{no_byte, edge_byte}
-
--- the slot of two pads, by how they stand
-module _ (pads : Pads) (small : first (edge_of pads) < 256) {a b : ℕ} where
-  pub small_beside : pads ≡ Beside a b → a < 256
-  unfolding edge_of
-  small_beside are = subst (λ p. first (edge_of p) < 256) are small
-
-  pub small_above : pads ≡ Above a b → a < 256
-  unfolding edge_of
-  small_above are = subst (λ p. first (edge_of p) < 256) are small
-
-  pub slot_beside : pads ≡ Beside a b → 32 + 2 * a ≡ slot (edge_of pads)
-  unfolding edge_of
-  slot_beside are = rw are refl
-
-  pub slot_above : pads ≡ Above a b → 33 + 2 * a ≡ slot (edge_of pads)
-  unfolding edge_of
-  slot_above are = rw are refl
 
 -- the pads that were found at a place
 module _ (width : ℕ) (p : Place) where
@@ -41,8 +24,16 @@ module _ (width : ℕ) (p : Place) where
     unfolding place_of
     told = told_place width p are
 
-    pub told_small : IfEdge p (λ e. first e < 256) → first (edge_of pads) < 256
-    told_small small = small (edge_of pads) (sym told)
+    pub told_small : IfEdge p (λ e. first e < 256) → pads.first < 256
+    unfolding edge_of
+    told_small small = rw (first_to pads.direction pads.first) (small (edge_of pads) (sym told))
+
+    pub told_slot : {n : ℕ} → n ≡ slot (edge_to pads.direction pads.first) → n ≡ slot (edge_of pads)
+    unfolding edge_of
+    told_slot is = is
+
+    pub slot_inside : IfEdge p (λ e. first e < 256) → {n : ℕ} → n ≡ slot (edge_to pads.direction pads.first) → n < 1024
+    slot_inside small is = rw is (slot_small pads.direction pads.first (told_small small))
 
     pub byte_there : (edges : List ℕ) → length edges ≡ 1024 → ((k : ℕ) → get_or edges k 2 ≤ 2) → {n : ℕ} → n ≡ slot (edge_of pads) → n < 1024 → get_or edges n 0 ≡ byte_at_place (bytes_shown edges) p
     byte_there edges long bytes {n} is inside = subst (λ q. get_or edges n 0 ≡ byte_at_place (bytes_shown edges) q) told (rw is (edge_byte edges long bytes (edge_of pads) (rw is at inside)))

@@ -5,4 +5,4 @@ use Rattle.boardview.specs.ShownRecordLaws.{RowsWritten}
 use Rattle.boardrecord.proofs.put_record.Given as goal
 
 abbrev pub invariant-loop-row : goal.invariant-loop-row
-invariant-loop-row l = (l.row ≤ l.rows) × RowsWritten (grid_in l.kind) l.edges l.at l.initial.buffer l.row l.lines l.buffer
+invariant-loop-row l = (l.row ≤ l.rows) × RowsWritten (grid_in l.kinds) l.edges l.at l.initial.buffer l.row l.lines l.buffer

@@ -17,13 +17,13 @@ pub loop-column-init : goal.loop-column-init
 loop-column-init c = (omega arith, none_written _ _ _)
 
 pub byte_at-byte-requires : goal.byte_at-byte-requires
-byte_at-byte-requires c = let start = c in (start.requires.1, start.requires.2, omega (arith, c.loop-column-test.true, start.requires.1), start.requires.3, start.requires.4)
+byte_at-byte-requires c = let start = c in (start.requires.1, start.requires.2, omega (arith, c.loop-column-test.true, start.requires.1), start.requires.3)
 
 pub overflow_add-buffer : goal.overflow_add-buffer
-overflow_add-buffer c = omega (arith, c.loop-column-test.true, c.requires.5)
+overflow_add-buffer c = omega (arith, c.loop-column-test.true, c.requires.4)
 
 pub bounds-buffer-at : goal.bounds-buffer-at
-bounds-buffer-at c = omega (arith, c.loop-column.invariant.1.same_length, c.loop-column-test.true, c.requires.5)
+bounds-buffer-at c = omega (arith, c.loop-column.invariant.1.same_length, c.loop-column-test.true, c.requires.4)
 
 pub overflow_add-lines : goal.overflow_add-lines
 overflow_add-lines c = omega (arith, c.loop-column.invariant.1.few, c.loop-column.invariant.0, test_number (eqb c.byte_at-byte.result 1), num_small (eqb c.byte_at-byte.result 1), c.requires.1)
@@ -31,7 +31,7 @@ overflow_add-lines c = omega (arith, c.loop-column.invariant.1.few, c.loop-colum
 pub loop-column-preserved : goal.loop-column-preserved
 loop-column-preserved c = (
   omega arith,
-  one_written _ _ _ _ _ _ c.loop-column.invariant.1 (omega (arith, c.loop-column-test.true, c.requires.5)) _ _ c.byte_at-byte.ensures
+  one_written _ _ _ _ _ _ c.loop-column.invariant.1 (omega (arith, c.loop-column-test.true, c.requires.4)) _ _ c.byte_at-byte.ensures
       (c.from-lines.ensures ∙ test_number (eqb c.byte_at-byte.result 1)) (omega (arith, c.from-lines.ensures, test_number (eqb c.byte_at-byte.result 1), num_small (eqb c.byte_at-byte.result 1))),
 )
 
