@@ -13,8 +13,8 @@ use grid::Edge;
 // The byte of an undecided edge, as the edge type names it.
 const UNDECIDED: u8 = Edge::UNDECIDED.0;
 
-// Gives back the ends of an entry: those of its pads v and q, and at the pads that these ends name, v and q. An entry that joined none has -1,
-// the number of a pad that a line passes through.
+// Gives back the ends of an entry: those of its pads v and q, and at the pads that these ends name, v and q. An entry that joined none
+// has -1, the number of a pad that a line passes through.
 fn unjoin(ends: &mut [i64; 512], log: &[i64; 1440], k: usize, v: usize, q: usize)
     requires { (k < 480) × (v < 512) × (q < 512) }
     ensures { ends.new ≡ unjoined v q (get_or log.now (3 * k + 1) (pos 0)) (get_or log.now (3 * k + 2) (pos 0)) ends.old }

@@ -1,5 +1,5 @@
 -- A decision asks of a grid only its sizes and whether each pad is blank, a clue or a hole: two grids that agree in these decide alike, and
--- so are prepared alike. So the grid that the kinds tell of (View.antt, grid-in) stands for the grid of the file. It rests on the model alone.
+-- so are prepared alike. So the grid that the kinds tell of (View.antt, grid_in) stands for the grid of the file. It rests on the model alone.
 use Prim.Native.Nat.{ℕ, zero, suc, ◌+◌}
 use Rattle.std.specs.Prelude.{◌≡◌, Bool, ◌&&◌, ◌||◌, ltb}
 use Rattle.std.proofs.Math.Path.{refl, ap}

@@ -1,5 +1,5 @@
--- Laws of the end numbers as the code holds them: what the sign of an i64 says of the end, that -1 - a is exact for a negative a, and what
--- the stores of step c and of undo leave. It rests on View.antt and on the kit's account of i64.
+-- Laws of the numbers as the code holds them: what the sign of an i64 says of the end that it stands for, that -2 - a is exact where a clue's
+-- end is read, and that a slot and an end go through the log unchanged. It rests on View.antt and on the kit's account of i64.
 use Rattle.std.specs.Prelude.{◌≡◌, true, false, List, get_or, length, ℤ, pos, negsuc, nat_abs, ◌-ℤ◌, T}
 use Rattle.std.proofs.Math.Path.{refl}
 use Rattle.std.proofs.Common.{sym, ap, ◌∙◌, true≢false, arith, SFits, Fits, to_z, of_z, ltb-true, le-ltb}

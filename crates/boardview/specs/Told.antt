@@ -31,7 +31,7 @@ corner_bit on_left = 16
 abbrev pub taken_bit : ℕ
 taken_bit = 32
 
--- the grid that sizes and bits tell of, and which pads are blank, clues or holes. A decision asks no more of a grid (SameKinds.antt).
+-- the grid that sizes and bits tell of: which pads are blank, clues or holes. A decision asks no more of a grid (SameKinds.antt).
 abbrev pub cell_in : (clue_is is_taken : Bool) → Cell
 cell_in true is_taken = clue 0
 cell_in false true = hole

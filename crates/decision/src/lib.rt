@@ -151,7 +151,7 @@ fn shape_down(board: &mut Arrays, kinds: &Kinds, v: usize)
     bar(board, kinds, v, BAR_RIGHT, right);
 }
 
-// Step d, the third of a unit square that asks for its far side, beside a line downward: pad v has this corner where that side is on the board.
+// Step d, the third of a unit square beside a line downward that asks for its far side: it is on the board where pad v has this corner.
 #[cycle(deciding)]
 #[inline]
 fn far_detour(
@@ -298,8 +298,8 @@ fn keep_clues_apart(board: &mut Arrays, kinds: &Kinds, v: usize)
     }
 }
 
-// One of the four edges at a pad whose end is of a clue: it becomes none if it leads to a pad whose end is of another clue than `code`. `past` is
-// 16 more than that pad.
+// One of the four edges at a pad whose end is of a clue: it becomes none if it leads to a pad whose end is of another clue than `code`.
+// `past` is 16 more than that pad.
 #[cycle(deciding)]
 fn keep_apart(board: &mut Arrays, kinds: &Kinds, code: usize, slot: usize, past: usize)
     requires { (slot < 1024) × (past < 528) × (slot_on (grid_in kinds.now) slot ≡ true → 16 ≤ past) × Ready (grid_in kinds.now) board.old }
