@@ -95,3 +95,6 @@ module _ (first second : List ℕ) where
     pub first_shorter : a ≤ b → first ≡ shorter first second
     unfolding shorter
     first_shorter h = simp (eq-eqb _ _ same, ← p, ← q, le-ltb _ _ h)
+
+-- what the proofs of the calls are found by
+pub ruleset record_laws = (no_height, no_width, not_counted, by_room, some_bytes, no_record, in_room, that_part, lines_counted, lengths_differ, second_shorter, first_shorter, what_a_record_has, size_of_test)

@@ -10,6 +10,7 @@ ghost use Rattle.rules.specs.Record.{record_lines};
 use grid::Edge;
 
 // Whether a buffer of so many bytes has a record k: H and W are sizes, k is below the count, and the record ends in time.
+#[tactic(auto, using(crate::proofs::RecordLaws::record_laws))]
 fn has_record(height: usize, width: usize, count: usize, k: usize, room: usize) -> bool
     ensures { result ≡ has_record height width count k room }
 {
@@ -26,6 +27,7 @@ fn has_record(height: usize, width: usize, count: usize, k: usize, room: usize) 
 }
 
 // Record k of the buffer, as that part of it; an empty part where there is no record k.
+#[tactic(auto, using(crate::proofs::RecordLaws::record_laws))]
 pub fn record_at(height: usize, width: usize, count: usize, k: usize, buffer: &[u8]) -> &[u8]
     ensures { result.now ≡ record_at height width count k buffer.now }
 {
@@ -39,6 +41,7 @@ pub fn record_at(height: usize, width: usize, count: usize, k: usize, buffer: &[
 }
 
 // The number of lines of a record: its bytes 1.
+#[tactic(auto, using(crate::proofs::RecordLaws::record_laws))]
 pub fn lines(layout: &[u8]) -> usize
     ensures { result ≡ record_lines layout.now }
 {
@@ -49,6 +52,7 @@ pub fn lines(layout: &[u8]) -> usize
 }
 
 // The one of two records with fewer lines, on a tie the first; an empty part if the lengths differ or are 0.
+#[tactic(auto, using(crate::proofs::RecordLaws::record_laws))]
 pub fn shorter<'a>(first: &'a [u8], second: &'a [u8]) -> &'a [u8]
     ensures { result.now ≡ shorter first.now second.now }
 {
