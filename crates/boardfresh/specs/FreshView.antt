@@ -7,21 +7,18 @@ use Rattle.std.proofs.lemmas.Bool.{lt-leb}
 use Rattle.rules.specs.Grid.{Grid, pads}
 use Rattle.model.specs.Board.{State, bare, prepared, fresh}
 use Rattle.boardview.specs.declared.Arrays.{Arrays}
-use Rattle.boardview.specs.View.{pick, flag_in, view, grid_in, Kinds, Ready}
+use Rattle.boardview.specs.declared.kinds.Kinds.{Kinds}
+use Rattle.boardview.specs.Told.{pick}
+use Rattle.boardview.specs.View.{flag_in, view, grid_in, restarted, Ready}
 use Rattle.boardview.specs.SameKinds.{Shows, shown_prepares}
 use Rattle.boardview.specs.Stores.{relogged}
 use Rattle.boardbare.specs.BareView.{BareBoard}
 use Rattle.boardfresh.specs.Shutting.{Shown}
 
--- THE COUNT OF A NEW LOG: no entry, and the flag as it was; where it is set, the decision has ended
-unfoldable pub restarted : ℕ → ℕ
-restarted count = pick (ltb count 1024) 0 2048
-
 -- WHAT THE CALLERS OF THE FRESH ARRAYS GET, with any log: there are no entries yet
-pub record FreshBoard (g : Grid) (edges : List ℕ) (ends : List ℤ) (kind : List ℕ) (count : ℕ) : Type 0 where
-  pub kinds : Kinds kind
-  pub told : Shows g kind
-  pub ready : (log : List ℤ) → length log ≡ 1440 → Ready (grid_in kind) (record { edges = edges; ends = ends; log = log; count = count })
+pub record FreshBoard (g : Grid) (edges : List ℕ) (ends : List ℤ) (kinds : Kinds) (count : ℕ) : Type 0 where
+  pub told : Shows g kinds
+  pub ready : (log : List ℤ) → length log ≡ 1440 → Ready (grid_in kinds) (record { edges = edges; ends = ends; log = log; count = count })
   pub shows : (log : List ℤ) → view (record { edges = edges; ends = ends; log = log; count = count }) ≡ fresh g
   pub no_entries : count % 1024 ≡ 0
 
@@ -51,23 +48,22 @@ module _ (g : Grid) (s : Arrays) (log : List ℤ) where
   ready_anew ready long = let r = restart s.count in
       relogged g s log (restarted s.count) ready long r.in_mode (omega (arith, r.empty)) (λ k below. absurd (omega (arith, r.empty)))
 
-module _ (g : Grid) (edges : List ℕ) (ends : List ℤ) (kind : List ℕ) (made : BareBoard g edges ends kind) (log : List ℤ) (s : Arrays)
-    (shut : Shown (grid_in kind) s (prepared (grid_in kind) (pads (grid_in kind)) 0 (view (record { edges = edges; ends = ends; log = log; count = 0 })))) where
-  same_pads : pads (grid_in kind) ≡ pads g
+module _ (g : Grid) (edges : List ℕ) (ends : List ℤ) (kinds : Kinds) (made : BareBoard g edges ends kinds) (log : List ℤ) (s : Arrays)
+    (shut : Shown (grid_in kinds) s (prepared (grid_in kinds) (pads (grid_in kinds)) 0 (view (record { edges = edges; ends = ends; log = log; count = 0 })))) where
+  same_pads : pads (grid_in kinds) ≡ pads g
   same_pads = λ i. made.told.height i * made.told.width i
 
   shows_fresh : view s ≡ fresh g
   unfolding fresh
   shows_fresh = shut.shows
-      ∙ ap (λ (S : State). prepared (grid_in kind) (pads (grid_in kind)) 0 S) (made.shows log)
-      ∙ shown_prepares made.told (pads (grid_in kind)) 0 (bare g)
+      ∙ ap (λ (S : State). prepared (grid_in kinds) (pads (grid_in kinds)) 0 S) (made.shows log)
+      ∙ shown_prepares made.told (pads (grid_in kinds)) 0 (bare g)
       ∙ ap (λ (n : ℕ). prepared g n 0 (bare g)) same_pads
 
-  pub fresh_made : FreshBoard g s.edges s.ends kind (restarted s.count)
+  pub fresh_made : FreshBoard g s.edges s.ends kinds (restarted s.count)
   fresh_made = record {
-    kinds = made.kinds;
     told = made.told;
-    ready = λ other long. ready_anew (grid_in kind) s other shut.ready long;
-    shows = λ other. view_anew (grid_in kind) s other ∙ shows_fresh;
+    ready = λ other long. ready_anew (grid_in kinds) s other shut.ready long;
+    shows = λ other. view_anew (grid_in kinds) s other ∙ shows_fresh;
     no_entries = (restart s.count).empty;
   }

@@ -13,11 +13,13 @@ use Rattle.rules.specs.Tests.{is_so}
 use Rattle.model.specs.PadTests.{is_hole, has_left, has_right, has_up, has_down}
 use Rattle.model.specs.Board.{State, none, with_edge, around, decide, enough, shut, shut_at, prepared}
 use Rattle.boardview.specs.declared.Arrays.{Arrays}
-use Rattle.boardview.specs.View.{pick, view, edge_of, slot, slot_on, state_of, ended, has_bit, clue_bit, taken_bit, cell_in, grid_in, Ready, Decided, NoneAt}
+use Rattle.boardview.specs.declared.kinds.Kinds.{Kinds}
+use Rattle.boardview.specs.Told.{pick, has_bit, clue_bit, taken_bit, cell_in}
+use Rattle.boardview.specs.View.{view, edge_of, slot, slot_on, state_of, ended, with_count, grid_in, Ready, Decided, NoneAt}
 use Rattle.boardview.specs.Bytes.{elim_true, elim_false, slot_of_edge, on_slot, right_slot, down_slot}
 use Rattle.boardview.specs.Geometry.{slot_left, slot_right, slot_up, slot_down, edge_left, edge_up}
 use Rattle.boardview.specs.Stores.{flag_of_ended}
-use Rattle.boardview.specs.Steps.{with_count, view_recounted}
+use Rattle.boardview.specs.Steps.{view_recounted}
 use Rattle.boardview.specs.Items.{decided_same}
 use Rattle.boardview.specs.Undecided.{enough_here}
 
@@ -31,21 +33,13 @@ unfoldable pub shut_slot : Grid → ℕ → State → State
 shut_slot g n S = pick (slot_on g n) (decide g (enough g) (edge_of n) none S) S
 
 -- A PAD IS A HOLE: taken, and no clue
-hole_test : (kind : List ℕ) (v : ℕ) → v < 256 → is_hole ((grid_in kind).cell v) ≡ (not (has_bit kind v clue_bit) && has_bit kind v taken_bit)
-unfolding grid_in
-hole_test kind v below = rw (lt-ltb v 256 below) (go (has_bit kind v clue_bit) (has_bit kind v taken_bit))
+pub hole_test : (kinds : Kinds) (v : ℕ) → v < 256 → is_hole ((grid_in kinds).cell v) ≡ (not (has_bit kinds.bits v clue_bit) && has_bit kinds.bits v taken_bit)
+hole_test kinds v below = rw (lt-ltb v 256 below) (go (has_bit kinds.bits v clue_bit) (has_bit kinds.bits v taken_bit))
   where
     go : (clue taken : Bool) → is_hole (cell_in clue taken) ≡ (not clue && taken)
     go true taken = refl
     go false true = refl
     go false false = refl
-
-module _ (kind : List ℕ) (v : ℕ) (below : v < 256) where
-  pub clue_no_hole : has_bit kind v clue_bit ≡ true → false ≡ is_hole ((grid_in kind).cell v)
-  clue_no_hole clue = sym (hole_test kind v below ∙ rw clue refl)
-
-  pub taken_hole : has_bit kind v clue_bit ≡ false → has_bit kind v taken_bit ≡ is_hole ((grid_in kind).cell v)
-  taken_hole no_clue = sym (hole_test kind v below ∙ rw no_clue refl)
 
 -- ONE SLOT
 module _ (g : Grid) (s : Arrays) (ready : Ready g s) (n : ℕ) (inside : n < 1024) where

@@ -33,6 +33,10 @@ ended count = pick (ltb count 1024) count (stopped count)
 unfoldable pub going : ℕ → ℕ
 going count = pick (ltb count 2048) count (count - 1024)
 
+-- the count of a new log: no entry, and the flag as it was; where it is set, the decision has ended
+unfoldable pub restarted : ℕ → ℕ
+restarted count = pick (ltb count 1024) 0 2048
+
 -- the same arrays with this count
 abbrev pub with_count : Arrays → ℕ → Arrays
 with_count s c = record { edges = s.edges; ends = s.ends; log = s.log; count = c }

@@ -2,7 +2,7 @@
 #![tactic(auto)]
 
 ghost use Rattle.std.specs.Prelude.{◌≡◌, ◌%◌};
-ghost use Rattle.boardview.specs.View.{logged, flag_in, ended_in, stopped, ended, going, with_count};
+ghost use Rattle.boardview.specs.View.{logged, flag_in, ended_in, stopped, ended, going, restarted, with_count};
 
 mod kinds;
 
@@ -68,6 +68,13 @@ impl Arrays {
         if self.has_ended() {
             self.count -= FLAGGED;
         }
+    }
+
+    // The log begins anew, with the flag as it is.
+    pub fn restart(&mut self)
+        ensures { self.new ≡ with_count self.old (restarted self.old.count) }
+    {
+        self.count = if self.is_flagged() { ENDED } else { 0 };
     }
 }
 

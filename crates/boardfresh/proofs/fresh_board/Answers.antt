@@ -6,7 +6,7 @@ use Rattle.boardfresh.proofs.fresh_board.Goals as goal
 
 pub shut_holes-requires : goal.shut_holes-requires
 shut_holes-requires c = let bare = c.bare_board-bare.ensures in
-    (bare.kinds, bare.ready _ (length-replicate 1440 (pos 0)))
+    bare.ready _ (length-replicate 1440 (pos 0))
 
 pub returns : goal.returns
-returns c = (rw c.restart.ensures (fresh_made _ _ _ _ c.bare_board-bare.ensures _ _ c.shut_holes.ensures), c.shut_holes.ensures.ready.log_long)
+returns c = rw c.restart.ensures (fresh_made _ _ _ _ c.bare_board-bare.ensures _ _ c.shut_holes.ensures, c.shut_holes.ensures.ready.log_long)

@@ -1,10 +1,11 @@
 -- `boardfresh::is_hole` meets its contract: a clue is no hole, and any other pad that is taken is one. Assumes nothing.
-use mathlib.Core.Path.{sym, ◌∙◌}
-use Rattle.boardfresh.specs.Shutting.{clue_no_hole, taken_hole}
+use mathlib.Core.Path.{refl, sym, ap, ◌∙◌}
+use mathlib.Core.Bool.{not}
+use Rattle.boardfresh.specs.Shutting.{hole_test}
 use Rattle.boardfresh.proofs.is_hole.Goals as goal
 
-pub returns-then-has : goal.returns-then-has
-returns-then-has c = clue_no_hole _ _ c.requires (sym c.has.ensures ∙ c.if-has.true)
+pub returns-then-not-has : goal.returns-then-not-has
+returns-then-not-has c = c.has-then-not-has.ensures ∙ sym (hole_test c.args.kinds.now _ c.requires ∙ rw (sym c.has.ensures ∙ c.if-not-has.true) refl)
 
-pub returns : goal.returns
-returns c = c.has-2.ensures ∙ taken_hole _ _ c.requires (sym c.has.ensures ∙ c.if-has.false)
+pub returns-else-not-has : goal.returns-else-not-has
+returns-else-not-has c = ap not c.if-not-has.false ∙ sym (hole_test c.args.kinds.now _ c.requires ∙ rw (sym c.has.ensures ∙ c.if-not-has.false) refl)
