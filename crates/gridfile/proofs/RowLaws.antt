@@ -5,18 +5,19 @@ use mathlib.Core.List.{List, ◌∷◌}
 use Prim.Native.Nat.{ℕ, suc, ◌+◌, ◌-◌, ◌*◌, ◌≤◌, ◌<◌}
 use native.Mathlib.Nat.{mul-le-mul}
 use native.Mathlib.Omega.{arith}
-use lib.ListN.{length, get_or, drop, set, drop_of_length-le}
+use lib.ListN.{length, get_or, take, drop, set, drop_of_length-le}
 use lib.Seq.{drop-cons}
 use lib.IntN.{ℤ}
 use lib.Dec.{eqb}
 use borrow.Author.Tests.{eq-eqb, ne_eqb, eqb-true, eqb-false}
 use Rattle.gridfile.specs.Rows.{Reached}
-use Rattle.rules.specs.Grid.{largest_code}
+use Rattle.rules.specs.Grid.{Size, Accepted, largest_code}
 use Rattle.model.specs.Bounds.{is_size}
 use Rattle.model.specs.RefusalLaws.{size_of_test}
 use Rattle.model.specs.GridFile as model
-use Rattle.model.specs.GridFile.{is_hole_sign, is_complete, in_header, refusal, accepted, declined_reading, declined, read_from, no_cells}
+use Rattle.model.specs.GridFile.{start, fields_due, is_hole_sign, is_complete, in_header, refusal, accepted, declined_reading, declined, read_from, no_cells}
 use Rattle.reading.specs.FieldSteps.{Part, field_start, field_ending, cell_of, byte_refused, end_complete, row_too_short, row_ends, row_too_long, row_goes_on}
+use Rattle.reading.specs.ReadingLaws.{Sound, start_sound, read_from_sound}
 use Rattle.gridfile.specs.Fields.{fault_number, row_field_at, located, part_of}
 use Rattle.gridfile.specs.Answers.{reading_says}
 use Rattle.gridfile.specs.declared.Declined.{Declined}
@@ -149,3 +150,23 @@ module _ (bytes : List ℕ) (height width : ℕ) (cells : List ℤ) (at : ℕ) {
   pub file_ends : length bytes ≤ at → record { number = 0; line = 0; field = 0; height = height; width = width; cells = cells } ≡ answer
   unfolding accepted field_start
   file_ends h = sym (rw (drop_of_length-le bytes h) (end_complete (field_start (height + 2) 1 height width cells) all_read)) ∙ r.same
+
+-- the standing where the rows begin is sound
+rows_sound : {height width : ℕ} → Size height → Size width → Sound (field_start 2 1 height width no_cells)
+unfolding start fields_due in_header field_start
+rows_sound high wide =
+    record {
+      cells_in_range = start_sound.cells_in_range;
+      cell_count = start_sound.cell_count;
+      line_from_1 = omega arith;
+      field_from_1 = omega arith;
+      field_due = omega (arith, wide.0);
+      digits_due = omega arith;
+      no_value = λ z. refl;
+      no_leading_zero = λ z. omega arith;
+      sizes_in_range = λ e. (high, wide, omega (arith, high.0));
+    }
+
+-- what was read from there on is a grid
+pub grid_read : {height width : ℕ} {cells : List ℤ} → Size height → Size width → (rows : List ℕ) → record { number = 0; line = 0; field = 0; height = height; width = width; cells = cells } ≡ read_from (field_start 2 1 height width no_cells) rows → Accepted height width (take (height * width) cells)
+grid_read high wide rows is = (rw (← is) at (read_from_sound _ rows (rows_sound high wide))).in_range refl

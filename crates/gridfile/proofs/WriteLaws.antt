@@ -16,19 +16,15 @@ use mir.Val.{SFits, to_z, of_z}
 use mir.ValLaws.{to_z-of_z}
 use borrow.Author.Tests.{ltb-true, eqb-true, eqb-false, ne_eqb, eq-eqb}
 use Rattle.rules.specs.Grid.{Accepted}
-use Rattle.model.specs.Bounds.{is_size}
 use Rattle.model.specs.Refusals.{grid_refusal}
-use Rattle.model.specs.RefusalLaws.{test_of_size, not_refused}
 use Rattle.model.specs.Text.{bytes, comma, line_end, hole_sign}
 use Rattle.model.specs.Decimal.{decimal}
 use Rattle.model.specs.Writing.{cell_text, rows_text, grid_text, turned_away, written, write}
 use Rattle.grid.specs.declared.Refusal.{Refusal}
-use Rattle.grid.specs.declared.Refusal.TheVariants.{Size, CellCount, Cell}
-use Rattle.grid.specs.Answers.{number_of, refusal_says}
+use Rattle.grid.specs.Answers.{number_of, index_of, some_number}
 use Rattle.gridfile.specs.declared.Unwritten.TheVariants.{BadGrid, NoRoom}
 use Rattle.gridfile.specs.Answers.{writing_says}
 use Rattle.std.specs.Prelude.{Ok, Err}
-use Rattle.reading.specs.ReadBack.{longest_text}
 use Rattle.reading.proofs.WriteRead.{refused_grid, no_room, has_room}
 
 -- ## The field of a pad
@@ -150,23 +146,11 @@ field_longer text number byte e = rw (e, length-append, length-append) refl
 
 -- ## What is answered
 
-module _ (height width : ℕ) (cells : List ℤ) where
-  pub refused : (refusal : Refusal) → refusal_says (Err refusal) ≡ grid_refusal height width cells → (buffer : List ℕ) → writing_says (Err (BadGrid refusal)) buffer ≡ write height width cells buffer
-  unfolding turned_away
-  refused refusal told buffer = sym (refused_grid height width cells buffer (rw (← told) (some_number refusal)) ∙ rw (← told) refl)
-    where
-      some_number : (r : Refusal) → eqb (number_of r) 0 ≡ false
-      some_number Size = refl
-      some_number CellCount = refl
-      some_number (Cell index) = refl
-
-  pub not_refused_grid : {accepted : Unit {0}} → refusal_says (Ok accepted) ≡ grid_refusal height width cells → Accepted height width cells
-  not_refused_grid told = not_refused height width cells (sym (ap (λ (t : ℕ × ℕ). t.0) told))
+pub refused : (height width : ℕ) (cells : List ℤ) (refusal : Refusal) → (number_of refusal, index_of refusal) ≡ grid_refusal height width cells → (buffer : List ℕ) → writing_says (Err (BadGrid refusal)) buffer ≡ write height width cells buffer
+unfolding turned_away
+refused height width cells refusal told buffer = sym (refused_grid height width cells buffer (rw (← told) (ne_eqb _ _ (some_number refusal))) ∙ rw (← told) refl)
 
 module _ (height width : ℕ) (cells : List ℤ) (a : Accepted height width cells) where
-  pub text_fits : (is_size width ≡ true) × (length (grid_text height width cells) ≤ 2822)
-  text_fits = (test_of_size width a.width_in_range, longest_text height width cells a)
-
   module _ {text : List ℕ} (is : text ≡ grid_text height width cells) (buffer : List ℕ) where
     pub too_short : length buffer < length text → writing_says (Err NoRoom) buffer ≡ write height width cells buffer
     unfolding turned_away

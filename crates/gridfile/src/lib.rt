@@ -337,14 +337,14 @@ fn push_cell(text: &mut Text, cell: i64)
 }
 
 // The fields of the pads in index order behind what the text holds, after each a comma or, at a row's end, a line end.
-fn push_rows(text: &mut Text, width: usize, cells: &[i64])
-    requires { (is_size width ≡ true) × (length text.old + length (rows_text width 1 cells.now) ≤ 2822) }
-    ensures { text.new ≡ text.old ++ rows_text width 1 cells.now }
+fn push_rows(text: &mut Text, grid: &grid::Grid<'_>)
+    requires { length text.old + length (rows_text grid.now.width 1 grid.now.cells.now) ≤ 2822 }
+    ensures { text.new ≡ text.old ++ rows_text grid.now.width 1 grid.now.cells.now }
 {
     let mut field = 1;
-    for &cell in cells {
+    for &cell in grid.cells {
         push_cell(text, cell);
-        if field == width {
+        if field == grid.width {
             text.push_byte(LINE_END);
             field = 1;
         } else {
@@ -355,14 +355,13 @@ fn push_rows(text: &mut Text, width: usize, cells: &[i64])
 }
 
 // The text of a grid.
-fn text_of(height: usize, width: usize, cells: &[i64]) -> Text
-    requires { (is_size width ≡ true) × (length (grid_text height width cells.now) ≤ 2822) }
-    ensures { result ≡ grid_text height width cells.now }
+fn text_of(grid: &grid::Grid<'_>) -> Text
+    ensures { result ≡ grid_text grid.now.height grid.now.width grid.now.cells.now }
 {
     let mut text = Text::new();
-    text.push_field(height as u64, COMMA);
-    text.push_field(width as u64, LINE_END);
-    push_rows(&mut text, width, cells);
+    text.push_field(grid.height as u64, COMMA);
+    text.push_field(grid.width as u64, LINE_END);
+    push_rows(&mut text, grid);
     text
 }
 
@@ -376,8 +375,8 @@ pub fn write(
 ) -> Result<usize, Unwritten>
     ensures { writing_says result buffer.new ≡ write height width cells.now buffer.old }
 {
-    grid::grid_refusal(height, width, cells)?;
-    let text = text_of(height, width, cells);
+    let grid = grid::accept(height, width, cells)?;
+    let text = text_of(&grid);
     let whole = text.as_bytes();
     if buffer.len() < whole.len() {
         return Err(Unwritten::NoRoom);

@@ -1,4 +1,4 @@
--- Laws of records: their length, whether record k is there, their lines, and the shorter of two.
+-- Laws of records: that each has bytes, whether record k is there, their lines, and the shorter of two.
 -- Assumes nothing.
 use mathlib.Core.Path.{◌≡◌, refl, sym, ◌∙◌}
 use mathlib.Core.Bool.{Bool, true, false, cond}
@@ -17,16 +17,13 @@ use Rattle.model.specs.RefusalLaws.{size_of_test}
 use Rattle.model.specs.Records.{record_length, has_record, record_at, shorter}
 use Rattle.model.specs.HasRecord.{what_a_record_has}
 use Rattle.rules.specs.Record.{record_lines}
-use Rattle.rules.specs.Places.{some_places, few_places}
+use Rattle.rules.specs.Places.{some_places}
+use Rattle.rules.specs.Grid.{places}
 
 -- ## The length of a record
 
 module _ (height width : ℕ) (h : is_size height ≡ true) (w : is_size width ≡ true) where
-  pub longest_record : (2 * height - 1) * (2 * width - 1) ≤ 961
-  longest_record = few_places height width (size_of_test height h).1 (size_of_test width w).1
-
-  pub some_bytes : 0 < record_length height width
-  unfolding record_length
+  pub some_bytes : 0 < places height width
   some_bytes = some_places height width (size_of_test height h).0 (size_of_test width w).0
 
 -- ## Whether there is a record k
@@ -44,8 +41,8 @@ module _ (height width count k room : ℕ) where
   unfolding has_record
   not_counted h w c = simp (h, w, le-ltb _ _ c)
 
-  pub by_room : is_size height ≡ true → is_size width ≡ true → k < count → (long : ℕ) → long ≡ record_length height width → ltb k (room / long) ≡ has_record height width count k room
-  unfolding has_record
+  pub by_room : is_size height ≡ true → is_size width ≡ true → k < count → (long : ℕ) → long ≡ places height width → ltb k (room / long) ≡ has_record height width count k room
+  unfolding has_record record_length
   by_room h w c long e = simp (h, w, lt-ltb _ _ c, ← e) (go (ltb k (room / long)) refl)
     where
       some : 0 < long
@@ -59,8 +56,7 @@ module _ (height width count k room : ℕ) where
           more l = omega (arith, lt-div-mul-add {a = room} {b = long} some, mul-le-mul_right long l)
 
   -- a record that is there ends in time
-  pub in_room : has_record height width count k room ≡ true → (long : ℕ) → long ≡ record_length height width → k * long + long ≤ room
-  unfolding record_length
+  pub in_room : has_record height width count k room ≡ true → (long : ℕ) → long ≡ places height width → k * long + long ≤ room
   in_room e long l = rw l (what_a_record_has height width count k room e).inside
 
 -- ## Record k
@@ -70,8 +66,8 @@ module _ (height width count k : ℕ) (buffer : List ℕ) where
   unfolding record_at
   no_record e = simp e
 
-  pub that_part : has_record height width count k (length buffer) ≡ true → (long : ℕ) → long ≡ record_length height width → take (k * long + long - k * long) (drop (k * long) buffer) ≡ record_at height width count k buffer
-  unfolding record_at
+  pub that_part : has_record height width count k (length buffer) ≡ true → (long : ℕ) → long ≡ places height width → take (k * long + long - k * long) (drop (k * long) buffer) ≡ record_at height width count k buffer
+  unfolding record_at record_length
   that_part e long l = simp (e, ← l, add-sub_cancel_left)
 
 -- ## Lines

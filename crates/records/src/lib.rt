@@ -2,20 +2,12 @@
 // Each result equals the definition of the same name in the crate `model`, specs/Records.antt there, for every input.
 #![tactic(auto)]
 
-ghost use Rattle.std.specs.Prelude.{◌≡◌, true, ◌+◌, ◌*◌, ◌-◌, ◌<◌};
+ghost use Rattle.std.specs.Prelude.{◌≡◌};
 ghost use Rattle.model.specs.Bounds.{is_size};
-ghost use Rattle.model.specs.Records.{record_length, has_record, record_at, shorter};
+ghost use Rattle.model.specs.Records.{has_record, record_at, shorter};
 ghost use Rattle.rules.specs.Record.{record_lines};
 
 use grid::Edge;
-
-// The bytes of a record: the field of 2H-1 by 2W-1 places.
-pub fn record_length(height: usize, width: usize) -> usize
-    requires { (is_size height ≡ true) × (is_size width ≡ true) }
-    ensures { result ≡ record_length height width }
-{
-    (2 * height - 1) * (2 * width - 1)
-}
 
 // Whether a buffer of so many bytes has a record k: H and W are sizes, k is below the count, and the record ends in time.
 fn has_record(height: usize, width: usize, count: usize, k: usize, room: usize) -> bool
@@ -30,7 +22,7 @@ fn has_record(height: usize, width: usize, count: usize, k: usize, room: usize) 
     if count <= k {
         return false;
     }
-    k < room / record_length(height, width)
+    k < room / grid::places(height, width)
 }
 
 // Record k of the buffer, as that part of it; an empty part where there is no record k.
@@ -40,7 +32,7 @@ pub fn record_at(height: usize, width: usize, count: usize, k: usize, buffer: &[
     if !has_record(height, width, count, k, buffer.len()) {
         return &buffer[0..0];
     }
-    let length = record_length(height, width);
+    let length = grid::places(height, width);
     let start = k * length;
     let end = start + length;
     &buffer[start..end]
@@ -50,7 +42,10 @@ pub fn record_at(height: usize, width: usize, count: usize, k: usize, buffer: &[
 pub fn lines(layout: &[u8]) -> usize
     ensures { result ≡ record_lines layout.now }
 {
-    layout.iter().filter(|byte| **byte == Edge::LINE.0).count()
+    layout
+        .iter()
+        .filter(|byte| Edge(**byte) == Edge::LINE)
+        .count()
 }
 
 // The one of two records with fewer lines, on a tie the first; an empty part if the lengths differ or are 0.

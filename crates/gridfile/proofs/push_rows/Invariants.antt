@@ -4,4 +4,4 @@ use Rattle.gridfile.proofs.WriteLaws.{RowsPut}
 use Rattle.gridfile.proofs.push_rows.Given as goal
 
 abbrev pub invariant-loop-cell : goal.invariant-loop-cell
-invariant-loop-cell l = RowsPut l.initial.text l.text l.width l.cells l.field l.cell-index
+invariant-loop-cell l = RowsPut l.initial.text l.text l.grid.width l.grid.cells.now l.field l.cell-index

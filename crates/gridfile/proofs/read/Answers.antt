@@ -1,6 +1,5 @@
 -- `gridfile::read` meets its contract: each return is a law of HeaderLaws, after what `field_at` and `read_rows` ensure.
 -- Assumes nothing.
-use borrow.Author.Tests.{not-true, not-false}
 use Rattle.gridfile.proofs.HeaderLaws.{first_declined, first_alone, second_declined, third_field, height_refused, width_refused, rows_follow}
 use Rattle.gridfile.proofs.ReadLaws.{value_ended, found_there}
 use Rattle.std.specs.Prelude.{Result, Err}
@@ -13,7 +12,6 @@ use Rattle.gridfile.specs.Answers.{reading_says}
 use native.Mathlib.Omega.{arith}
 use mathlib.Core.Path.{sym, ◌∙◌}
 use mathlib.Core.Path.{ap}
-use mathlib.Core.Bool.{not}
 use Rattle.gridfile.proofs.read.Goals as goal
 
 pub returns-in_err-first : goal.returns-in_err-first
@@ -42,10 +40,10 @@ pub returns-then-bytes-second-ne-LINE_END : goal.returns-then-bytes-second-ne-LI
 returns-then-bytes-second-ne-LINE_END c = ap (λ (d : Declined). reading_says (Err d)) c.at-then-bytes-second-ne-LINE_END.ensures ∙ third_field _ _ (sym c.field_at.ensures ∙ found_there _ _ _ _ c.in_ok-first.ensures) c.if-bytes-first-eq-LINE_END.false _ (sym c.field_at-2.ensures ∙ found_there _ _ _ _ c.in_ok-second.ensures) c.if-bytes-second-ne-LINE_END.true
 
 pub returns-then-not-is_size : goal.returns-then-not-is_size
-returns-then-not-is_size c = ap (λ (d : Declined). reading_says (Err d)) c.at-then-not-is_size.ensures ∙ height_refused _ _ (sym c.field_at.ensures ∙ found_there _ _ _ _ c.in_ok-first.ensures) c.if-bytes-first-eq-LINE_END.false _ (sym c.field_at-2.ensures ∙ found_there _ _ _ _ c.in_ok-second.ensures) c.if-bytes-second-ne-LINE_END.false (sym c.is_size.ensures ∙ not-true _ (ap not c.if-not-is_size.true))
+returns-then-not-is_size c = ap (λ (d : Declined). reading_says (Err d)) c.at-then-not-is_size.ensures ∙ height_refused _ _ (sym c.field_at.ensures ∙ found_there _ _ _ _ c.in_ok-first.ensures) c.if-bytes-first-eq-LINE_END.false _ (sym c.field_at-2.ensures ∙ found_there _ _ _ _ c.in_ok-second.ensures) c.if-bytes-second-ne-LINE_END.false (sym c.if-not-is_size.ensures)
 
 pub returns-then-not-is_size-2 : goal.returns-then-not-is_size-2
-returns-then-not-is_size-2 c = ap (λ (d : Declined). reading_says (Err d)) c.at-then-not-is_size-2.ensures ∙ width_refused _ _ (sym c.field_at.ensures ∙ found_there _ _ _ _ c.in_ok-first.ensures) c.if-bytes-first-eq-LINE_END.false _ (sym c.field_at-2.ensures ∙ found_there _ _ _ _ c.in_ok-second.ensures) c.if-bytes-second-ne-LINE_END.false (sym c.is_size.ensures ∙ not-false _ (ap not c.if-not-is_size.false)) (sym c.is_size-2.ensures ∙ not-true _ (ap not c.if-not-is_size-2.true))
+returns-then-not-is_size-2 c = ap (λ (d : Declined). reading_says (Err d)) c.at-then-not-is_size-2.ensures ∙ width_refused _ _ (sym c.field_at.ensures ∙ found_there _ _ _ _ c.in_ok-first.ensures) c.if-bytes-first-eq-LINE_END.false _ (sym c.field_at-2.ensures ∙ found_there _ _ _ _ c.in_ok-second.ensures) c.if-bytes-second-ne-LINE_END.false (sym c.if-not-is_size.ensures) (sym c.if-not-is_size-2.ensures)
 
 pub returns : goal.returns
-returns c = c.read_rows.ensures ∙ rows_follow _ _ (sym c.field_at.ensures ∙ found_there _ _ _ _ c.in_ok-first.ensures) c.if-bytes-first-eq-LINE_END.false _ (sym c.field_at-2.ensures ∙ found_there _ _ _ _ c.in_ok-second.ensures) c.if-bytes-second-ne-LINE_END.false (sym c.is_size.ensures ∙ not-false _ (ap not c.if-not-is_size.false)) (sym c.is_size-2.ensures ∙ not-false _ (ap not c.if-not-is_size-2.false))
+returns c = c.read_rows.ensures ∙ rows_follow _ _ (sym c.field_at.ensures ∙ found_there _ _ _ _ c.in_ok-first.ensures) c.if-bytes-first-eq-LINE_END.false _ (sym c.field_at-2.ensures ∙ found_there _ _ _ _ c.in_ok-second.ensures) c.if-bytes-second-ne-LINE_END.false (sym c.if-not-is_size.ensures) (sym c.if-not-is_size-2.ensures)

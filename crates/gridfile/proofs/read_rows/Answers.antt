@@ -1,6 +1,6 @@
 -- `gridfile::read_rows` meets its contract. The loop keeps `Reached`: reading on from the next row is what reading from the first row on
 -- comes to. Assumes nothing.
-use Rattle.gridfile.proofs.RowLaws.{byte_after, file_ends}
+use Rattle.gridfile.proofs.RowLaws.{byte_after, file_ends, grid_read}
 use Rattle.model.specs.RefusalLaws.{size_of_test}
 use Rattle.std.specs.Prelude.{Err}
 use Rattle.std.proofs.lemmas.Result.{err_from_is_err_and}
@@ -28,7 +28,9 @@ pub returns-then-at-bytes : goal.returns-then-at-bytes
 returns-then-at-bytes c = let end : c.loop-row.row ≡ c.args.height = omega arith in ap (λ (d : Declined). reading_says (Err d)) c.at.ensures ∙ byte_after _ _ _ _ _ (rw end at c.loop-row.invariant) c.if-at-bytes.true
 
 pub invariant_of-result : goal.invariant_of-result
-invariant_of-result c = record { few = ((size_of_test _ c.requires.0).1, (size_of_test _ c.requires.1).1) }
+invariant_of-result c =
+    let end : c.loop-row.row ≡ c.args.height = omega arith in
+    record { accepted = grid_read (size_of_test _ c.requires.0) (size_of_test _ c.requires.1) _ (file_ends _ _ _ _ _ (rw end at c.loop-row.invariant) c.if-at-bytes.false) }
 
 pub returns : goal.returns
 returns c = let end : c.loop-row.row ≡ c.args.height = omega arith in file_ends _ _ _ _ _ (rw end at c.loop-row.invariant) c.if-at-bytes.false
