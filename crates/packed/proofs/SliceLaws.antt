@@ -13,12 +13,14 @@ use lib.IntN.{ℤ}
 use mir.Syntax.{w64}
 use mir.Val.{SFits, to_z, of_z}
 use mir.ValLaws.{to_z-of_z}
+use Rattle.rules.specs.Grid.{Accepted}
 use Rattle.model.specs.Bounds.{is_size}
 use Rattle.model.specs.RefusalLaws.{size_of_test}
 use Rattle.model.specs.GridFile.{Reading, blank, no_cells, declined_reading}
 use Rattle.model.specs.Packed.{cell, refused, packed_pad, declined_pad, read_pads, read_sized, read_packed}
 use Rattle.reading.specs.PadSteps.{two_at_least, height_refused, width_refused, too_short, too_long, whole, pad_read, pad_refused}
 use Rattle.reading.specs.PackedPads.{Packable, packable}
+use Rattle.reading.proofs.PackedSlices.{packed_sound}
 
 -- ## The part of the slice that is a pad
 
@@ -113,3 +115,8 @@ module _ (bytes : List ℕ) (two : 2 ≤ length bytes) {height width : ℕ} (h :
 
       pub whole_slice : height * width ≤ (length bytes - 2) / 5 → length bytes - 2 ≤ height * width * 5 → read_pads height width (height * width) [] (drop 2 bytes) ≡ read_packed bytes
       whole_slice enough no_more = sized (whole height width (drop 2 bytes) tall wide (length-drop 2 bytes ∙ (omega arith)))
+
+-- what was read of the pads is a grid
+pub grid_read : {height width : ℕ} {cells : List ℤ} → is_size height ≡ true → is_size width ≡ true → (pads : List ℕ) → length pads ≡ height * width * 5 → record { number = 0; line = 0; field = 0; height = height; width = width; cells = cells } ≡ read_pads height width (height * width) [] pads → Accepted height width (take (height * width) cells)
+unfolding read_packed
+grid_read {height} {width} tall wide pads long is = (rw (whole height width pads tall wide long ∙ sym is) at (packed_sound (height ∷ width ∷ pads))).in_range refl

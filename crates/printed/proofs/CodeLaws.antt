@@ -11,8 +11,7 @@ use lib.ListN.{length, get_or, take, length-append}
 use lib.Seq.{length-take-le}
 use lib.Dec.{eqb, ltb}
 use borrow.Author.Tests.{lt-ltb, le-ltb}
-use Rattle.model.specs.Bounds.{is_size}
-use Rattle.model.specs.RefusalLaws.{size_of_test}
+use Rattle.rules.specs.Grid.{Size}
 use Rattle.model.specs.Decimal.{digit_byte}
 use Rattle.model.specs.Printed.{line_at, right_line, down_line, code_of_pad, code_digits_from, code_digits}
 
@@ -77,14 +76,14 @@ module _ (height width : ℕ) (layout : List ℕ) where
   codes_length zero index = refl
   codes_length (suc more) index = ap suc (codes_length more (index + 1))
 
-module _ (height width : ℕ) (h : is_size height ≡ true) (w : is_size width ≡ true) where
+module _ (height width : ℕ) (h : Size height) (w : Size width) where
   pub all_pads : height * width ≤ 256
-  all_pads = mul-le-mul (size_of_test height h).1 (size_of_test width w).1
+  all_pads = mul-le-mul h.1 w.1
 
 -- ## The loop of `push_codes`
 
 -- the codes that are put
-pub codes_taken : (height width : ℕ) (codes : List ℕ) → is_size height ≡ true → is_size width ≡ true → length codes ≡ 256 → length (take (height * width) codes) ≡ height * width
+pub codes_taken : (height width : ℕ) (codes : List ℕ) → Size height → Size width → length codes ≡ 256 → length (take (height * width) codes) ≡ height * width
 codes_taken height width codes h w long = length-take-le _ _ (omega (arith, all_pads height width h w))
 
 module _ (height width : ℕ) (layout first line : List ℕ) (index : ℕ) (p : line ≡ first ++ code_digits_from height width layout index 0) where

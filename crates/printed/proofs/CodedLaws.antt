@@ -12,17 +12,16 @@ use lib.Dec.{eqb, ltb}
 use lib.ListN.{get_or, set, length, take, length-set, length-replicate, get_or-replicate, get_or-eq_default}
 use lib.Seq.{get_or-take, get_or-set_same, get_or-set_other}
 use borrow.Author.Tests.{eq-eqb, ne_eqb}
-use Rattle.rules.specs.Grid.{Edge, right, down, first, Place, edge, no_edge, place_at, field_side, places, blank, Grid, OnBoard}
+use Rattle.rules.specs.Grid.{Size, Edge, right, down, first, Place, edge, no_edge, place_at, field_side, places, blank, Grid, OnBoard}
 use Rattle.rules.specs.Drawing.{num}
 use Rattle.rules.specs.Record.{place_number}
 use Rattle.rules.specs.Places.{zero≢one, first_inside}
 use Rattle.rules.proofs.RecordLaws.{edge_number_in_field, edge_at_number, number_of_edge}
-use Rattle.model.specs.Bounds.{is_size}
-use Rattle.model.specs.RefusalLaws.{size_of_test}
 use Rattle.model.specs.Printed.{line_at, right_line, down_line, code_of_pad}
 use Rattle.grid.specs.PadsAt.{pads_of, place_of, edge_of, IfEdge, told_place}
 use Rattle.grid.specs.declared.Pads.{Pads}
-use Rattle.grid.specs.declared.Pads.TheVariants.{Beside, Above}
+use Rattle.grid.specs.declared.Direction.TheVariants.{Right, Down}
+use Rattle.grid.specs.Directions.{first_to}
 use Rattle.std.specs.Prelude.{Option, Some, None}
 use Rattle.printed.specs.Written.{zeros}
 use Rattle.printed.specs.Coded.{line_place, line_added, CodesOf}
@@ -186,40 +185,40 @@ module _ (width : ℕ) (layout : List ℕ) (i : ℕ) where
   unfolding line_place pads_of
   past_the_end past = rw (get_or-eq_default layout 0 past, line_place) refl
 
-  pub no_line : (get_or layout i 0 ≡ 1 → ⊥) → None ≡ pads_of width (line_place width layout i)
+  pub no_line : false ≡ eqb (get_or layout i 0) 1 → None ≡ pads_of width (line_place width layout i)
   unfolding line_place pads_of
-  no_line other = rw (ne_eqb (get_or layout i 0) 1 other, line_place) refl
+  no_line other = rw (← other, line_place) refl
 
-  pub a_line : get_or layout i 0 ≡ 1 → {there : Option Pads} → there ≡ pads_of width (place_at width (i / field_side width) (i % field_side width)) → there ≡ pads_of width (line_place width layout i)
+  pub a_line : true ≡ eqb (get_or layout i 0) 1 → {there : Option Pads} → there ≡ pads_of width (place_at width (i / field_side width) (i % field_side width)) → there ≡ pads_of width (line_place width layout i)
   unfolding line_place
-  a_line is are = are ∙ rw (eq-eqb (get_or layout i 0) 1 is, line_place) refl
+  a_line is are = are ∙ rw (← is, line_place) refl
 
 -- ## A line added to the code of its first pad
 
 module _ (pads : Pads) (codes : List ℕ) where
-  pub beside_added : {a b : ℕ} → pads ≡ Beside a b → set codes a (get_or codes a 0 + 1) ≡ line_added (edge (edge_of pads)) codes
+  pub right_added : pads.direction ≡ Right → set codes pads.first (get_or codes pads.first 0 + 1) ≡ line_added (edge (edge_of pads)) codes
   unfolding line_added edge_of
-  beside_added are = rw are refl
+  right_added is = rw is refl
 
-  pub above_added : {a b : ℕ} → pads ≡ Above a b → set codes a (get_or codes a 0 + 2) ≡ line_added (edge (edge_of pads)) codes
+  pub down_added : pads.direction ≡ Down → set codes pads.first (get_or codes pads.first 0 + 2) ≡ line_added (edge (edge_of pads)) codes
   unfolding line_added edge_of
-  above_added are = rw are refl
+  down_added is = rw is refl
 
 -- ## The loop of `codes_of`
 
-module _ (height width : ℕ) (h : is_size height ≡ true) (w : is_size width ≡ true) (layout : List ℕ) where
+module _ (height width : ℕ) (h : Size height) (w : Size width) (layout : List ℕ) where
   wide : 2 ≤ width
-  wide = (size_of_test width w).0
+  wide = w.0
 
   pub row_inside : (i : ℕ) → i < places height width → i / field_side width < 31
   row_inside i inside =
       let side : 0 < field_side width = omega (arith, wide) in
       let row : i / field_side width < field_side height = (div-lt_iff_lt-mul side).1 inside in
-      omega (arith, (size_of_test height h).1)
+      omega (arith, h.1)
 
-  pub first_small : (i : ℕ) → i < places height width → {pads : Pads} → Some pads ≡ pads_of width (line_place width layout i) → first (edge_of pads) < 256
-  unfolding place_of
-  first_small i inside {pads} are = omega (arith, line_inside height width wide layout i inside (edge_of pads) (sym (told_place width (line_place width layout i) are)), all_pads height width h w)
+  pub first_small : (i : ℕ) → i < places height width → {pads : Pads} → Some pads ≡ pads_of width (line_place width layout i) → pads.first < 256
+  unfolding place_of edge_of
+  first_small i inside {pads} are = omega (arith, first_to pads.direction pads.first, line_inside height width wide layout i inside (edge_of pads) (sym (told_place width (line_place width layout i) are)), all_pads height width h w)
 
   pub none_added : {codes : List ℕ} → codes ≡ zeros 256 → CodesOf height width (take 0 layout) codes
   unfolding code_of_pad right_line down_line line_at

@@ -7,6 +7,7 @@ use native.Mathlib.Omega.{arith}
 use lib.ListN.{length, length-append}
 use Rattle.model.specs.Bounds.{is_size}
 use Rattle.model.specs.Text.{bytes, comma, line_end}
+use Rattle.rules.specs.Grid.{Size}
 use Rattle.rules.specs.Record.{record_lines}
 use Rattle.model.specs.Decimal.{decimal}
 use Rattle.model.specs.Printed.{code_digits, summary_line, layout_line, refusal_line}
@@ -14,7 +15,7 @@ use Rattle.model.specs.RoutesTo.{progress_line}
 use Rattle.printed.specs.Written.{layout_text}
 use Rattle.printed.proofs.CodeLaws.{codes_length, all_pads}
 
-pub codes_256 : (height width : ℕ) (layout : List ℕ) → is_size height ≡ true → is_size width ≡ true → length (code_digits height width layout) ≤ 256
+pub codes_256 : (height width : ℕ) (layout : List ℕ) → Size height → Size width → length (code_digits height width layout) ≤ 256
 unfolding code_digits
 codes_256 height width layout h w = rw (codes_length height width layout (height * width) 0) (all_pads height width h w)
 

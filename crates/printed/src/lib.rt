@@ -4,15 +4,14 @@
 #![tactic(auto)]
 
 ghost use Rattle.std.specs.Prelude.{◌≡◌, true, ◌++◌, ◌+◌, ◌*◌, ◌-◌, ◌/◌, ◌≤◌, ◌<◌, length};
-ghost use Rattle.rules.specs.Grid.{first, edge, field_side};
-ghost use Rattle.model.specs.Bounds.{is_size};
+ghost use Rattle.rules.specs.Grid.{edge, field_side, Size};
 ghost use Rattle.model.specs.Printed.{code_digits, summary_line, refusal_line};
 ghost use Rattle.model.specs.RoutesTo.{progress_line};
 ghost use Rattle.grid.specs.PadsAt.{pads_of, edge_of};
 ghost use Rattle.printed.specs.Coded.{line_place, line_added, Codes, CodesOf};
 ghost use Rattle.printed.specs.Written.{layout_text};
 
-use grid::{Edge, Pads};
+use grid::{Direction, Edge, Pads};
 use text::Line;
 
 const ZERO: u8 = 48;
@@ -30,13 +29,13 @@ pub type LayoutLine = Line<299>;
 
 // The pads of the line at a place of a layout, by the place's number; none where there is no line.
 fn line_at(layout: &[u8], width: usize, i: usize) -> Option<Pads>
-    requires { (is_size width ≡ true) × (i / field_side width < 31) }
+    requires { Size width × (i / field_side width < 31) }
     ensures { result ≡ pads_of width (line_place width layout.now i) }
 {
     if layout.len() <= i {
         return None;
     }
-    if layout[i] == Edge::LINE.0 {
+    if Edge(layout[i]) == Edge::LINE {
         let side = 2 * width - 1;
         return grid::pads_at(width, i / side, i % side);
     }
@@ -45,26 +44,22 @@ fn line_at(layout: &[u8], width: usize, i: usize) -> Option<Pads>
 
 // Adds a line to the code of its first pad: 1 for a line to the right, 2 for one downward.
 fn add_line(codes: &mut [u8; 256], pads: Pads)
-    requires { (first (edge_of pads) < 256) × Codes codes.old }
+    requires { (pads.first < 256) × Codes codes.old }
     ensures { codes.new ≡ line_added (edge (edge_of pads)) codes.old }
 {
-    match pads {
-        Pads::Beside(first, _) => {
-            codes[first] += 1;
-        }
-        Pads::Above(first, _) => {
-            codes[first] += 2;
-        }
-    }
+    codes[pads.first] += match pads.direction {
+        Direction::Right => 1,
+        Direction::Down => 2,
+    };
 }
 
 // The codes of the pads by their indexes, right + 2 * down: each line of the layout is added to the code of its first pad.
 fn codes_of(height: usize, width: usize, layout: &[u8]) -> [u8; 256]
-    requires { (is_size height ≡ true) × (is_size width ≡ true) }
+    requires { Size height × Size width }
     ensures { CodesOf height width layout.now result }
 {
     let mut codes = [0; 256];
-    for i in 0..records::record_length(height, width) {
+    for i in 0..grid::places(height, width) {
         if let Some(pads) = line_at(layout, width, i) {
             add_line(&mut codes, pads);
         }
@@ -74,7 +69,7 @@ fn codes_of(height: usize, width: usize, layout: &[u8]) -> [u8; 256]
 
 // The codes of the pads in index order, one digit each, behind what the line holds.
 fn push_codes(line: &mut LayoutLine, height: usize, width: usize, layout: &[u8])
-    requires { (is_size height ≡ true) × (is_size width ≡ true) × (length line.old + height * width ≤ 299) }
+    requires { Size height × Size width × (length line.old + height * width ≤ 299) }
     ensures { line.new ≡ line.old ++ code_digits height width layout.now }
 {
     let codes = codes_of(height, width, layout);

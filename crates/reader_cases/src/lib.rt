@@ -1,6 +1,6 @@
 // Runs the cases of a reader, that of grid files or that of packed decimal: takes the slices of an input, each behind its length in
 // two bytes, and prints the answer of each: the line of a refused slice, or the grid as it is written back. It is safe for any reader,
-// since a grid that was read lends the cells of its pads.
+// since a grid that was read is accepted, and lends the cells of its pads.
 #![tactic(auto)]
 
 ghost use Rattle.std.specs.Prelude.{IfSome, ◌<◌, length};
@@ -15,9 +15,9 @@ fn print_refusal(rt: &impl Print, declined: Declined) {
 }
 
 // The grid of an accepted slice, as it is written back; nothing where it cannot be.
-fn print_grid(rt: &impl Print, height: usize, width: usize, cells: &[i64]) {
+fn print_grid(rt: &impl Print, grid: &grid::Grid<'_>) {
     let mut text = [0; gridfile::LONGEST_TEXT];
-    if let Ok(length) = gridfile::write(height, width, cells, &mut text) {
+    if let Ok(length) = gridfile::write(grid.height, grid.width, grid.cells, &mut text) {
         let _ = rt.write_all(&text[..length]);
     }
 }
@@ -34,9 +34,9 @@ fn print_past(rt: &impl Print, cells: &[i64], pads: usize) {
 fn print_answer(rt: &impl Print, answer: Result<Grid, Declined>) {
     match answer {
         Ok(read) => {
-            let pads = read.pads();
-            print_grid(rt, read.height, read.width, pads);
-            print_past(rt, &read.cells, pads.len());
+            let grid = read.accepted();
+            print_grid(rt, &grid);
+            print_past(rt, &read.cells, grid.cells.len());
         }
         Err(declined) => print_refusal(rt, declined),
     }

@@ -3,8 +3,8 @@
 use Prim.Native.Nat.{◌+◌, ◌*◌}
 use mathlib.Core.Path.{sym, ◌∙◌}
 use native.Mathlib.Omega.{arith}
-use Rattle.packed.proofs.SliceLaws.{pad_part, cell_back, pads_fit, pads_begin, all_read, refused_here, read_here}
-use Rattle.model.specs.RefusalLaws.{size_of_test}
+use Rattle.packed.proofs.SliceLaws.{pad_part, cell_back, pads_fit, pads_begin, all_read, refused_here, read_here, grid_read}
+use lib.ListN.{drop, length-drop}
 use Rattle.packed.proofs.read_pads.Goals as goal
 
 pub loop-index-init : goal.loop-index-init
@@ -26,4 +26,4 @@ pub returns : goal.returns
 returns c = all_read c.loop-index.invariant c.loop-index-test.false
 
 pub invariant_of-result : goal.invariant_of-result
-invariant_of-result c = record { few = ((size_of_test _ c.requires.0).1, (size_of_test _ c.requires.1).1) }
+invariant_of-result c = record { accepted = grid_read c.requires.0 c.requires.1 (drop 2 c.args.bytes.now) (length-drop 2 c.args.bytes.now ∙ (omega arith)) (all_read c.loop-index.invariant c.loop-index-test.false) }
