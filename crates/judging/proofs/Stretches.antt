@@ -61,6 +61,9 @@ pub as_counted : (b : Bool) → bool_byte b ≡ num b
 as_counted true = refl
 as_counted false = refl
 
+pub one_at_most : (b : Bool) {counted : ℕ} → counted ≡ bool_byte b → counted ≤ 1
+one_at_most b is = omega (arith, is ∙ as_counted b, num_small b)
+
 -- no more lines than bytes
 lines_bounded : (bytes : List ℕ) → record_lines bytes ≤ length bytes
 unfolding record_lines

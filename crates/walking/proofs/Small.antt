@@ -1,33 +1,21 @@
--- Small numbers and tests: the place of an edge of a pad, and what the tests of a code say. They rest on the rules' laws of records.
-use Prim.Native.Nat.{ℕ, ◌*◌, ◌%◌, ◌/◌, ◌<◌}
+-- An edge of a pad that is put into a record: its place, and what is put there. They rest on the rules' laws of records.
+use Prim.Native.Nat.{ℕ, ◌%◌, ◌/◌, ◌<◌}
 use mathlib.Core.Path.{◌≡◌, refl, sym, ap, ◌∙◌}
-use mathlib.Core.Bool.{Bool, true, false, ◌&&◌}
+use mathlib.Core.Bool.{Bool, true, false}
 use mathlib.Core.List.{List}
 use native.Mathlib.Nat.{div-add-mod'}
-use borrow.Author.Tests.{lt-ltb}
-use lib.Dec.{ltb}
 use lib.ListN.{set}
 use lib.IntN.{ℤ}
-use Rattle.rules.specs.Grid.{Edge, right, grid_of, places, pad_index}
+use Rattle.rules.specs.Grid.{Edge, grid_of, places, pad_index}
 use Rattle.rules.specs.Record.{byte_of, place_number}
 use Rattle.rules.proofs.RecordLaws.{edge_number_in_field}
 use Rattle.model.specs.BoardLaws.{on_board_of_test}
-use Rattle.model.specs.PadTests.{has_right, on_board}
+use Rattle.model.specs.PadTests.{on_board}
 use Rattle.grid.specs.declared.Direction.{Direction}
 use Rattle.grid.specs.declared.accepted.Grid.{Grid as AcceptedGrid}
 use Rattle.grid.specs.AsGrid.{as_grid}
 use Rattle.grid.specs.Directions.{edge_to}
 use Rattle.walking.specs.Given.{put_edge}
-
-module _ (grid : AcceptedGrid) (v : ℕ) (inside : v < grid.height * grid.width) where
-  -- a pad has an edge to the right where it is not in the last column
-  pub on_right : on_board (as_grid grid) (right v) ≡ has_right (as_grid grid) v
-  unfolding grid_of
-  on_right = go (has_right (as_grid grid) v)
-    where
-      go : (b : Bool) → b && ltb v (grid.height * grid.width) ≡ b
-      go true = lt-ltb v (grid.height * grid.width) inside
-      go false = refl
 
 -- AN EDGE IS WRITTEN where it is on the board
 module _ (grid : AcceptedGrid) (v : ℕ) (d : Direction) where

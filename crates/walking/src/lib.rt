@@ -24,7 +24,7 @@ use judging::Verdict;
 use tally::{Solved, Stop, Tally};
 
 // Whether a pad may be given a code: one with a line off the board is not tried.
-#[tactic(auto, using(crate::proofs::Small::on_right), unfolding(model::specs::Walk::may_give))]
+#[tactic(auto, using(grid::specs::AsGrid::right_on_board), unfolding(model::specs::Walk::may_give))]
 fn may_be_given(grid: &Grid, v: usize, right: bool, down: bool) -> bool
     requires { v < grid.now.height * grid.now.width }
     ensures { result ≡ may_give (as_grid grid.now) v right down }

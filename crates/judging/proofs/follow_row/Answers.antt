@@ -1,12 +1,9 @@
 -- `judging::follow_row` meets its contract. The loop has followed the row's first places and counted their lines. Assumes nothing.
-use Prim.Native.Nat.{ℕ, ◌+◌, ◌*◌}
-use lib.Dec.{eqb}
-use lib.ListN.{get_or}
+use Prim.Native.Nat.{ℕ, ◌+◌, ◌*◌, ◌≤◌}
 use mathlib.Core.Path.{◌≡◌, ap, ◌∙◌}
 use native.Mathlib.Omega.{arith}
 use Rattle.rules.specs.Grid.{field_side}
-use Rattle.rules.specs.Tests.{num_small}
-use Rattle.judging.proofs.Stretches.{few_lines, as_counted, no_place, place_wrong, place_right}
+use Rattle.judging.proofs.Stretches.{few_lines, as_counted, one_at_most, no_place, place_wrong, place_right}
 use mathlib.Core.Bool.{not}
 use Rattle.judging.proofs.follow_row.Goals as goal
 
@@ -28,7 +25,8 @@ overflow_add-found c =
     let loop = c.loop-column in
     let start = c in
     let few = few_lines start.args.bytes.now (start.args.row * field_side start.args.width + loop.column) (omega (arith, loop.invariant.0, start.requires.3)) loop.invariant.1.tells in
-    omega (arith, c.from-found.ensures ∙ as_counted _, num_small (eqb (get_or start.args.bytes.now (start.args.row * field_side start.args.width + loop.column) 0) 1))
+    let one : c.from-found.result ≤ 1 = one_at_most _ c.from-found.ensures in
+    omega arith
 
 pub loop-column-preserved : goal.loop-column-preserved
 loop-column-preserved c =
