@@ -12,8 +12,6 @@ use Rattle.rules.specs.Grid.{place_at, field_side, places}
 use Rattle.rules.specs.Record.{byte_at_place, tabulate, field}
 use Rattle.rules.specs.RecordLaws.{tabulate_parts, field_row, field_rows, length_rows, next_rows, all_rows, length_field}
 use Rattle.rules.specs.Places.{few_places}
-use Rattle.model.specs.Bounds.{is_size}
-use Rattle.model.specs.RefusalLaws.{size_of_test}
 use Rattle.model.specs.JudgeText.{record_of_codes, codes_fit, coded_bytes}
 use Rattle.text.specs.Put.{Put}
 use Rattle.text.specs.PutLaws.{put_both, put_one, put_same, put_next, put_front}
@@ -65,9 +63,9 @@ module _ (height width : ℕ) (digits : List ℕ) where
   unfolding record_of_codes codes_fit
   no_record says off = rw (sym says ∙ off) refl
 
-  module _ (tall : is_size height ≡ true) (wide : is_size width ≡ true) {room out : List ℕ} {long : ℕ} (p : Put room out 0 (field height width (coded_bytes digits)) long) where
+  module _ (tall : height ≤ 16) (wide : width ≤ 16) {room out : List ℕ} {long : ℕ} (p : Put room out 0 (field height width (coded_bytes digits)) long) where
     pub record_fits : long ≤ 961
-    record_fits = rw (put_next p, length_field height width (coded_bytes digits)) (few_places height width (size_of_test height tall).1 (size_of_test width wide).1)
+    record_fits = rw (put_next p, length_field height width (coded_bytes digits)) (few_places height width tall wide)
 
     pub the_record : {answer : Bool} → answer ≡ codes_fit height width digits → answer ≡ true → length room ≡ 961 → take long out ≡ record_of_codes height width digits
     unfolding record_of_codes codes_fit

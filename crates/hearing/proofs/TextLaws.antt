@@ -1,14 +1,11 @@
 -- Laws of the text: that of a refused file and that of an accepted one, and that the two numbers of a verdict make its line. They rest on the
 -- laws of the reader.
 use Prim.Native.Nat.{ℕ, ◌*◌, ◌≤◌}
-use mathlib.Core.Path.{◌≡◌, refl, sym, ap, subst, ◌∙◌}
-use mathlib.Core.Bool.{true}
+use mathlib.Core.Path.{◌≡◌, refl, sym, ap, ◌∙◌}
 use mathlib.Core.List.{List, [], ◌∷◌, ◌++◌, append_assoc}
 use lib.ListN.{take, length}
-use Rattle.rules.specs.Grid.{Accepted, grid_of}
 use Rattle.rules.specs.Record.{record_lines}
-use Rattle.model.specs.Bounds.{is_size}
-use Rattle.model.specs.RefusalLaws.{test_of_size, accepted_is_not_refused}
+use Rattle.model.specs.RefusalLaws.{accepted_is_not_refused}
 use Rattle.model.specs.Text.{bytes, comma, line_end}
 use Rattle.model.specs.Decimal.{decimal}
 use Rattle.model.specs.GridFile.{read, declined_reading}
@@ -17,12 +14,13 @@ use Rattle.model.specs.Judge.{Judged, judge, verdict}
 use Rattle.judging.specs.Judging.{answer}
 use Rattle.judging.proofs.Answers.{judged}
 use Rattle.model.specs.JudgeText.{record_of_codes, judged_line, judged_text}
-use Rattle.reading.specs.ReadingLaws.{SoundReading, read_sound}
 use Rattle.std.specs.Prelude.{Ok, Err}
 use lib.IntN.{ℤ}
 use Rattle.gridfile.specs.declared.Fault.{Fault}
 use Rattle.gridfile.specs.declared.Fault.TheVariants.{StrayByte, EleventhDigit, LargeCode, FieldCount, BadSize, FileEnd, ByteAfterDigit, LeadingZero, HalfByte}
 use Rattle.gridfile.specs.declared.Declined.{Declined}
+use Rattle.grid.specs.declared.accepted.Grid.{Grid as AcceptedGrid}
+use Rattle.grid.specs.AsGrid.{as_grid}
 use Rattle.gridfile.specs.declared.sized.Grid.{Grid}
 use Rattle.gridfile.specs.Fields.{fault_number}
 use Rattle.gridfile.specs.Answers.{reading_says}
@@ -62,19 +60,12 @@ module _ (file : List ℕ) (grid : Grid) (same : reading_says (Ok grid) ≡ read
   abbrev cells : List ℤ
   cells = take (grid.height * grid.width) grid.cells
 
-  pub accepted_grid : Accepted grid.height grid.width cells
-  accepted_grid = (subst SoundReading (sym same) (read_sound file)).in_range refl
-
-  pub tall : is_size grid.height ≡ true
-  tall = test_of_size _ accepted_grid.height_in_range
-
-  pub wide : is_size grid.width ≡ true
-  wide = test_of_size _ accepted_grid.width_in_range
-
-  pub accepted_text : (digits : List ℕ) {laid : List ℕ} → laid ≡ record_of_codes grid.height grid.width digits
-      → {said : Judged} → said ≡ answer (verdict (grid_of grid.height grid.width cells) laid) (record_lines laid)
+  pub accepted_text : (view : AcceptedGrid) → view.height ≡ grid.height → view.width ≡ grid.width → view.cells.now ≡ cells
+      → (digits : List ℕ) {laid : List ℕ} → laid ≡ record_of_codes view.height view.width digits
+      → {said : Judged} → said ≡ answer (verdict (as_grid view) laid) (record_lines laid)
       → {text : List ℕ} → text ≡ judged_line said → text ≡ judged_text digits (read file)
   unfolding judged_text reading_text
-  accepted_text digits coded says is =
-      let whole = judged grid.height grid.width cells _ (sym (accepted_is_not_refused grid.height grid.width cells accepted_grid)) says in
-      is ∙ ap judged_line whole ∙ ap (λ (laid : List ℕ). judged_line (judge grid.height grid.width cells laid)) coded ∙ ap (judged_text digits) same
+  accepted_text view high wide same_cells digits coded says is =
+      let whole = judged grid.height grid.width cells _ (sym (accepted_is_not_refused grid.height grid.width cells grid.accepted)) view (high, wide, same_cells) says in
+      let its_record = coded ∙ (λ i. record_of_codes (high i) (wide i) digits) in
+      is ∙ ap judged_line whole ∙ ap (λ (laid : List ℕ). judged_line (judge grid.height grid.width cells laid)) its_record ∙ ap (judged_text digits) same

@@ -3,17 +3,19 @@
 // specs/JudgeText.antt there; specs/Whole.antt here says it of the bytes of standard input.
 #![tactic(auto)]
 
-ghost use Rattle.std.specs.Prelude.{◌≡◌, true, ◌||◌, not, ◌+◌, ◌*◌, ◌%◌, ◌≤◌, ◌<◌, ltb, length, Ok};
-ghost use Rattle.rules.specs.Grid.{right, down, field_side, places, place_at};
-ghost use Rattle.rules.specs.Record.{byte_of, byte_at_place, field};
+ghost use Rattle.std.specs.Prelude.{◌≡◌, not, ◌||◌, ◌+◌, ◌*◌, ◌≤◌, ◌<◌, length, Ok};
+ghost use Rattle.rules.specs.Grid.{field_side, places, place_at};
+ghost use Rattle.rules.specs.Record.{byte_at_place, field};
 ghost use Rattle.rules.specs.RecordLaws.{field_row};
-ghost use Rattle.model.specs.Bounds.{is_size};
 ghost use Rattle.model.specs.GridFile.{read};
 ghost use Rattle.model.specs.JudgeText.{digit_at, code_at, coded, digit_fits, record_of_codes, judged_line, judged_text, codes_fit, coded_bytes, usage_line};
+ghost use Rattle.model.specs.PadTests.{on_board};
+ghost use Rattle.grid.specs.AsGrid.{as_grid};
+ghost use Rattle.grid.specs.Directions.{edge_to};
 ghost use Rattle.text.specs.Put.{Put};
 ghost use Rattle.judging.specs.Judging.{judged_says};
 
-use grid::{Edge, Pads};
+use grid::{Direction, Edge, Grid};
 use judging::Judged;
 use printed::HeadLine;
 
@@ -42,54 +44,43 @@ fn code_at(digits: &[u8], v: usize) -> u8
     digit_at(digits, v).saturating_sub(ZERO)
 }
 
-// Whether the code of a pad has the line to the right.
-fn leads_right(digits: &[u8], v: usize) -> bool
-    ensures { result ≡ coded digits.now (right v) }
+// Whether the code of a pad has the line in a direction.
+fn leads(digits: &[u8], direction: Direction, v: usize) -> bool
+    ensures { result ≡ coded digits.now (edge_to direction v) }
 {
-    code_at(digits, v) % 2 == 1
+    let code = code_at(digits, v);
+    match direction {
+        Direction::Right => code % 2 == 1,
+        Direction::Down => 2 <= code,
+    }
 }
 
-// Whether it has the line downward.
-fn leads_down(digits: &[u8], v: usize) -> bool
-    ensures { result ≡ coded digits.now (down v) }
+// Whether the code of a pad has no line off the board in a direction.
+fn line_fits(direction: Direction, grid: &Grid, digits: &[u8], v: usize) -> bool
+    requires { v < grid.now.height * grid.now.width }
+    ensures { result ≡ not (coded digits.now (edge_to direction v)) || on_board (as_grid grid.now) (edge_to direction v) }
 {
-    2 <= code_at(digits, v)
-}
-
-// A line may be coded only where there is an edge.
-fn fits(line: bool, there: bool) -> bool
-    ensures { result ≡ (not line || there) }
-{
-    !line || there
+    !leads(digits, direction, v) || direction.has_edge(grid.height, grid.width, v)
 }
 
 // Whether the digit of a pad fits: 0 to 3, with no line off the board.
-fn digit_fits(height: usize, width: usize, digits: &[u8], v: usize) -> bool
-    requires { (is_size height ≡ true) × (is_size width ≡ true) × (v < 256) }
-    ensures { result ≡ digit_fits height width digits.now v }
+#[tactic(auto, unfolding(model::specs::JudgeText::digit_fits))]
+fn digit_fits(grid: &Grid, digits: &[u8], v: usize) -> bool
+    requires { v < grid.now.height * grid.now.width }
+    ensures { result ≡ digit_fits grid.now.height grid.now.width digits.now v }
 {
     let digit = digit_at(digits, v);
     if digit < ZERO || THREE < digit {
         return false;
     }
-    fits(leads_right(digits, v), v % width + 1 < width)
-        && fits(leads_down(digits, v), v + width < height * width)
+    line_fits(Direction::Right, grid, digits, v) && line_fits(Direction::Down, grid, digits, v)
 }
 
 // Whether there is one digit for each pad, and each fits.
-fn codes_fit(height: usize, width: usize, digits: &[u8]) -> bool
-    requires { (is_size height ≡ true) × (is_size width ≡ true) }
-    ensures { result ≡ codes_fit height width digits.now }
+fn codes_fit(grid: &Grid, digits: &[u8]) -> bool
+    ensures { result ≡ codes_fit grid.now.height grid.now.width digits.now }
 {
-    digits.len() == height * width
-        && (0..digits.len()).all(|v| digit_fits(height, width, digits, v))
-}
-
-// The byte of an edge that is a line, or none.
-fn byte_of(line: bool) -> u8
-    ensures { result ≡ byte_of line }
-{
-    if line { Edge::LINE.0 } else { Edge::NONE.0 }
+    digits.len() == grid.pads() && (0..grid.pads()).all(|v| digit_fits(grid, digits, v))
 }
 
 // The byte at a place of the record; a place that is no edge holds undecided.
@@ -98,8 +89,7 @@ fn byte_at(digits: &[u8], width: usize, row: usize, column: usize) -> u8
     ensures { result ≡ byte_at_place (coded_bytes digits.now) (place_at width row column) }
 {
     match grid::pads_at(width, row, column) {
-        Some(Pads::Beside(first, _)) => byte_of(leads_right(digits, first)),
-        Some(Pads::Above(first, _)) => byte_of(leads_down(digits, first)),
+        Some(pads) => Edge::from(leads(digits, pads.direction, pads.first)).0,
         None => Edge::UNDECIDED.0,
     }
 }
@@ -117,33 +107,27 @@ fn put_row(out: &mut [u8], at: usize, digits: &[u8], width: usize, row: usize) -
 }
 
 // Puts the record, row by row; its length.
-fn put_record(out: &mut [u8], digits: &[u8], height: usize, width: usize) -> usize
-    requires { (is_size height ≡ true) × (is_size width ≡ true) × (places height width ≤ length out.old) }
-    ensures { Put out.old out.new 0 (field height width (coded_bytes digits.now)) result }
+fn put_record(out: &mut [u8], digits: &[u8], grid: &Grid) -> usize
+    requires { places grid.now.height grid.now.width ≤ length out.old }
+    ensures { Put out.old out.new 0 (field grid.now.height grid.now.width (coded_bytes digits.now)) result }
 {
-    let rows = 2 * height - 1;
+    let rows = 2 * grid.height - 1;
     let mut at = 0;
     for row in 0..rows {
-        at = put_row(out, at, digits, width, row);
+        at = put_row(out, at, digits, grid.width, row);
     }
     at
 }
 
 // The record of codes, laid out in the lent bytes, which are as many as the field of the largest grid has places; it is empty where the codes
 // do not fit.
-fn record_of_codes<'a>(
-    out: &'a mut [u8; 961],
-    height: usize,
-    width: usize,
-    digits: &[u8],
-) -> &'a [u8]
-    requires { (is_size height ≡ true) × (is_size width ≡ true) }
-    ensures { result.now ≡ record_of_codes height width digits.now }
+fn record_of_codes<'a>(out: &'a mut [u8; 961], grid: &Grid, digits: &[u8]) -> &'a [u8]
+    ensures { result.now ≡ record_of_codes grid.now.height grid.now.width digits.now }
 {
-    if !codes_fit(height, width, digits) {
+    if !codes_fit(grid, digits) {
         return &out[..0];
     }
-    let length = put_record(out, digits, height, width);
+    let length = put_record(out, digits, grid);
     &out[..length]
 }
 
@@ -162,10 +146,11 @@ pub fn judged(file: &[u8], digits: &[u8]) -> HeadLine
     ensures { result ≡ judged_text digits.now (read file.now) }
 {
     match gridfile::read(file) {
-        Ok(grid) => {
+        Ok(found) => {
+            let grid = found.accepted();
             let mut room = [0; 961];
-            let record = record_of_codes(&mut room, grid.height, grid.width, digits);
-            judged_line(judging::judge_record(grid.height, grid.width, grid.pads(), record))
+            let record = record_of_codes(&mut room, &grid, digits);
+            judged_line(judging::judge_record(&grid, record))
         }
         Err(declined) => printed::refusal_line(
             declined.fault.number(),

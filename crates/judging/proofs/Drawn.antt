@@ -7,22 +7,29 @@ use mathlib.Core.List.{List}
 use native.Mathlib.Omega.{arith}
 use native.Mathlib.Decide.{ℕ_discrete}
 use native.Mathlib.Numerals.{add-one}
-use native.Mathlib.Nat.{mul-le-mul, mul-le-mul_right, suc-mul}
+use native.Mathlib.Nat.{mul-le-mul_right, suc-mul}
 use lib.Dec.{eqb, ltb, leb}
 use lib.ListN.{get_or}
 use lib.IntN.{ℤ}
 use borrow.Author.Tests.{lt-ltb, le-ltb, ltb-true, le-leb, not-true, not-false}
-use Rattle.rules.specs.Grid.{pad_index, blank, Grid}
-use Rattle.rules.specs.Drawing.{Drawing, Side, on_left, on_right}
-use Rattle.rules.specs.Record.{undecided_byte, line_byte, drawing_of}
+use Rattle.rules.specs.Grid.{pad_index, blank, Grid, Accepted}
+use Rattle.rules.specs.Drawing.{Drawing, drawn, Side, on_left, on_right}
+use Rattle.rules.specs.Record.{undecided_byte, line_byte, place_number, drawing_of}
 use Rattle.rules.specs.Tests.{both, both_off, conflict}
 use Rattle.rules.proofs.Places.{row_of_pad, column_of_pad}
 use Rattle.rules.specs.CheckedListed.{has_corner, diagonal}
+use Rattle.grid.specs.declared.Direction.{Direction}
+use Rattle.grid.specs.declared.Direction.TheVariants as direction
+use Rattle.grid.specs.Directions.{edge_to}
 use Rattle.boardparts.specs.declared.Side.{Side as CodeSide}
 use Rattle.boardparts.specs.declared.Side.TheVariants.{Left, Right}
 use mathlib.Core.Logic.{◌⊎◌, inl, inr}
 use Rattle.boardparts.specs.Sides.{side_of}
 use Rattle.judging.specs.Shape.{InColumn, taken_at, line_beside, lines_around, square_keeps, corner_keeps}
+
+-- a pad of an accepted grid stands in a column of it
+pub in_column : {height width y x : ℕ} {cells : List ℤ} → Accepted height width cells → (y < height) × (x < width) → InColumn width y x
+in_column ok (low, inside) = record { wide = ok.width_in_range.0; narrow = ok.width_in_range.1; low = omega (arith, low, ok.height_in_range); inside = inside }
 
 module _ (width y x : ℕ) (here : InColumn width y x) where
   -- a grid of this width
@@ -35,32 +42,25 @@ module _ (width y x : ℕ) (here : InColumn width y x) where
   column_at : pad_index width y x % width ≡ x
   column_at = column_of_pad some_grid here.wide y x here.inside
 
-  -- the numbers are small
-  pub few_before : 2 * y * (2 * width - 1) ≤ 32 * 31
-  few_before = mul-le-mul {n₂ = 32} {m₂ = 31} (omega (arith, here.low)) (omega (arith, here.narrow))
-
-  pub few_before_down : (2 * y + 1) * (2 * width - 1) ≤ 33 * 31
-  few_before_down = mul-le-mul {n₂ = 33} {m₂ = 31} (omega (arith, here.low)) (omega (arith, here.narrow))
-
   next_row : (y + 1) * width ≡ y * width + width
   next_row = ap (λ (n : ℕ). n * width) (add-one y) ∙ suc-mul y width
 
   -- THE TWO EDGES of the pad
   module _ (bytes : List ℕ) where
-    pub down_is : {r : Bool} → r ≡ eqb (get_or bytes ((2 * y + 1) * (2 * width - 1) + 2 * x) undecided_byte) line_byte → r ≡ (drawing_of width bytes).down (pad_index width y x)
-    unfolding drawing_of
-    down_is e = e ∙ rw (row_at, column_at) refl
-
-    pub right_is : {r : Bool} → x + 1 < width → r ≡ eqb (get_or bytes (2 * y * (2 * width - 1) + (2 * x + 1)) undecided_byte) line_byte → r ≡ (drawing_of width bytes).right (pad_index width y x)
-    unfolding drawing_of
-    right_is inside e = e ∙ rw (row_at, column_at, lt-ltb (x + 1) width inside) refl
-
     right_off : width ≤ x + 1 → (drawing_of width bytes).right (pad_index width y x) ≡ false
     unfolding drawing_of
     right_off last = rw (column_at, le-ltb (x + 1) width last) refl
 
-    pub right_none : width ≤ x + 1 → ltb (x + 1) width ≡ (drawing_of width bytes).right (pad_index width y x)
-    right_none last = le-ltb (x + 1) width last ∙ sym (right_off last)
+    -- the last column has none to the right
+    pub none_leads : (d : Direction) → d ≡ direction.Right → width ≤ x + 1 → false ≡ drawn (drawing_of width bytes) (edge_to d (pad_index width y x))
+    none_leads d is last = rw is (sym (right_off last))
+
+    -- the byte at its place tells whether a line leads there
+    pub line_leads : (d : Direction) → (d ≡ direction.Right → x + 1 < width) → {r : Bool}
+        → r ≡ eqb (get_or bytes (place_number width (edge_to d (pad_index width y x))) undecided_byte) line_byte → r ≡ drawn (drawing_of width bytes) (edge_to d (pad_index width y x))
+    unfolding drawing_of
+    line_leads direction.Right inside is = is ∙ rw (column_at, lt-ltb (x + 1) width (inside refl)) refl
+    line_leads direction.Down inside is = is
 
     right_inside : (drawing_of width bytes).right (pad_index width y x) ≡ true → x + 1 < width
     unfolding drawing_of

@@ -1,14 +1,13 @@
 -- Laws of a test of every number below a bound: three tests in one, the pads row by row; and that the shape of a listed drawing is such a
 -- test. They rest on Every.antt and on the rules' Tests.antt and CheckedListed.antt.
 use Prim.Native.Nat.{ℕ, suc, ◌*◌, ◌/◌, ◌%◌, ◌≤◌, ◌<◌}
-use mathlib.Core.Path.{◌≡◌, refl, sym, ap, ◌∙◌}
-use mathlib.Core.Bool.{Bool, true, false, ◌&&◌}
+use mathlib.Core.Path.{◌≡◌, sym, ap, ◌∙◌}
+use mathlib.Core.Bool.{Bool, true, ◌&&◌}
 use mathlib.Core.List.{List}
 use native.Mathlib.Omega.{arith}
 use native.Mathlib.Nat.{mod-lt, div-add-mod', div-lt_iff_lt-mul, mul-le-mul_right, suc-mul}
 use lib.IntN.{ℤ}
 use Rattle.rules.specs.Grid.{pad_index, grid_of}
-use Rattle.rules.specs.Drawing.{Drawing, on_left, on_right}
 use Rattle.rules.specs.Record.{drawing_of}
 use Rattle.rules.specs.Tests.{both, both_on, all_below, all_below_at, all_below_so}
 use Rattle.rules.specs.CheckedListed.{squares_checked, corners_checked}
@@ -50,26 +49,3 @@ pub shape_by_rows : (height width : ℕ) (cells : List ℤ) (bytes : List ℕ) �
     → all_below (λ y. all_below (λ x. pad_keeps height width cells (drawing_of width bytes) (pad_index width y x)) width) height ≡ has_listed_shape (grid_of height width cells) bytes
 unfolding has_listed_shape squares_checked corners_checked grid_of pad_keeps square_keeps corner_keeps taken_at
 shape_by_rows height width cells bytes some = by_rows (pad_keeps height width cells (drawing_of width bytes)) height width some ∙ sym (three_tests _ _ _ (height * width))
-
--- two tests, one after the other
-pub both_decide : (s t : Bool) {first two : Bool} → first ≡ s → first ≡ true → two ≡ t → two ≡ s && t
-both_decide s t is h e = e ∙ rw (sym is ∙ h) refl
-
-pub first_fails : (s t : Bool) {first two : Bool} → first ≡ s → first ≡ false → two ≡ first → two ≡ s && t
-first_fails s t is h e = e ∙ h ∙ rw (sym is ∙ h) refl
-
--- the three tests of a pad, one after the other
-module _ (height width : ℕ) (cells : List ℤ) (D : Drawing) (v : ℕ) {two : Bool} (is : two ≡ square_keeps height width D v && corner_keeps on_left width cells D v) where
-  pub one_fails : two ≡ false → two ≡ pad_keeps height width cells D v
-  unfolding pad_keeps
-  one_fails h = h ∙ go (square_keeps height width D v) (sym is ∙ h)
-    where
-      go : (s : Bool) → s && corner_keeps on_left width cells D v ≡ false → false ≡ s && (corner_keeps on_left width cells D v && corner_keeps on_right width cells D v)
-      go true h = rw h refl
-      go false h = refl
-
-  pub third_decides : two ≡ true → {right : Bool} → right ≡ corner_keeps on_right width cells D v → right ≡ pad_keeps height width cells D v
-  unfolding pad_keeps
-  third_decides h r =
-      let (s, l) = both (square_keeps height width D v) _ (sym is ∙ h) in
-      r ∙ rw (s, l) refl

@@ -17,7 +17,7 @@ use Rattle.model.specs.JoinedEnds.{at_pad, unjoinable, joined_ends}
 use Rattle.model.specs.Judge.{wrong, so_far, after_line, after_edge, after_place}
 use Rattle.grid.specs.PadsAt.{pads_of}
 use Rattle.std.proofs.Common.{Some, None}
-use Rattle.grid.specs.declared.Pads.TheVariants.{Beside, Above}
+use Rattle.grid.specs.declared.Pads.{Pads}
 use Rattle.boardview.specs.View.{end_at, joined}
 use Rattle.boardview.specs.Ends.{stay_near, joined_long, joined_at}
 use Rattle.judging.specs.Following.{told, InUse, Stepped}
@@ -63,25 +63,18 @@ module _ (v q byte : ℕ) {before : List ℤ} where
 
 -- THE BYTE OF A PLACE, by the pads that are found there
 module _ (width byte : ℕ) {before : List ℤ} where
-  pub place_beside : (p : Place) {a b : ℕ} → Some (Beside a b) ≡ pads_of width p → {r : Bool} {after : List ℤ} → Stepped (after_edge a b byte) before r after
+  pub place_joins : (p : Place) {pads : Pads} → Some pads ≡ pads_of width p → {r : Bool} {after : List ℤ} → Stepped (after_edge pads.first pads.second byte) before r after
       → Stepped (after_place width p byte) before r after
   unfolding pads_of after_place after_edge
-  place_beside (edge (right u)) {a} {b} is stepped =
-      let p : a ≡ u = cc in
-      let q : b ≡ u + 1 = cc in
+  place_joins (edge (right u)) {pads} is stepped =
+      let p : pads.first ≡ u = cc in
+      let q : pads.second ≡ u + 1 = cc in
       record { says = stepped.says ∙ (λ i. after_edge (p i) (q i) byte (λ x. end_at before x)); in_use = stepped.in_use }
-  place_beside (edge (down u)) is stepped = zero≢one (cc)
-  place_beside no_edge is stepped = zero≢one (cc)
-
-  pub place_above : (p : Place) {a b : ℕ} → Some (Above a b) ≡ pads_of width p → {r : Bool} {after : List ℤ} → Stepped (after_edge a b byte) before r after
-      → Stepped (after_place width p byte) before r after
-  unfolding pads_of after_place after_edge
-  place_above (edge (right u)) is stepped = zero≢one (cc)
-  place_above (edge (down u)) {a} {b} is stepped =
-      let p : a ≡ u = cc in
-      let q : b ≡ u + width = cc in
+  place_joins (edge (down u)) {pads} is stepped =
+      let p : pads.first ≡ u = cc in
+      let q : pads.second ≡ u + width = cc in
       record { says = stepped.says ∙ (λ i. after_edge (p i) (q i) byte (λ x. end_at before x)); in_use = stepped.in_use }
-  place_above no_edge is stepped = zero≢one (cc)
+  place_joins no_edge is stepped = zero≢one (cc)
 
   pub place_nowhere : (p : Place) → None ≡ pads_of width p → InUse before → Stepped (after_place width p byte) before (eqb byte undecided_byte) before
   unfolding pads_of after_place
@@ -95,28 +88,19 @@ module _ (width byte : ℕ) {before : List ℤ} where
 
 -- the pads that are found have their ends in the array
 module _ (width : ℕ) (narrow : width ≤ 16) (p : Place) (small : (e : Edge) → p ≡ edge e → first e < 256) where
-  pub beside_small : {a b : ℕ} → Some (Beside a b) ≡ pads_of width p → (a < 512) × (b < 512)
+  pub pads_small : {pads : Pads} → Some pads ≡ pads_of width p → (pads.first < 512) × (pads.second < 512)
   unfolding pads_of
-  beside_small {a} {b} is = go p refl small is
+  pads_small {pads} is = go p refl small is
     where
-      go : (p' : Place) → p ≡ p' → ((e : Edge) → p' ≡ edge e → first e < 256) → Some (Beside a b) ≡ pads_of width p' → (a < 512) × (b < 512)
+      go : (p' : Place) → p ≡ p' → ((e : Edge) → p' ≡ edge e → first e < 256) → Some pads ≡ pads_of width p' → (pads.first < 512) × (pads.second < 512)
       go (edge (right u)) same low e =
-          let f : a ≡ u = cc in
-          let s : b ≡ u + 1 = cc in
+          let f : pads.first ≡ u = cc in
+          let s : pads.second ≡ u + 1 = cc in
           let l : u < 256 = low (right u) refl in
           omega arith
-      go (edge (down u)) same low e = zero≢one (cc)
-      go no_edge same low e = zero≢one (cc)
-
-  pub above_small : {a b : ℕ} → Some (Above a b) ≡ pads_of width p → (a < 512) × (b < 512)
-  unfolding pads_of
-  above_small {a} {b} is = go p refl small is
-    where
-      go : (p' : Place) → p ≡ p' → ((e : Edge) → p' ≡ edge e → first e < 256) → Some (Above a b) ≡ pads_of width p' → (a < 512) × (b < 512)
-      go (edge (right u)) same low e = zero≢one (cc)
       go (edge (down u)) same low e =
-          let f : a ≡ u = cc in
-          let s : b ≡ u + width = cc in
+          let f : pads.first ≡ u = cc in
+          let s : pads.second ≡ u + width = cc in
           let l : u < 256 = low (down u) refl in
           omega arith
       go no_edge same low e = zero≢one (cc)

@@ -11,7 +11,7 @@ use lib.IntN.{ℤ}
 use borrow.Author.Tests.{eq-eqb, ne_eqb}
 use Rattle.rules.specs.Grid.{Cell, blank, clue, hole, places, cell_of, blank_cell, Grid, grid_of, Accepted}
 use Rattle.rules.specs.Record.{record_lines}
-use Rattle.rules.specs.Places.{few_places, zero≢one}
+use Rattle.rules.specs.Places.{zero≢one}
 use Rattle.rules.specs.Tests.{all_below}
 use Rattle.model.specs.JoinedEnds.{at_pad, bare_end}
 use Rattle.model.specs.Judge.{so_far, followed, is_ordinary_record, has_listed_shape, verdict}
@@ -27,9 +27,6 @@ use Rattle.judging.specs.Following.{told, InUse, lines_in, FollowedOn, finished_
 module _ (height width : ℕ) (cells : List ℤ) (ok : Accepted height width cells) where
   abbrev the_grid : Grid
   the_grid = grid_of height width cells
-
-  pub length_fits : (2 * height - 1) * (2 * width - 1) ≤ 961
-  length_fits = few_places height width ok.height_in_range.1 ok.width_in_range.1
 
   pub few_cells : length cells ≤ 256
   few_cells = rw ok.one_cell_a_pad (few_pads height width ok.height_in_range ok.width_in_range)

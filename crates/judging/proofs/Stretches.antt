@@ -8,7 +8,8 @@ use native.Mathlib.Omega.{arith}
 use native.Mathlib.Decide.{ℕ_discrete}
 use native.Mathlib.Numerals.{add-one}
 use native.Mathlib.Nat.{add-zero, zero-mul, suc-mul, mul-le-mul_right}
-use borrow.Author.Tests.{eq-eqb, ne_eqb, not-true, not-false}
+use borrow.Author.Tests.{not-true, not-false}
+use mir.Val.{bool_byte}
 use lib.Dec.{eqb}
 use lib.ListN.{get_or, length, take}
 use lib.Seq.{take-suc, length-take-le}
@@ -55,13 +56,13 @@ lines_of_last (b ∷ bytes) byte = rw (lines_of_last bytes byte) (omega arith)
 one_byte_more : (bytes : List ℕ) (n : ℕ) → n < length bytes → lines_in bytes (suc n) ≡ lines_in bytes n + num (eqb (get_or bytes n undecided_byte) line_byte)
 one_byte_more bytes n inside = ap record_lines (take-suc bytes n undecided_byte inside) ∙ lines_of_last _ (get_or bytes n undecided_byte)
 
--- the byte that is counted
-module _ (byte lines : ℕ) {found : ℕ} where
-  pub a_line : byte ≡ line_byte → found ≡ lines + 1 → found ≡ lines + num (eqb byte line_byte)
-  a_line h counted = rw (eq-eqb byte line_byte h) counted
+-- a test as the code counts it
+pub as_counted : (b : Bool) → bool_byte b ≡ num b
+as_counted true = refl
+as_counted false = refl
 
-  pub no_line : (byte ≡ line_byte → ⊥) → found ≡ lines → found ≡ lines + num (eqb byte line_byte)
-  no_line h counted = rw (ne_eqb byte line_byte h) (omega arith)
+pub one_at_most : (b : Bool) {counted : ℕ} → counted ≡ bool_byte b → counted ≤ 1
+one_at_most b is = omega (arith, is ∙ as_counted b, num_small b)
 
 -- no more lines than bytes
 lines_bounded : (bytes : List ℕ) → record_lines bytes ≤ length bytes

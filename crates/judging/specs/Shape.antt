@@ -3,8 +3,6 @@
 use Rattle.std.specs.Prelude.{ℕ, ◌+◌, ◌*◌, ◌-◌, ◌%◌, ◌≤◌, ◌<◌, Bool, ◌&&◌, ◌||◌, not, List, leb, ltb, get_or, ℤ}
 use Rattle.rules.specs.Grid.{cell_of, blank_cell}
 use Rattle.rules.specs.Drawing.{Drawing, num, Side, on_left, on_right}
-use Rattle.boardparts.specs.declared.Side.{Side as CodeSide}
-use Rattle.boardparts.specs.declared.Side.TheVariants.{Left, Right}
 use Rattle.rules.specs.CheckedListed.{has_corner, diagonal, not_blank}
 
 -- A COLUMN of a grid, in a row of it or in the one below its last

@@ -5,18 +5,21 @@
 #![tactic(auto)]
 
 ghost use Rattle.std.specs.Prelude.{◌≡◌, ◌+◌, ◌*◌, ◌≤◌, ◌<◌, eqb, length, get_or, Ok};
-ghost use Rattle.rules.specs.Grid.{pad_index, place_at, field_side, places, grid_of, Accepted};
+ghost use Rattle.rules.specs.Grid.{pad_index, place_at, field_side, places};
+ghost use Rattle.rules.specs.Drawing.{drawn};
 ghost use Rattle.rules.specs.Record.{line_byte, undecided_byte, drawing_of, record_lines};
 ghost use Rattle.rules.specs.Tests.{all_below};
 ghost use Rattle.rules.specs.CheckedListed.{has_corner};
 ghost use Rattle.model.specs.Judge as model;
+ghost use Rattle.grid.specs.AsGrid.{as_grid};
+ghost use Rattle.grid.specs.Directions.{edge_to};
 ghost use Rattle.judging.specs.Judging.{judged_says, verdict_number, mark, answer};
 ghost use Rattle.judging.specs.Following.{InUse, Stepped, lines_in, FollowedOn, finished_at};
 ghost use Rattle.boardparts.specs.Sides.{side_of};
 ghost use Rattle.judging.specs.Shape.{InColumn, line_beside, taken_at, lines_around, square_keeps, corner_keeps, pad_keeps};
 
 use boardparts::Side;
-use grid::{BLANK, Edge, HOLE, Pads, Refusal};
+use grid::{BLANK, Direction, Edge, Grid, HOLE, Refusal};
 
 // The bytes of an edge's states, as the edge type names them.
 const UNDECIDED: u8 = Edge::UNDECIDED.0;
@@ -82,8 +85,7 @@ fn follow_place(ends: &mut [i64; 512], width: usize, row: usize, column: usize, 
     ensures { Stepped (model.after_place width (place_at width row column) byte) ends.old result ends.new }
 {
     match grid::pads_at(width, row, column) {
-        Some(Pads::Beside(first, second)) => follow_edge(ends, first, second, byte),
-        Some(Pads::Above(first, second)) => follow_edge(ends, first, second, byte),
+        Some(pads) => follow_edge(ends, pads.first, pads.second, byte),
         None => byte == UNDECIDED,
     }
 }
@@ -106,29 +108,27 @@ fn follow_row(
         if !follow_place(ends, width, row, column, held) {
             return None;
         }
-        if held == LINE {
-            found += 1;
-        }
+        found += usize::from(held == LINE);
     }
     Some(found)
 }
 
 // Follows the whole field, row by row.
-fn follow_record(ends: &mut [i64; 512], height: usize, width: usize, bytes: &[u8]) -> Option<usize>
-    requires { (2 ≤ height) × (height ≤ 16) × (2 ≤ width) × (width ≤ 16) × (length bytes.now ≡ places height width) × InUse ends.old }
-    ensures { FollowedOn width bytes.now 0 (places height width) ends.old result ends.new }
+fn follow_record(ends: &mut [i64; 512], grid: &Grid, bytes: &[u8]) -> Option<usize>
+    requires { (length bytes.now ≡ places grid.now.height grid.now.width) × InUse ends.old }
+    ensures { FollowedOn grid.now.width bytes.now 0 (places grid.now.height grid.now.width) ends.old result ends.new }
 {
-    let rows = 2 * height - 1;
+    let rows = 2 * grid.height - 1;
     let mut lines: usize = 0;
     for row in 0..rows {
-        lines = follow_row(ends, width, row, bytes, lines)?;
+        lines = follow_row(ends, grid.width, row, bytes, lines)?;
     }
     Some(lines)
 }
 
 // Whether a pad is finished: a clue has its line, a blank pad two or none, a hole none.
 fn is_finished(cells: &[i64], ends: &[i64; 512], v: usize) -> bool
-    requires { (v < length cells.now) × (v < 512) × (length ends.now ≡ 512) }
+    requires { (v < length cells.now) × (v < 512) }
     ensures { result ≡ finished_at cells.now ends.now v }
 {
     let cell = cells[v];
@@ -149,20 +149,15 @@ fn line_at(bytes: &[u8], place: usize) -> bool
     place < bytes.len() && bytes[place] == LINE
 }
 
-// Whether pad (y, x) has a line to the right, at place (2y, 2x+1).
-fn right_at(bytes: &[u8], width: usize, y: usize, x: usize) -> bool
+// Whether a line leads in the direction from pad (y, x); the last column has no edge to the right.
+fn leads(direction: Direction, bytes: &[u8], width: usize, y: usize, x: usize) -> bool
     requires { InColumn width y x }
-    ensures { result ≡ (drawing_of width bytes.now).right (pad_index width y x) }
+    ensures { result ≡ drawn (drawing_of width bytes.now) (edge_to direction (pad_index width y x)) }
 {
-    x + 1 < width && line_at(bytes, 2 * y * (2 * width - 1) + (2 * x + 1))
-}
-
-// Whether it has a line downward, at place (2y+1, 2x).
-fn down_at(bytes: &[u8], width: usize, y: usize, x: usize) -> bool
-    requires { InColumn width y x }
-    ensures { result ≡ (drawing_of width bytes.now).down (pad_index width y x) }
-{
-    line_at(bytes, (2 * y + 1) * (2 * width - 1) + 2 * x)
+    if direction == Direction::Right && width <= x + 1 {
+        return false;
+    }
+    line_at(bytes, direction.place(width, y, x))
 }
 
 // Whether a pad is a clue or a hole.
@@ -178,8 +173,8 @@ fn line_beside(side: Side, bytes: &[u8], width: usize, y: usize, x: usize) -> bo
     ensures { result ≡ line_beside (side_of side) (drawing_of width bytes.now) (pad_index width y x) }
 {
     match side {
-        Side::Left => 0 < x && right_at(bytes, width, y, x - 1),
-        Side::Right => right_at(bytes, width, y, x),
+        Side::Left => 0 < x && leads(Direction::Right, bytes, width, y, x - 1),
+        Side::Right => leads(Direction::Right, bytes, width, y, x),
     }
 }
 
@@ -188,22 +183,23 @@ fn has_corner(side: Side, bytes: &[u8], width: usize, y: usize, x: usize) -> boo
     requires { InColumn width y x }
     ensures { result ≡ has_corner (side_of side) (drawing_of width bytes.now) (pad_index width y x) }
 {
-    line_beside(side, bytes, width, y, x) && down_at(bytes, width, y, x)
+    line_beside(side, bytes, width, y, x) && leads(Direction::Down, bytes, width, y, x)
 }
 
 // The corner rule at pad (y, x), on that side: diagonally below stands a clue or a hole, or the same corner.
-fn corner_keeps(side: Side, bytes: &[u8], width: usize, cells: &[i64], y: usize, x: usize) -> bool
-    requires { InColumn width y x × (y < 16) }
-    ensures { result ≡ corner_keeps (side_of side) width cells.now (drawing_of width bytes.now) (pad_index width y x) }
+fn corner_keeps(side: Side, grid: &Grid, bytes: &[u8], y: usize, x: usize) -> bool
+    requires { (y < grid.now.height) × (x < grid.now.width) }
+    ensures { result ≡ corner_keeps (side_of side) grid.now.width grid.now.cells.now (drawing_of grid.now.width bytes.now) (pad_index grid.now.width y x) }
 {
-    if !has_corner(side, bytes, width, y, x) {
+    if !has_corner(side, bytes, grid.width, y, x) {
         return true;
     }
     let below = match side {
         Side::Left => x - 1,
         Side::Right => x + 1,
     };
-    is_taken(cells, (y + 1) * width + below) || has_corner(side, bytes, width, y + 1, below)
+    is_taken(grid.cells, (y + 1) * grid.width + below)
+        || has_corner(side, bytes, grid.width, y + 1, below)
 }
 
 // The number of lines in the unit square of pad (y, x): above, on the left, on the right, below.
@@ -211,75 +207,67 @@ fn square_lines(bytes: &[u8], width: usize, y: usize, x: usize) -> usize
     requires { InColumn width y x × (y < 16) × (x + 1 < width) }
     ensures { result ≡ lines_around width (drawing_of width bytes.now) (pad_index width y x) }
 {
-    let above = usize::from(right_at(bytes, width, y, x));
-    let left = usize::from(down_at(bytes, width, y, x));
-    let right = usize::from(down_at(bytes, width, y, x + 1));
-    let below = usize::from(right_at(bytes, width, y + 1, x));
+    let above = usize::from(leads(Direction::Right, bytes, width, y, x));
+    let left = usize::from(leads(Direction::Down, bytes, width, y, x));
+    let right = usize::from(leads(Direction::Down, bytes, width, y, x + 1));
+    let below = usize::from(leads(Direction::Right, bytes, width, y + 1, x));
     above + left + right + below
 }
 
 // At most two lines in the unit square of pad (y, x), if it has one.
-fn square_keeps(bytes: &[u8], height: usize, width: usize, y: usize, x: usize) -> bool
-    requires { InColumn width y x × (height ≤ 16) × (y < height) }
-    ensures { result ≡ square_keeps height width (drawing_of width bytes.now) (pad_index width y x) }
+fn square_keeps(grid: &Grid, bytes: &[u8], y: usize, x: usize) -> bool
+    requires { (y < grid.now.height) × (x < grid.now.width) }
+    ensures { result ≡ square_keeps grid.now.height grid.now.width (drawing_of grid.now.width bytes.now) (pad_index grid.now.width y x) }
 {
-    if x + 1 < width {
-        if y + 1 < height {
-            return square_lines(bytes, width, y, x) <= 2;
+    if x + 1 < grid.width {
+        if y + 1 < grid.height {
+            return square_lines(bytes, grid.width, y, x) <= 2;
         }
     }
     true
 }
 
 // The rules of a listed drawing at pad (y, x).
-fn pad_keeps(height: usize, width: usize, cells: &[i64], bytes: &[u8], y: usize, x: usize) -> bool
-    requires { InColumn width y x × (height ≤ 16) × (y < height) }
-    ensures { result ≡ pad_keeps height width cells.now (drawing_of width bytes.now) (pad_index width y x) }
+#[tactic(auto, unfolding(crate::specs::Shape::pad_keeps))]
+fn pad_keeps(grid: &Grid, bytes: &[u8], y: usize, x: usize) -> bool
+    requires { (y < grid.now.height) × (x < grid.now.width) }
+    ensures { result ≡ pad_keeps grid.now.height grid.now.width grid.now.cells.now (drawing_of grid.now.width bytes.now) (pad_index grid.now.width y x) }
 {
-    square_keeps(bytes, height, width, y, x)
-        && corner_keeps(Side::Left, bytes, width, cells, y, x)
-        && corner_keeps(Side::Right, bytes, width, cells, y, x)
+    square_keeps(grid, bytes, y, x)
+        && (corner_keeps(Side::Left, grid, bytes, y, x)
+            && corner_keeps(Side::Right, grid, bytes, y, x))
 }
 
 // Whether every pad is finished.
-fn all_finished(height: usize, width: usize, cells: &[i64], ends: &[i64; 512]) -> bool
-    requires { Accepted height width cells.now × (length ends.now ≡ 512) }
-    ensures { result ≡ all_below (finished_at cells.now ends.now) (height * width) }
+fn all_finished(grid: &Grid, ends: &[i64; 512]) -> bool
+    ensures { result ≡ all_below (finished_at grid.now.cells.now ends.now) (grid.now.height * grid.now.width) }
 {
-    (0..height * width).all(|v| is_finished(cells, ends, v))
+    (0..grid.pads()).all(|v| is_finished(grid.cells, ends, v))
 }
 
 // Whether every pad of a row keeps the rules of a listed drawing.
-fn row_keeps(height: usize, width: usize, cells: &[i64], bytes: &[u8], y: usize) -> bool
-    requires { Accepted height width cells.now × (y < height) }
-    ensures { result ≡ all_below (λ x. pad_keeps height width cells.now (drawing_of width bytes.now) (pad_index width y x)) width }
+fn row_keeps(grid: &Grid, bytes: &[u8], y: usize) -> bool
+    requires { y < grid.now.height }
+    ensures { result ≡ all_below (λ x. pad_keeps grid.now.height grid.now.width grid.now.cells.now (drawing_of grid.now.width bytes.now) (pad_index grid.now.width y x)) grid.now.width }
 {
-    (0..width).all(|x| pad_keeps(height, width, cells, bytes, y, x))
+    (0..grid.width).all(|x| pad_keeps(grid, bytes, y, x))
 }
 
 // Whether every pad does.
-fn all_keep(height: usize, width: usize, cells: &[i64], bytes: &[u8]) -> bool
-    requires { Accepted height width cells.now }
-    ensures { result ≡ model.has_listed_shape (grid_of height width cells.now) bytes.now }
+fn all_keep(grid: &Grid, bytes: &[u8]) -> bool
+    ensures { result ≡ model.has_listed_shape (as_grid grid.now) bytes.now }
 {
-    (0..height).all(|y| row_keeps(height, width, cells, bytes, y))
+    (0..grid.height).all(|y| row_keeps(grid, bytes, y))
 }
 
 // The verdict by all pads.
-fn pads_verdict(
-    height: usize,
-    width: usize,
-    cells: &[i64],
-    bytes: &[u8],
-    ends: &[i64; 512],
-) -> Verdict
-    requires { Accepted height width cells.now × (length ends.now ≡ 512) }
-    ensures { verdict_number result ≡ mark (all_below (finished_at cells.now ends.now) (height * width)) (model.has_listed_shape (grid_of height width cells.now) bytes.now) }
+fn pads_verdict(grid: &Grid, bytes: &[u8], ends: &[i64; 512]) -> Verdict
+    ensures { verdict_number result ≡ mark (all_below (finished_at grid.now.cells.now ends.now) (grid.now.height * grid.now.width)) (model.has_listed_shape (as_grid grid.now) bytes.now) }
 {
-    if !all_finished(height, width, cells, ends) {
+    if !all_finished(grid, ends) {
         return Verdict::NoLayout;
     }
-    if all_keep(height, width, cells, bytes) {
+    if all_keep(grid, bytes) {
         Verdict::Listed
     } else {
         Verdict::Ordinary
@@ -301,17 +289,16 @@ fn answered(verdict: Verdict, lines: usize) -> Judged
 }
 
 // Judges a record of an accepted grid: its length, its places, the pads.
-pub fn judge_record(height: usize, width: usize, cells: &[i64], bytes: &[u8]) -> Judged
-    requires { Accepted height width cells.now }
-    ensures { judged_says (Ok result) ≡ answer (model.verdict (grid_of height width cells.now) bytes.now) (record_lines bytes.now) }
+pub fn judge_record(grid: &Grid, bytes: &[u8]) -> Judged
+    ensures { judged_says (Ok result) ≡ answer (model.verdict (as_grid grid.now) bytes.now) (record_lines bytes.now) }
 {
-    if bytes.len() != (2 * height - 1) * (2 * width - 1) {
+    if bytes.len() != grid.places() {
         return answered(Verdict::NoLayout, 0);
     }
-    let mut ends = boardbare::bare_ends(cells);
-    match follow_record(&mut ends, height, width, bytes) {
+    let mut ends = boardbare::bare_ends(grid.cells);
+    match follow_record(&mut ends, grid, bytes) {
         None => answered(Verdict::NoLayout, 0),
-        Some(lines) => answered(pads_verdict(height, width, cells, bytes, &ends), lines),
+        Some(lines) => answered(pads_verdict(grid, bytes, &ends), lines),
     }
 }
 
@@ -319,6 +306,6 @@ pub fn judge_record(height: usize, width: usize, cells: &[i64], bytes: &[u8]) ->
 pub fn judge(height: usize, width: usize, cells: &[i64], bytes: &[u8]) -> Result<Judged, Refusal>
     ensures { judged_says result ≡ model.judge height width cells.now bytes.now }
 {
-    grid::grid_refusal(height, width, cells)?;
-    Ok(judge_record(height, width, cells, bytes))
+    let grid = grid::accept(height, width, cells)?;
+    Ok(judge_record(&grid, bytes))
 }

@@ -19,8 +19,9 @@ use Rattle.model.specs.Walk as model
 use Rattle.runs.specs.Progress.{advance, result_of}
 use Rattle.std.specs.Prelude.{Ok, Err}
 use Rattle.grid.specs.declared.Refusal.{Refusal}
-use Rattle.grid.specs.declared.Refusal.TheVariants.{Size, CellCount, Cell}
-use Rattle.grid.specs.Answers.{number_of, refusal_says}
+use Rattle.grid.specs.Answers.{refusal_says, some_number}
+use Rattle.grid.specs.AsGrid.{as_grid}
+use Rattle.grid.specs.declared.accepted.Grid.{Grid}
 use Rattle.tally.specs.declared.Solved.{Solved}
 use Rattle.tally.specs.Counts.{progress_of, tally_says, from_empty, counted_run}
 use Rattle.tally.specs.Empty.{empty}
@@ -51,15 +52,24 @@ zero_at n small i = elim (dec_lt i n) [
 ]
 
 -- THE WHOLE WALK over it
-module _ (height width : ℕ) (cells : List ℤ) (buffer : List ℕ) (accepted : Accepted height width cells) where
-  pub few : places height width ≤ 961
-  few = few_places height width accepted.height_in_range.1 accepted.width_in_range.1
+module _ (grid : Grid) (buffer : List ℕ) {size : ℕ} (is : size ≡ places grid.height grid.width) where
+  abbrev height : ℕ
+  height = grid.height
 
-  pub begun : Begun height width cells (zeros (places height width)) 0 buffer
-  begun = record { accepted = accepted; long = zeros_long (places height width) few; inside = (from_empty height width cells buffer accepted).inside }
+  abbrev width : ℕ
+  width = grid.width
+
+  abbrev cells : List ℤ
+  cells = grid.cells.now
+
+  pub few : size ≤ 961
+  few = rw is (few_places height width grid.accepted.height_in_range.1 grid.accepted.width_in_range.1)
+
+  pub begun : Begun height width (zeros size) 0 buffer
+  begun = record { long = zeros_long size few ∙ is; inside = (from_empty height width cells buffer grid.accepted).inside }
 
   pub counted : (limit : ℕ) (s : Solved) (bytes' buffer' : List ℕ)
-      → WalkedOn (grid_of height width cells) limit 0 (zeros (places height width)) (progress_of (places height width) (Ok tt) empty buffer) bytes' (tally_says height width s buffer')
+      → WalkedOn (as_grid grid) limit 0 (zeros size) (progress_of (places height width) (Ok tt) empty buffer) bytes' (tally_says height width s buffer')
       → Counted height width cells limit empty buffer s buffer'
   unfolding grid_of model.every_code
   counted limit s bytes' buffer' walked = record {
@@ -71,33 +81,27 @@ module _ (height width : ℕ) (cells : List ℤ) (buffer : List ℕ) (accepted :
       all_pads : height * width - 0 ≡ height * width
       all_pads = omega arith
 
-      nothing : Shows (grid_of height width cells) model.no_lines 0 (zeros (places height width))
-      nothing = none_shown (grid_of height width cells) model.no_lines (zeros (places height width)) begun.long (zero_at (places height width) few)
+      nothing : Shows (grid_of height width cells) model.no_lines 0 (zeros size)
+      nothing = none_shown (grid_of height width cells) model.no_lines (zeros size) begun.long (zero_at size few)
 
 -- THE MODEL'S RESULT
 module _ (height width : ℕ) (cells : List ℤ) (limit : ℕ) (buffer : List ℕ) where
   -- a refused grid: nothing is tried and no byte changes
-  pub walk_refused : (r : Refusal) → refusal_says (Err r) ≡ grid_refusal height width cells → Walks height width cells limit buffer (Err r) buffer
+  pub walk_refused : (r : Refusal) → refusal_says {A = Grid} (Err r) ≡ grid_refusal height width cells → Walks height width cells limit buffer (Err r) buffer
   walk_refused r is = record {
     equal = (λ i. runs.declined_search (is i).0 (is i).1 buffer) ∙ sym (walk_is_declined height width cells not_zero limit buffer);
     of_run = λ e. absurd (not_zero e);
     promise = λ e. absurd (not_zero e);
   }
     where
-      some : (r : Refusal) → number_of r ≡ 0 → ⊥
-      some Size h = omega arith
-      some CellCount h = omega arith
-      some (Cell index) h = omega arith
-
       not_zero : (grid_refusal height width cells).0 ≡ 0 → ⊥
-      not_zero e = some r (ap (λ (p : ℕ × ℕ). p.0) is ∙ e)
+      not_zero e = some_number r (ap (λ (p : ℕ × ℕ). p.0) is ∙ e)
 
   -- an accepted one
-  pub walk_accepted : (0, 0) ≡ grid_refusal height width cells → (s : Solved) (buffer' : List ℕ)
-      → Counted height width cells limit empty buffer s buffer'
-      → Walks height width cells limit buffer (Ok s) buffer'
+  pub walk_accepted : (0, 0) ≡ grid_refusal height width cells → (grid : Grid) → (grid.height ≡ height) × (grid.width ≡ width) × (grid.cells.now ≡ cells)
+      → (s : Solved) (buffer' : List ℕ) → Counted grid.height grid.width grid.cells.now limit empty buffer s buffer' → Walks height width cells limit buffer (Ok s) buffer'
   unfolding grid_of
-  walk_accepted fine s buffer' counted = record {
+  walk_accepted fine grid (high, wide, same) s buffer' its_counts = record {
     equal = from_run ∙ sym (walk_is_run height width cells accepted limit buffer);
     of_run = λ e. from_run;
     promise = λ e. promise height width cells accepted (model.every_code (grid_of height width cells)) (every_code_exact (grid_of height width cells) (accepted_proper height width cells accepted)) limit (length buffer);
@@ -105,6 +109,9 @@ module _ (height width : ℕ) (cells : List ℤ) (limit : ℕ) (buffer : List �
     where
       accepted : Accepted height width cells
       accepted = not_refused height width cells (ap (λ (p : ℕ × ℕ). p.0) (sym fine))
+
+      counted : Counted height width cells limit empty buffer s buffer'
+      counted = rw (high, wide, same) at its_counts
 
       from_run : result_of (tally_says height width s buffer') ≡ runs.solved (run_of height width cells limit buffer) buffer
       from_run = counted_run (λ g. model.every_code g) height width cells limit buffer (every_code_sized (grid_of height width cells)) s buffer' counted

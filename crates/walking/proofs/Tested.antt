@@ -7,8 +7,7 @@ use mathlib.Core.List.{List, [], ◌∷◌, append_assoc}
 use borrow.Author.Tests.{eq-eqb, ne_eqb}
 use lib.ListN.{length, take, drop}
 use lib.Seq.{sets, sets-eq}
-use lib.IntN.{ℤ}
-use Rattle.rules.specs.Grid.{Grid, grid_of, places}
+use Rattle.rules.specs.Grid.{Grid, places}
 use Rattle.rules.specs.Places.{some_places}
 use Rattle.rules.specs.Record.{record_lines}
 use Rattle.model.specs.Judge as model
@@ -23,6 +22,8 @@ use native.Mathlib.Omega.{arith}
 use Rattle.judging.specs.declared.Verdict.{Verdict}
 use Rattle.judging.specs.declared.Verdict.TheVariants.{NoLayout, Ordinary, Listed}
 use Rattle.judging.specs.Judging.{verdict_number, judged_says, answer}
+use Rattle.grid.specs.declared.accepted.Grid.{Grid as AcceptedGrid}
+use Rattle.grid.specs.AsGrid.{as_grid}
 use Rattle.walking.specs.Given.{tested_record}
 use Rattle.walking.specs.Walked.{Begun}
 
@@ -47,16 +48,16 @@ is_listed NoLayout h = absurd (omega arith)
 is_listed Ordinary h = absurd (omega arith)
 is_listed Listed h = refl
 
-module _ (height width : ℕ) (cells : List ℤ) (bytes : List ℕ) (layouts : ℕ) (buffer : List ℕ) (begun : Begun height width cells bytes layouts buffer)
-    (r : Judged) (says : judged_says (Ok r) ≡ answer (model.verdict (grid_of height width cells) bytes) (record_lines bytes)) where
+module _ (grid : AcceptedGrid) (bytes : List ℕ) (layouts : ℕ) (buffer : List ℕ) (begun : Begun grid.height grid.width bytes layouts buffer)
+    (r : Judged) (says : judged_says (Ok r) ≡ answer (model.verdict (as_grid grid) bytes) (record_lines bytes)) where
   abbrev g : Grid
-  g = grid_of height width cells
+  g = as_grid grid
 
   its_verdict : verdict_number r.verdict ≡ model.verdict g bytes
   its_verdict = ap (λ (j : model.Judged). j.verdict) says
 
   -- not listed
-  pub no_layout : (fewest_lines : ℕ) → (r.verdict ≡ Listed → ⊥) → Added (places height width) (tested_record g bytes) layouts fewest_lines buffer 0 layouts fewest_lines buffer
+  pub no_layout : (fewest_lines : ℕ) → (r.verdict ≡ Listed → ⊥) → Added (places grid.height grid.width) (tested_record g bytes) layouts fewest_lines buffer 0 layouts fewest_lines buffer
   unfolding tested_record advance
   no_layout fewest_lines other = record {
     advanced = λ limit visited. (rw (ne_eqb (model.verdict g bytes) 2 (λ e. other (is_listed r.verdict (its_verdict ∙ e))), tested_record) refl);
@@ -70,7 +71,7 @@ module _ (height width : ℕ) (cells : List ℤ) (bytes : List ℕ) (layouts : �
     marked = sym its_verdict ∙ ap verdict_number listed
 
     pub some_bytes : 1 ≤ length bytes
-    some_bytes = rw begun.long (some_places height width begun.accepted.height_in_range.0 begun.accepted.width_in_range.0)
+    some_bytes = rw begun.long (some_places grid.height grid.width grid.accepted.height_in_range.0 grid.accepted.width_in_range.0)
 
     pub its_lines : r.lines ≡ record_lines bytes
     its_lines = ap (λ (j : model.Judged). j.lines) says ∙ rw marked refl
@@ -79,7 +80,7 @@ module _ (height width : ℕ) (cells : List ℤ) (bytes : List ℕ) (layouts : �
     room_so_far = rw begun.long begun.inside
 
     pub its_layout : (fewest_lines o layouts' fewest_lines' : ℕ) (buffer' : List ℕ) → Added (length bytes) (layout bytes ∷ []) layouts fewest_lines buffer o layouts' fewest_lines' buffer'
-        → Added (places height width) (tested_record g bytes) layouts fewest_lines buffer o layouts' fewest_lines' buffer'
+        → Added (places grid.height grid.width) (tested_record g bytes) layouts fewest_lines buffer o layouts' fewest_lines' buffer'
     unfolding tested_record
     its_layout fewest_lines o layouts' fewest_lines' buffer' added = rw (eq-eqb (model.verdict g bytes) 2 marked, tested_record)
         (subst (λ (n : ℕ). Added n (layout bytes ∷ []) layouts fewest_lines buffer o layouts' fewest_lines' buffer') begun.long added)

@@ -1,21 +1,14 @@
 -- The codes that pads have been given so far, as a record of bytes shows them: each edge of a pad before v has its byte, and between the edges
 -- stands 0. What is written when a pad gets its code, and when the record is full. It rests on the rules' Record.antt and on the model's Judge.antt.
 -- Nothing is proved in this file; the laws stand in GivenLaws.antt.
-use Rattle.std.specs.Prelude.{ℕ, ◌*◌, ◌%◌, ◌/◌, ◌≤◌, ◌<◌, ◌≡◌, Bool, true, false, List, [], ◌∷◌, eqb, get_or, set, length}
-use Rattle.rules.specs.Grid.{Edge, right, down, first, no_edge, place_at, field_side, places, Grid, OnBoard}
+use Rattle.std.specs.Prelude.{ℕ, ◌%◌, ◌/◌, ◌<◌, ◌≡◌, Bool, true, false, List, [], ◌∷◌, eqb, get_or, set, length}
+use Rattle.rules.specs.Grid.{Edge, first, no_edge, place_at, field_side, places, Grid, OnBoard}
 use Rattle.rules.specs.Drawing.{Drawing, drawn}
 use Rattle.rules.specs.Record.{undecided_byte, byte_of, place_number}
 use Rattle.std.specs.Prelude.{if◌then◌else◌}
-use Rattle.model.specs.PadTests.{has_right, has_down}
+use Rattle.model.specs.PadTests.{on_board}
 use Rattle.model.specs.Runs.{Event, layout}
 use Rattle.model.specs.Judge.{verdict}
-
--- a pad of a grid of these sizes
-pub record PadOf (height width v : ℕ) : Type 0 where
-  pub low : height ≤ 16
-  pub wide : 2 ≤ width
-  pub narrow : width ≤ 16
-  pub inside : v < height * width
 
 -- SHOWING: the edges of the board that are given have the bytes of the drawing, and between the edges stands 0; any other edge may have any byte
 pub record Showing (g : Grid) (D : Drawing) (Given : Edge → Type 0) (bytes : List ℕ) : Type 0 where
@@ -28,12 +21,9 @@ pub record Showing (g : Grid) (D : Drawing) (Given : Edge → Type 0) (bytes : L
 abbrev pub Shows : Grid → Drawing → ℕ → List ℕ → Type 0
 Shows g D v bytes = Showing g D (λ e. first e < v) bytes
 
--- the edge to the right of a pad, and the one downward, where they are on the board
-unfoldable pub put_right : Grid → ℕ → Bool → List ℕ → List ℕ
-put_right g v line bytes = if has_right g v then set bytes (place_number g.width (right v)) (byte_of line) else bytes
-
-unfoldable pub put_down : Grid → ℕ → Bool → List ℕ → List ℕ
-put_down g v line bytes = if has_down g v then set bytes (place_number g.width (down v)) (byte_of line) else bytes
+-- an edge is written where it is on the board
+unfoldable pub put_edge : Grid → Edge → Bool → List ℕ → List ℕ
+put_edge g e line bytes = if on_board g e then set bytes (place_number g.width e) (byte_of line) else bytes
 
 -- the record of a full drawing is a layout where the test of the rules marks it 2
 unfoldable pub tested_record : Grid → List ℕ → List Event

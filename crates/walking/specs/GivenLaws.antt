@@ -6,7 +6,6 @@ use Rattle.std.proofs.Math.Path.{refl, sym, ap}
 use Rattle.std.proofs.Common.{◌∙◌, subst, inl, inr, ⊎_elim, arith, length-set, get_or-set_same, get_or-set_other}
 use Rattle.std.proofs.Math.Bool.{true, false}
 use Rattle.std.proofs.Math.Decide.{ℕ_discrete}
-use borrow.Author.Tests.{ltb-false, ltb-true}
 use Rattle.std.proofs.Math.ListN.{get_or}
 use Rattle.std.proofs.Math.Seq.{ext_get_or}
 use Rattle.rules.specs.Grid.{Edge, right, down, first, Place, edge, no_edge, place_at, field_side, places, Grid, pads, OnBoard}
@@ -15,10 +14,12 @@ use Rattle.rules.specs.Record.{undecided_byte, byte_of, byte_at_place, field, re
 use Rattle.rules.specs.RecordLaws.{get_or_from_zero, length_field}
 use Rattle.rules.proofs.RecordLaws.{edge_number_in_field, edge_at_number, number_of_edge}
 use Rattle.rules.specs.Places.{zero≢one, first_inside}
-use Rattle.model.specs.PadTests.{has_right, has_down}
+use Rattle.rules.specs.Tests.{conflict}
+use Rattle.model.specs.PadTests.{on_board}
+use Rattle.model.specs.BoardLaws.{on_board_test, on_board_of_test}
 use Rattle.model.specs.Walk.{with_code}
 use Rattle.everycode.specs.WalkLists.{right_given, down_given, others_kept}
-use Rattle.walking.specs.Given.{Showing, Shows, put_right, put_down}
+use Rattle.walking.specs.Given.{Showing, Shows, put_edge}
 
 module _ (g : Grid) (wide : 2 ≤ g.width) where
   abbrev number : Edge → ℕ
@@ -68,32 +69,22 @@ module _ (g : Grid) (wide : 2 ≤ g.width) where
       between = shows.between;
     }
 
-  -- the two edges of pad v
-  put_right_shows : (D : Drawing) (Given : Edge → Type 0) (v : ℕ) → v < pads g → (line : Bool) → D.right v ≡ line → (bytes : List ℕ) → Showing g D Given bytes
-      → Showing g D (λ x. Given x ⊎ (x ≡ right v)) (put_right g v line bytes)
-  unfolding put_right OnBoard
-  put_right_shows D Given v inside line is bytes shows = go (has_right g v) refl
+  put_shows : (D : Drawing) (Given : Edge → Type 0) (e : Edge) (line : Bool) → drawn D e ≡ line → (bytes : List ℕ) → Showing g D Given bytes
+      → Showing g D (λ x. Given x ⊎ (x ≡ e)) (put_edge g e line bytes)
+  unfolding put_edge
+  put_shows D Given e line is bytes shows = go (on_board g e) refl
     where
-      go : (b : Bool) → has_right g v ≡ b → Showing g D (λ x. Given x ⊎ (x ≡ right v)) (put_right g v line bytes)
-      go true h = rw (h, put_right) (rw (sym is) (written D Given (right v) bytes shows (inside, ltb-true _ _ h)))
-      go false h = rw (h, put_right) (left_out D Given (right v) bytes shows (λ on. (let k = ltb-false (v % g.width + 1) g.width h in let j : v % g.width + 1 < g.width = on.1 in omega arith)))
-
-  put_down_shows : (D : Drawing) (Given : Edge → Type 0) (v : ℕ) (line : Bool) → D.down v ≡ line → (bytes : List ℕ) → Showing g D Given bytes
-      → Showing g D (λ x. Given x ⊎ (x ≡ down v)) (put_down g v line bytes)
-  unfolding put_down OnBoard
-  put_down_shows D Given v line is bytes shows = go (has_down g v) refl
-    where
-      go : (b : Bool) → has_down g v ≡ b → Showing g D (λ x. Given x ⊎ (x ≡ down v)) (put_down g v line bytes)
-      go true h = rw (h, put_down) (rw (sym is) (written D Given (down v) bytes shows (ltb-true _ _ h)))
-      go false h = rw (h, put_down) (left_out D Given (down v) bytes shows (λ on. (let k = ltb-false (v + g.width) (pads g) h in let j : v + g.width < pads g = on in omega arith)))
+      go : (b : Bool) → on_board g e ≡ b → Showing g D (λ x. Given x ⊎ (x ≡ e)) (put_edge g e line bytes)
+      go true h = rw (h, put_edge) (rw (sym is) (written D Given e bytes shows (on_board_of_test g e h)))
+      go false h = rw (h, put_edge) (left_out D Given e bytes shows (λ on. conflict (on_board_test g e on) h))
 
   -- A PAD IS GIVEN ITS CODE: it is shown with it
   module _ (D : Drawing) (v : ℕ) (r d : Bool) where
     abbrev coded : Drawing
     coded = with_code D v r d
 
-    pub code_shown : v < pads g → (bytes : List ℕ) → Shows g D v bytes → Shows g coded (v + 1) (put_down g v d (put_right g v r bytes))
-    code_shown inside bytes shows = record { long = both.long; given = λ e on before. both.given e on (one_of e before); between = both.between }
+    pub code_shown : (bytes : List ℕ) → Shows g D v bytes → Shows g coded (v + 1) (put_edge g (down v) d (put_edge g (right v) r bytes))
+    code_shown bytes shows = record { long = both.long; given = λ e on before. both.given e on (one_of e before); between = both.between }
       where
         before_it : Showing g coded (λ e. first e < v) bytes
         before_it = record {
@@ -102,8 +93,8 @@ module _ (g : Grid) (wide : 2 ≤ g.width) where
           between = shows.between;
         }
 
-        both : Showing g coded (λ x. ((first x < v) ⊎ (x ≡ right v)) ⊎ (x ≡ down v)) (put_down g v d (put_right g v r bytes))
-        both = put_down_shows coded _ v d (down_given D v r d v refl) _ (put_right_shows coded _ v inside r (right_given D v r d v refl) bytes before_it)
+        both : Showing g coded (λ x. ((first x < v) ⊎ (x ≡ right v)) ⊎ (x ≡ down v)) (put_edge g (down v) d (put_edge g (right v) r bytes))
+        both = put_shows coded _ (down v) d (down_given D v r d v refl) _ (put_shows coded _ (right v) r (right_given D v r d v refl) bytes before_it)
 
         one_of : (e : Edge) → first e < v + 1 → ((first e < v) ⊎ (e ≡ right v)) ⊎ (e ≡ down v)
         one_of e below = elim (ℕ_discrete (first e) v) [ yes same ↦ at_pad e same | no other ↦ inl (inl (omega arith)) ]
@@ -139,18 +130,10 @@ pub none_shown : (g : Grid) (D : Drawing) (bytes : List ℕ) → length bytes �
 none_shown g D bytes long zeros = record { long = long; given = λ e on before. absurd (omega arith); between = λ n below none. zeros n }
 
 -- what is written changes no length
-pub right_length : (g : Grid) (v : ℕ) (line : Bool) (bytes : List ℕ) → length (put_right g v line bytes) ≡ length bytes
-unfolding put_right
-right_length g v line bytes = go (has_right g v) refl
+pub put_length : (g : Grid) (e : Edge) (line : Bool) (bytes : List ℕ) → length (put_edge g e line bytes) ≡ length bytes
+unfolding put_edge
+put_length g e line bytes = go (on_board g e) refl
   where
-    go : (b : Bool) → has_right g v ≡ b → length (put_right g v line bytes) ≡ length bytes
-    go true h = rw (h, put_right) (length-set bytes _ _)
-    go false h = rw (h, put_right) refl
-
-pub down_length : (g : Grid) (v : ℕ) (line : Bool) (bytes : List ℕ) → length (put_down g v line bytes) ≡ length bytes
-unfolding put_down
-down_length g v line bytes = go (has_down g v) refl
-  where
-    go : (b : Bool) → has_down g v ≡ b → length (put_down g v line bytes) ≡ length bytes
-    go true h = rw (h, put_down) (length-set bytes _ _)
-    go false h = rw (h, put_down) refl
+    go : (b : Bool) → on_board g e ≡ b → length (put_edge g e line bytes) ≡ length bytes
+    go true h = rw (h, put_edge) (length-set bytes _ _)
+    go false h = rw (h, put_edge) refl

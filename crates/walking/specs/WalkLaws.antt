@@ -6,15 +6,15 @@ use Rattle.std.proofs.Math.Path.{refl, sym, ap}
 use Rattle.std.proofs.Common.{◌∙◌, lt-ltb, le-ltb, eq-eqb, ne_eqb}
 use native.Mathlib.Omega.{arith}
 use Rattle.std.proofs.Math.ListN.{length}
-use Rattle.rules.specs.Grid.{Grid, pads, places}
+use Rattle.rules.specs.Grid.{right, down, Grid, pads, places}
 use Rattle.rules.specs.Drawing.{Drawing}
 use Rattle.model.specs.Runs.{Event}
 use Rattle.model.specs.Walk.{with_code, may_give, tested, give, walk_on}
 use Rattle.runs.specs.Progress.{Progress, advance, entered, stopped, goes_on}
 use Rattle.runs.specs.Layouts.{progress}
 use Rattle.runs.specs.Turns.{turns_left, four_turns, one_turn}
-use Rattle.walking.specs.Given.{Shows, put_right, put_down, tested_record}
-use Rattle.walking.specs.GivenLaws.{code_shown, before_shown, all_shown, right_length, down_length}
+use Rattle.walking.specs.Given.{Shows, put_edge, tested_record}
+use Rattle.walking.specs.GivenLaws.{code_shown, before_shown, all_shown, put_length}
 use Rattle.walking.specs.Walked.{from_next, Gave, WalkedOn, codes_left, Going}
 
 module _ (g : Grid) (wide : 2 ≤ g.width) (limit v : ℕ) (bytes : List ℕ) (P : Progress) (inside : P.used ≤ length P.buffer) where
@@ -44,23 +44,23 @@ module _ (g : Grid) (wide : 2 ≤ g.width) (limit v : ℕ) (bytes : List ℕ) (P
       }
 
       -- it is counted and written, and the walk goes on behind the pad
-      pub went_on : v < pads g → P.visited < limit → (right_put down_put bytes' : List ℕ) (P' : Progress)
-          → right_put ≡ put_right g v r bytes → down_put ≡ put_down g v d right_put
+      pub went_on : P.visited < limit → (right_put down_put bytes' : List ℕ) (P' : Progress)
+          → right_put ≡ put_edge g (right v) r bytes → down_put ≡ put_edge g (down v) d right_put
           → WalkedOn g limit (v + 1) down_put (entered P) bytes' P' → Gave g limit v r d bytes P bytes' P'
       unfolding give advance
-      went_on low below right_put down_put bytes' P' one two walked = record {
+      went_on below right_put down_put bytes' P' one two walked = record {
         advanced = λ D shows. walked.advanced (with_code D v r d) (now_shown D shows) ∙ sym (rw (on, give) (rw (lt-ltb P.visited limit below, advance) refl));
         still_shown = λ D shows. before_shown g wide D v r d bytes' (walked.still_shown (with_code D v r d) (now_shown D shows));
-        same_size = walked.same_size ∙ ap length written ∙ down_length g v d (put_right g v r bytes) ∙ right_length g v r bytes;
+        same_size = walked.same_size ∙ ap length written ∙ put_length g (down v) d (put_edge g (right v) r bytes) ∙ put_length g (right v) r bytes;
         inside = walked.inside;
         same_length = walked.same_length;
       }
         where
-          written : down_put ≡ put_down g v d (put_right g v r bytes)
-          written = two ∙ ap (put_down g v d) one
+          written : down_put ≡ put_edge g (down v) d (put_edge g (right v) r bytes)
+          written = two ∙ ap (put_edge g (down v) d) one
 
           now_shown : (D : Drawing) → Shows g D v bytes → Shows g (with_code D v r d) (v + 1) down_put
-          now_shown D shows = rw written (code_shown g wide D v r d low bytes shows)
+          now_shown D shows = rw written (code_shown g wide D v r d bytes shows)
 
   -- ## A full drawing
   pub all_given : v ≡ pads g → (P' : Progress) → P' ≡ advance limit size P (tested_record g bytes) → P'.used ≤ length P'.buffer → length P'.buffer ≡ length P.buffer

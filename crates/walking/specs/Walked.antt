@@ -1,7 +1,7 @@
 -- What the walk promises: what it begins with, and how far it has come when it returns. The contracts of `give` and `walk_on` cite these. Nothing is
 -- proved here.
-use Rattle.std.specs.Prelude.{ℕ, ◌+◌, ◌*◌, ◌-◌, ◌%◌, ◌/◌, ◌≤◌, ◌≡◌, Bool, List, eqb, length, ℤ}
-use Rattle.rules.specs.Grid.{Grid, pads, places, Accepted}
+use Rattle.std.specs.Prelude.{ℕ, ◌+◌, ◌*◌, ◌-◌, ◌%◌, ◌/◌, ◌≤◌, ◌≡◌, Bool, List, eqb, length}
+use Rattle.rules.specs.Grid.{Grid, pads, places}
 use Rattle.rules.specs.Drawing.{Drawing}
 use Rattle.model.specs.Runs.{Event}
 use Rattle.model.specs.Walk.{give, walk_on}
@@ -9,9 +9,8 @@ use Rattle.runs.specs.Progress.{Progress, advance}
 use Rattle.runs.specs.Turns.{turns_left}
 use Rattle.walking.specs.Given.{Shows}
 
--- an accepted grid, a record of its size, and room for the layouts so far
-pub record Begun (height width : ℕ) (cells : List ℤ) (bytes : List ℕ) (layouts : ℕ) (buffer : List ℕ) : Type 0 where
-  pub accepted : Accepted height width cells
+-- a record of a grid's size, and room for the layouts so far
+pub record Begun (height width : ℕ) (bytes : List ℕ) (layouts : ℕ) (buffer : List ℕ) : Type 0 where
   pub long : length bytes ≡ places height width
   pub inside : layouts * places height width ≤ length buffer
 

@@ -1,17 +1,10 @@
 -- `hearing::put_record` meets its contract. The loop's invariant: the rows that were passed are put. Assumes nothing.
 use mathlib.Core.Path.{sym}
 use native.Mathlib.Omega.{arith}
-use Rattle.model.specs.RefusalLaws.{size_of_test}
 use Rattle.text.specs.PutLaws.{put_length, put_none, put_same}
 use Rattle.rules.specs.RecordLaws.{no_rows}
 use Rattle.hearing.proofs.RowLaws.{row_has_room, one_row_put, all_put}
 use Rattle.hearing.proofs.put_record.Goals as goal
-
-pub overflow_mul-rows : goal.overflow_mul-rows
-overflow_mul-rows c = omega (arith, (size_of_test _ c.requires.0).1)
-
-pub overflow_sub-rows : goal.overflow_sub-rows
-overflow_sub-rows c = omega (arith, (size_of_test _ c.requires.0).0)
 
 pub loop-row-init : goal.loop-row-init
 loop-row-init c = (omega arith, put_same (sym (no_rows _ _)) (put_none _ _ _ (omega arith)))
@@ -19,12 +12,11 @@ loop-row-init c = (omega arith, put_same (sym (no_rows _ _)) (put_none _ _ _ (om
 pub put_row-at-requires : goal.put_row-at-requires
 put_row-at-requires c =
     let start = c in
-    let tall = size_of_test start.args.height start.requires.0 in
-    let wide = size_of_test start.args.width start.requires.1 in (
-      wide.0,
-      wide.1,
-      omega (arith, c.loop-row-test.true),
-      omega (arith, row_has_room _ _ _ c.loop-row.invariant.1 start.args.height c.loop-row-test.true, put_length c.loop-row.invariant.1, start.requires.2),
+    let ok = start.args.grid.now.accepted in (
+      ok.width_in_range.0,
+      ok.width_in_range.1,
+      omega (arith, c.loop-row-test.true, ok.height_in_range),
+      omega (arith, row_has_room _ _ _ c.loop-row.invariant.1 start.args.grid.now.height c.loop-row-test.true, put_length c.loop-row.invariant.1, start.requires),
     )
 
 pub loop-row-preserved : goal.loop-row-preserved

@@ -6,4 +6,4 @@ use Rattle.model.specs.JudgeText.{coded_bytes}
 use Rattle.hearing.proofs.put_record.Given as goal
 
 abbrev pub invariant-loop-row : goal.invariant-loop-row
-invariant-loop-row l = (l.row ≤ l.rows) × Put l.initial.out l.out 0 (field_rows l.width (coded_bytes l.digits) l.row) l.at
+invariant-loop-row l = (l.row ≤ l.rows) × Put l.initial.out l.out 0 (field_rows l.grid.width (coded_bytes l.digits) l.row) l.at

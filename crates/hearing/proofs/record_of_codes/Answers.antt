@@ -1,7 +1,6 @@
 -- `hearing::record_of_codes` meets its contract: nothing where the codes do not fit, else the field row by row. Assumes nothing.
 use native.Mathlib.Omega.{arith}
 use Rattle.rules.specs.Places.{few_places}
-use Rattle.model.specs.RefusalLaws.{size_of_test}
 use Rattle.hearing.proofs.RowLaws.{no_record, record_fits, the_record}
 use Rattle.hearing.proofs.record_of_codes.Goals as goal
 
@@ -10,11 +9,11 @@ returns-then-not-codes_fit c = no_record _ _ _ c.codes_fit.ensures c.if-not-code
 
 pub put_record-length-requires : goal.put_record-length-requires
 put_record-length-requires c =
-    let start = c in
-    (start.requires.0, start.requires.1, omega (arith, few_places _ _ (size_of_test _ start.requires.0).1 (size_of_test _ start.requires.1).1))
+    let ok = c.args.grid.now.accepted in
+    omega (arith, few_places _ _ ok.height_in_range.1 ok.width_in_range.1)
 
 pub shared_ref_as_front-result-2 : goal.shared_ref_as_front-result-2
-shared_ref_as_front-result-2 c = record_fits _ _ _ c.requires.0 c.requires.1 c.put_record-length.ensures
+shared_ref_as_front-result-2 c = record_fits _ _ _ c.args.grid.now.accepted.height_in_range.1 c.args.grid.now.accepted.width_in_range.1 c.put_record-length.ensures
 
 pub returns : goal.returns
-returns c = the_record _ _ _ c.requires.0 c.requires.1 c.put_record-length.ensures c.codes_fit.ensures c.if-not-codes_fit.false c.told-out
+returns c = the_record _ _ _ c.args.grid.now.accepted.height_in_range.1 c.args.grid.now.accepted.width_in_range.1 c.put_record-length.ensures c.codes_fit.ensures c.if-not-codes_fit.false c.told-out

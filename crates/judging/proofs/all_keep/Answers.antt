@@ -12,6 +12,6 @@ use Rattle.judging.proofs.all_keep.Goals as goal
 
 pub returns : goal.returns
 returns c =
-    let test : ℕ → Bool = λ y. all_below (λ x. pad_keeps c.args.height c.args.width c.args.cells.now (drawing_of c.args.width c.args.bytes.now) (pad_index c.args.width y x)) c.args.width in
-    all_from_yields_List test _ _ c.all.result c.all.ensures.ran (YieldsList-from_range 0 _ c.args.height refl (omega arith)) (λ x b q k. search (rules, tests))
-    ∙ every_number test c.args.height ∙ shape_by_rows c.args.height c.args.width c.args.cells.now c.args.bytes.now (omega (arith, c.requires.width_in_range.0))
+    let test : ℕ → Bool = λ y. all_below (λ x. pad_keeps c.args.grid.now.height c.args.grid.now.width c.args.grid.now.cells.now (drawing_of c.args.grid.now.width c.args.bytes.now) (pad_index c.args.grid.now.width y x)) c.args.grid.now.width in
+    all_from_yields_List test _ _ c.all.result c.all.ensures.ran (YieldsList-from_range 0 _ c.args.grid.now.height refl (omega arith)) (λ x b q k. search (rules, tests))
+    ∙ every_number test c.args.grid.now.height ∙ shape_by_rows c.args.grid.now.height c.args.grid.now.width c.args.grid.now.cells.now c.args.bytes.now (omega (arith, c.args.grid.now.accepted.width_in_range.0))

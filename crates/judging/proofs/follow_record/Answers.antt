@@ -6,15 +6,16 @@ use Rattle.judging.proofs.Stretches.{row_fits, no_row, row_wrong, row_right}
 use Rattle.judging.proofs.follow_record.Goals as goal
 
 pub loop-row-init : goal.loop-row-init
-loop-row-init c = (omega arith, no_row _ _ c.requires.5)
+loop-row-init c = (omega arith, no_row _ _ c.requires.1)
 
 pub follow_row-requires : goal.follow_row-requires
 follow_row-requires c =
-    let start = c in (
-      start.requires.2,
-      start.requires.3,
-      omega (arith, c.loop-row-test.true, start.requires.1),
-      omega (arith, row_fits start.args.width c.loop-row.row _ c.loop-row-test.true, start.requires.4),
+    let start = c in
+    let ok = start.args.grid.now.accepted in (
+      ok.width_in_range.0,
+      ok.width_in_range.1,
+      omega (arith, c.loop-row-test.true, ok.height_in_range),
+      omega (arith, row_fits start.args.grid.now.width c.loop-row.row _ c.loop-row-test.true, start.requires.0),
       c.loop-row.invariant.1.in_use,
       c.loop-row.invariant.1.tells,
     )
@@ -31,5 +32,5 @@ loop-row-preserved c = (
 pub returns : goal.returns
 returns c =
     let loop = c.loop-row in
-    let all : loop.row ≡ field_side c.args.height = omega (arith, loop.invariant.0, c.loop-row-test.false) in
+    let all : loop.row ≡ field_side c.args.grid.now.height = omega (arith, loop.invariant.0, c.loop-row-test.false) in
     rw all at loop.invariant.1

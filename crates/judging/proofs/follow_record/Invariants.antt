@@ -6,4 +6,4 @@ use Rattle.judging.specs.Following.{FollowedOn}
 use Rattle.judging.proofs.follow_record.Given as goal
 
 abbrev pub invariant-loop-row : goal.invariant-loop-row
-invariant-loop-row l = (l.row ≤ field_side l.height) × FollowedOn l.width l.bytes 0 (l.row * field_side l.width) l.initial.ends (Some l.lines) l.ends
+invariant-loop-row l = (l.row ≤ field_side l.grid.height) × FollowedOn l.grid.width l.bytes 0 (l.row * field_side l.grid.width) l.initial.ends (Some l.lines) l.ends

@@ -1,13 +1,11 @@
 -- `judging::follow_row` meets its contract. The loop has followed the row's first places and counted their lines. Assumes nothing.
-use Prim.Native.Nat.{◌+◌, ◌*◌}
-use mathlib.Core.Path.{◌≡◌}
+use Prim.Native.Nat.{ℕ, ◌+◌, ◌*◌, ◌≤◌}
+use mathlib.Core.Path.{◌≡◌, ap, ◌∙◌}
 use native.Mathlib.Omega.{arith}
 use Rattle.rules.specs.Grid.{field_side}
-use Rattle.judging.proofs.Stretches.{few_lines, a_line, no_line, no_place, place_wrong, place_right}
-use mathlib.Core.Path.{ap}
+use Rattle.judging.proofs.Stretches.{few_lines, as_counted, one_at_most, no_place, place_wrong, place_right}
 use mathlib.Core.Bool.{not}
 use Rattle.judging.proofs.follow_row.Goals as goal
-use Rattle.judging.proofs.follow_row.Goals.{then-held-eq-LINE, else-held-eq-LINE}
 
 pub loop-column-init : goal.loop-column-init
 loop-column-init c = (omega arith, no_place _ _ _ c.requires.4 c.requires.5)
@@ -27,6 +25,7 @@ overflow_add-found c =
     let loop = c.loop-column in
     let start = c in
     let few = few_lines start.args.bytes.now (start.args.row * field_side start.args.width + loop.column) (omega (arith, loop.invariant.0, start.requires.3)) loop.invariant.1.tells in
+    let one : c.from-found.result ≤ 1 = one_at_most _ c.from-found.ensures in
     omega arith
 
 pub loop-column-preserved : goal.loop-column-preserved
@@ -35,7 +34,7 @@ loop-column-preserved c =
     let inside = c.loop-column-test.true in (
       omega (arith, inside),
       place_right _ _ _ _ inside loop.invariant.1 c.follow_place.ensures (ap not c.if-not-follow_place.false) c.requires.3
-          (elim c.if-held-eq-LINE.branch [ then-held-eq-LINE w ↦ a_line _ _ w.if-held-eq-LINE.true w.found-is | else-held-eq-LINE w ↦ no_line _ _ w.if-held-eq-LINE.false w.found-is ]),
+          (ap (λ (n : ℕ). c.loop-column.found + n) (c.from-found.ensures ∙ as_counted _)),
     )
 
 pub returns : goal.returns

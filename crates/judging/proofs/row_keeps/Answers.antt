@@ -10,6 +10,6 @@ use Rattle.judging.proofs.row_keeps.Goals as goal
 
 pub returns : goal.returns
 returns c =
-    let test : ℕ → Bool = λ x. pad_keeps c.args.height c.args.width c.args.cells.now (drawing_of c.args.width c.args.bytes.now) (pad_index c.args.width c.args.y x) in
-    all_from_yields_List test _ _ c.all.result c.all.ensures.ran (YieldsList-from_range 0 _ c.args.width refl (omega arith)) (λ x b q k. search (rules, tests))
-    ∙ every_number test c.args.width
+    let test : ℕ → Bool = λ x. pad_keeps c.args.grid.now.height c.args.grid.now.width c.args.grid.now.cells.now (drawing_of c.args.grid.now.width c.args.bytes.now) (pad_index c.args.grid.now.width c.args.y x) in
+    all_from_yields_List test _ _ c.all.result c.all.ensures.ran (YieldsList-from_range 0 _ c.args.grid.now.width refl (omega arith)) (λ x b q k. search (rules, tests))
+    ∙ every_number test c.args.grid.now.width

@@ -4,17 +4,14 @@ use native.Mathlib.Omega.{arith}
 use Rattle.walking.proofs.Answered.{zeros_long, few, begun, counted}
 use Rattle.walking.proofs.walk_grid.Goals as goal
 
-pub overflow_mul-size-3 : goal.overflow_mul-size-3
-overflow_mul-size-3 c = omega (arith, few _ _ _ c.args.buffer.now c.requires)
-
 pub slice_bounds-bytes-end : goal.slice_bounds-bytes-end
-slice_bounds-bytes-end c = few _ _ _ c.args.buffer.now c.requires
+slice_bounds-bytes-end c = few c.args.grid.now c.args.buffer.now c.places-size.ensures
 
 pub slice_bounds-walk_on-end : goal.slice_bounds-walk_on-end
-slice_bounds-walk_on-end c = sym (zeros_long _ (few _ _ _ c.args.buffer.now c.requires))
+slice_bounds-walk_on-end c = sym (zeros_long _ (few c.args.grid.now c.args.buffer.now c.places-size.ensures))
 
 pub walk_on-outcome-requires : goal.walk_on-outcome-requires
-walk_on-outcome-requires c = (begun _ _ _ c.args.buffer.now c.requires, omega arith)
+walk_on-outcome-requires c = (begun c.args.grid.now c.args.buffer.now c.places-size.ensures, omega arith)
 
 pub returns : goal.returns
-returns c = counted _ _ _ _ c.requires _ _ _ _ c.walk_on-outcome.ensures
+returns c = counted c.args.grid.now _ c.places-size.ensures _ _ _ _ c.walk_on-outcome.ensures
