@@ -1,6 +1,5 @@
 -- Laws that the proofs of the functions cite, and that the bare arrays show the model's bare board.
 mod Codes
-pub mod Numbers
 mod Made
 mod ActionCode
 pub mod BareView

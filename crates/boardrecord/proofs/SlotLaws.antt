@@ -1,11 +1,8 @@
--- The pads that were found at a place, and the byte at the slot of their edge; and a test as a number, as the code and as the rules have it. Assumes nothing.
+-- The pads that were found at a place, and the byte at the slot of their edge. Assumes nothing.
 use Prim.Native.Nat.{ℕ, ◌+◌, ◌*◌, ◌≤◌, ◌<◌}
 use mathlib.Core.Path.{◌≡◌, refl, sym, ap, subst}
 use mathlib.Core.List.{List}
 use lib.ListN.{get_or, length}
-use mathlib.Core.Bool.{Bool, true, false}
-use Rattle.std.specs.Int.{from_bool}
-use Rattle.rules.specs.Drawing.{num}
 use Rattle.rules.specs.Grid.{first, Place, edge}
 use Rattle.rules.specs.Record.{byte_at_place}
 use Rattle.std.specs.Prelude.{Some, None}
@@ -41,8 +38,3 @@ module _ (width : ℕ) (p : Place) where
   pub nothing_there : None ≡ pads_of width p → (edges : List ℕ) → 0 ≡ byte_at_place (bytes_shown edges) p
   unfolding slot_of_place place_of
   nothing_there none edges = no_byte edges p (ap slot_of_place (told_place width p none))
-
--- a test as a number
-pub test_number : (b : Bool) → from_bool b ≡ num b
-test_number true = refl
-test_number false = refl

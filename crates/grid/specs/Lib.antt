@@ -4,5 +4,6 @@ pub mod Answers
 pub mod AcceptedOneWay
 pub mod AsGrid
 pub mod Directions
+pub mod Numbers
 pub mod PadsAt
 pub mod PadsLaws

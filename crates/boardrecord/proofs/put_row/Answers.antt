@@ -3,7 +3,7 @@ use mathlib.Core.Path.{◌∙◌}
 use native.Mathlib.Omega.{arith}
 use lib.Dec.{eqb}
 use Rattle.boardview.specs.ShownRecordLaws.{none_written, one_written, row_written}
-use Rattle.boardrecord.proofs.SlotLaws.{test_number}
+use Rattle.grid.specs.Numbers.{test_number}
 use Rattle.rules.specs.Tests.{num_small}
 use Rattle.boardrecord.proofs.put_row.Goals as goal
 

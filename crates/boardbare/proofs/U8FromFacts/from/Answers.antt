@@ -1,7 +1,7 @@
 -- The byte of six facts.
 use Rattle.std.proofs.Common.{arith}
 use Rattle.boardbare.specs.BareArrays.{byte_of_facts, kind_byte}
-use Rattle.boardbare.proofs.Numbers.{test_number}
+use Rattle.grid.specs.Numbers.{test_number}
 use Rattle.boardbare.proofs.U8FromFacts.from.Goals as goal
 
 pub returns : goal.returns
