@@ -9,7 +9,7 @@ use Rattle.model.specs.PadTests.{on_board}
 use Rattle.model.specs.Board.{undecided, line, none, is_line, is_undecided, same_edge, set_edge}
 use Rattle.boardview.specs.declared.Arrays.{Arrays}
 use Rattle.boardview.specs.Told.{pick}
-use Rattle.boardview.specs.View.{slot, edge_of, slot_on, state_of, view, undecided_in, flag_in, ended_in, end_at}
+use Rattle.boardview.specs.View.{slot, edge_of, slot_on, state_of, view, undecided_in, flag_in, ended_in, flag_in, end_at}
 
 -- THE TEST whether a decision has ended
 pub has_ended : (t : Bool) (count : ℕ) → t ≡ ended_in count → t ≡ true → 2048 ≤ count
@@ -17,6 +17,13 @@ has_ended t count e h = leb-true 2048 count (sym e ∙ h)
 
 pub goes_on : (t : Bool) (count : ℕ) → t ≡ ended_in count → t ≡ false → count < 2048
 goes_on t count e h = leb-false 2048 count (sym e ∙ h)
+
+-- and whether the flag is set
+pub is_flagged : (t : Bool) (count : ℕ) → t ≡ flag_in count → t ≡ true → 1024 ≤ count
+is_flagged t count e h = leb-true 1024 count (sym e ∙ h)
+
+pub is_clear : (t : Bool) (count : ℕ) → t ≡ flag_in count → t ≡ false → count < 1024
+is_clear t count e h = leb-false 1024 count (sym e ∙ h)
 
 -- BYTES
 pub undecided_byte_test : (b : ℕ) → is_undecided (state_of b) ≡ eqb b 0

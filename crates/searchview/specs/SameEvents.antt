@@ -14,6 +14,7 @@ use Rattle.model.specs.PadTests.{has_right, has_left, has_down, has_up}
 use Rattle.model.specs.Board.{State, is_undecided, is_line, line_or_none, decide, enough}
 use Rattle.model.specs.Runs.{Event, visit}
 use Rattle.model.specs.Search.{board_record, degree_so_far, next_pad, try, backtrack, search_from}
+use Rattle.boardview.specs.declared.kinds.Kinds.{Kinds}
 use Rattle.boardview.specs.View.{grid_in}
 use Rattle.boardview.specs.SameKinds.{plain, same_clue, plain_decides, Shows, shown_plain}
 
@@ -80,6 +81,6 @@ module _ (g : Grid) where
       (backtrack_same (pads g) (next_pad p (pads g) 0 S) S ∙ ap (λ (u : ℕ). backtrack g (pads g) u S) (next_pad_same (pads g) 0 S))
 
 -- THE EVENTS of the grid that the kinds tell of are the grid's own
-module _ {g : Grid} {kind : List ℕ} (told : Shows g kind) where
-  pub shown_searches : (S : State) → search_from (grid_in kind) S ≡ search_from g S
+module _ {g : Grid} {kinds : Kinds} (told : Shows g kinds) where
+  pub shown_searches : (S : State) → search_from (grid_in kinds) S ≡ search_from g S
   shown_searches S = ap (λ (k : Grid). search_from k S) (shown_plain told) ∙ search_from_same g S

@@ -7,7 +7,7 @@ use Rattle.model.specs.Board.{State}
 use Rattle.model.specs.Runs.{Event}
 use Rattle.model.specs.Search.{try, backtrack}
 use Rattle.boardview.specs.declared.Arrays.{Arrays}
-use Rattle.boardview.specs.View.{grid_in, Kinds, view, Ready}
+use Rattle.boardview.specs.View.{view, Ready}
 use Rattle.runs.specs.Progress.{Progress, advance}
 use Rattle.runs.specs.Turns.{turns_left}
 use Rattle.runs.specs.Layouts.{progress}
@@ -16,14 +16,13 @@ use Rattle.searchview.specs.Shown.{last_row, Restored}
 abbrev pub arrays : List ℕ → List ℤ → List ℤ → ℕ → Arrays
 arrays edges ends log count = record { edges = edges; ends = ends; log = log; count = count }
 
--- how far the search has come, with the sizes that the kinds hold
-abbrev pub reached : List ℕ → (outcome visited layouts fewest_lines : ℕ) → List ℕ → Progress
-reached kind outcome visited layouts fewest_lines buffer = progress (places (grid_in kind).height (grid_in kind).width) outcome visited layouts fewest_lines buffer
+-- how far the search of a grid has come
+abbrev pub reached : Grid → (outcome visited layouts fewest_lines : ℕ) → List ℕ → Progress
+reached g outcome visited layouts fewest_lines buffer = progress (places g.height g.width) outcome visited layouts fewest_lines buffer
 
 -- a board with a clear flag, and room for the layouts so far
-pub record Begun (kind : List ℕ) (s : Arrays) (P : Progress) : Type 0 where
-  pub kinds : Kinds kind
-  pub ready : Ready (grid_in kind) s
+pub record Begun (g : Grid) (s : Arrays) (P : Progress) : Type 0 where
+  pub ready : Ready g s
   pub clear : s.count < 1024
   pub inside : P.used ≤ length P.buffer
 

@@ -8,7 +8,9 @@ use Rattle.rules.specs.Drawing.{num}
 use Rattle.model.specs.PadTests.{has_left, has_up}
 use Rattle.model.specs.Board.{is_line}
 use Rattle.model.specs.Search.{degree_so_far}
-use Rattle.boardview.specs.View.{slot, slot_on, view, grid_in, has_bit, clue_bit, Kinds}
+use Rattle.boardview.specs.View.{slot, slot_on, view, grid_in}
+use Rattle.boardview.specs.declared.kinds.Kinds.{Kinds}
+use Rattle.boardview.specs.Told.{has_bit, clue_bit}
 use Rattle.model.specs.Lists.{default_free}
 use Rattle.boardview.specs.Bytes.{line_byte_test}
 use Rattle.boardview.specs.Geometry.{last_before, low_off, slot_is}
@@ -61,19 +63,19 @@ module _ (g : Grid) (wide : 2 ≤ g.width) (narrow : g.width ≤ 16) (edges : Li
       go true h = line_shown (down (v - g.width)) (33 + 2 * v - 2 * g.width) (let k = leb-true g.width v h in omega arith) (omega arith)
       go false h = no_line (33 + 2 * v - 2 * g.width) (omega arith) (low_off g wide narrow (33 + 2 * v - 2 * g.width) (let k = leb-false g.width v h in omega arith))
 
-module _ (kind : List ℕ) (kinds : Kinds kind) (edges : List ℕ) (ready : EdgesReady (grid_in kind) edges) (v : ℕ) (inside : v < 256) where
-  pub degree_shown : degree_so_far (grid_in kind) v (edges_only edges)
-      ≡ num (has_bit kind v clue_bit) + num (eqb (get_or edges (30 + 2 * v) 0) 1) + num (eqb (get_or edges (33 + 2 * v - 2 * (grid_in kind).width) 0) 1)
+module _ (kinds : Kinds) (edges : List ℕ) (ready : EdgesReady (grid_in kinds) edges) (v : ℕ) (inside : v < 256) where
+  pub degree_shown : degree_so_far (grid_in kinds) v (edges_only edges)
+      ≡ num (has_bit kinds.bits v clue_bit) + num (eqb (get_or edges (30 + 2 * v) 0) 1) + num (eqb (get_or edges (33 + 2 * v - 2 * (grid_in kinds).width) 0) 1)
   unfolding degree_so_far
   degree_shown = rw (
-    clue_test kind v inside,
-    left_line (grid_in kind) kinds.least_width kinds.largest_width edges ready v inside,
-    up_line (grid_in kind) kinds.least_width kinds.largest_width edges ready v inside,
+    clue_test kinds v inside,
+    left_line (grid_in kinds) kinds.told.least_width kinds.told.largest_width edges ready v inside,
+    up_line (grid_in kinds) kinds.told.least_width kinds.told.largest_width edges ready v inside,
   ) refl
 
   -- an m is tried, as the code adds it up
   pub tried_as : (go_right go_down : Bool) (degree : ℕ)
-      → degree ≡ num (has_bit kind v clue_bit) + num (eqb (get_or edges (30 + 2 * v) 0) 1) + num (eqb (get_or edges (33 + 2 * v - 2 * (grid_in kind).width) 0) 1) + num go_right + num go_down
-      → (eqb degree 0 || eqb degree 2) ≡ is_tried (grid_in kind) v (edges_only edges) go_right go_down
+      → degree ≡ num (has_bit kinds.bits v clue_bit) + num (eqb (get_or edges (30 + 2 * v) 0) 1) + num (eqb (get_or edges (33 + 2 * v - 2 * (grid_in kinds).width) 0) 1) + num go_right + num go_down
+      → (eqb degree 0 || eqb degree 2) ≡ is_tried (grid_in kinds) v (edges_only edges) go_right go_down
   unfolding is_tried
   tried_as go_right go_down degree is = rw (is, degree_shown) refl

@@ -1,12 +1,11 @@
 -- What `solve` answers, as the model says it, and its whole promise in one record. `Solves` is the contract of `solve`; the equation with
 -- the model is its first part, and demands 2 and 3 are its second.
 use Rattle.std.specs.Prelude.{ℕ, ◌≡◌, List, length, ℤ, Result}
-use Rattle.rules.specs.Grid.{grid_of, places}
+use Rattle.rules.specs.Grid.{Grid, grid_of, places}
 use Rattle.model.specs.Refusals.{grid_refusal}
 use Rattle.model.specs.Runs as runs
 use Rattle.model.specs.Search as model
 use Rattle.grid.specs.declared.Refusal.{Refusal}
-use Rattle.boardview.specs.View.{grid_in}
 use Rattle.runs.specs.Progress.{Progress}
 use Rattle.tally.specs.declared.Stop.{Stop}
 use Rattle.tally.specs.declared.Tally.{Tally}
@@ -15,9 +14,9 @@ use Rattle.tally.specs.Answers.{answer_says}
 use Rattle.tally.specs.Counts as counts
 use Rattle.promises.specs.Contract.{Promise}
 
--- how far the search has come over a board of these kinds: whether it was stopped, its tally, and the buffer
-abbrev pub so_far : List ℕ → Result Unit Stop → Tally → List ℕ → Progress
-so_far kind = counts.progress_of (places (grid_in kind).height (grid_in kind).width)
+-- how far the search of a grid has come: whether it was stopped, its tally, and the buffer
+abbrev pub so_far : Grid → Result Unit Stop → Tally → List ℕ → Progress
+so_far g = counts.progress_of (places g.height g.width)
 
 -- the run of the search with no board visited before
 abbrev pub run_of : ℕ → ℕ → List ℤ → ℕ → List ℕ → runs.Run
