@@ -189,7 +189,7 @@ pub all_on : {a b c x : Bool} → a ≡ x → b ≡ x → c ≡ x → a ≡ true
 all_on ea eb ec h = (same_on ea eb h, same_on ea ec h)
 
 -- STEPS D AND E of a line to the right
-module _ (kind : Kinds) (few : pads (grid_in kind) ≤ 256) (v : ℕ) (on : on_board (grid_in kind) (right v) ≡ true) where
+module _ (kind : Kinds) (v : ℕ) (on : on_board (grid_in kind) (right v) ≡ true) where
   abbrev gr : Grid
   gr = grid_in kind
 
@@ -255,7 +255,7 @@ module _ (kind : Kinds) (few : pads (grid_in kind) ≤ 256) (v : ℕ) (on : on_b
   right_done L d = done_as gr (right_items gr kind.told.least_width kind.told.largest_width v on (has_bit kind.bits v 2) (has_bit kind.bits (v + 1) 4) bars_right bars_left L) d
 
 -- and of a line downward
-module _ (kind : Kinds) (few : pads (grid_in kind) ≤ 256) (v : ℕ) (on : on_board (grid_in kind) (down v) ≡ true) where
+module _ (kind : Kinds) (v : ℕ) (on : on_board (grid_in kind) (down v) ≡ true) where
   abbrev gd : Grid
   gd = grid_in kind
 
