@@ -189,7 +189,7 @@ pub all_on : {a b c x : Bool} → a ≡ x → b ≡ x → c ≡ x → a ≡ true
 all_on ea eb ec h = (same_on ea eb h, same_on ea ec h)
 
 -- STEPS D AND E of a line to the right
-module _ (kind : Kinds) (few : pads (grid_in kind) ≤ 256) (v : ℕ) (on : on_board (grid_in kind) (right v) ≡ true) where
+module _ (kind : Kinds) (v : ℕ) (on : on_board (grid_in kind) (right v) ≡ true) where
   abbrev gr : Grid
   gr = grid_in kind
 
@@ -255,7 +255,7 @@ module _ (kind : Kinds) (few : pads (grid_in kind) ≤ 256) (v : ℕ) (on : on_b
   right_done L d = done_as gr (right_items gr kind.told.least_width kind.told.largest_width v on (has_bit kind.bits v 2) (has_bit kind.bits (v + 1) 4) bars_right bars_left L) d
 
 -- and of a line downward
-module _ (kind : Kinds) (few : pads (grid_in kind) ≤ 256) (v : ℕ) (on : on_board (grid_in kind) (down v) ≡ true) where
+module _ (kind : Kinds) (v : ℕ) (on : on_board (grid_in kind) (down v) ≡ true) where
   abbrev gd : Grid
   gd = grid_in kind
 
@@ -311,9 +311,6 @@ module _ (kind : Kinds) (few : pads (grid_in kind) ≤ 256) (v : ℕ) (on : on_b
   pub down_right_corner : (q : ℕ) → q ≡ v + wd + 1 → slot_on gd (32 + 2 * v) ≡ true → q < pads gd
   down_right_corner q e h = omega (arith, ltb-true (v + 1 + gd.width) (pads gd) (sym (next_down_on gd v) ∙ down_far_right (sym down_right ∙ h)))
 
-  pub down_left_corner : (q : ℕ) → q ≡ v + wd - 1 → q < pads gd
-  down_left_corner q e = omega (arith, down_inside)
-
   bars_down_left : has_bit kind.bits v 4 ≡ ((has_down gd v && has_side gd on_left v) && barred gd on_left gd.height v)
   bars_down_left = kind.told.bars on_left v (omega (arith, down_inside))
 
@@ -367,9 +364,6 @@ module _ (kind : Kinds) (q : ℕ) (inside : q < pads (grid_in kind)) (t : Bool) 
   corner_line on_right et ht = corner_line_right et ht
   corner_line on_left et ht = corner_line_left et ht
 
-  pub corner_not_left : (side : Side) → t ≡ has_bit kind.bits q (corner_bit side) → t ≡ true → side ≡ on_left → 1 ≤ q
-  corner_not_left side et ht is = corner_not_first (rw is at et) ht
-
 -- the pads beyond, as the code counts them
 pub beyond_left : (v : ℕ) → 15 + v - 16 ≡ v - 1
 beyond_left v = omega arith
@@ -387,9 +381,6 @@ beyond_down v w = omega arith
 module _ (g : Grid) (s : Arrays) (y : Ready g s) (code n past : ℕ) (h : n < 1024) where
   pub apart_ends : 2048 ≤ s.count → Done g 0 s (keep_at g code n (past - 16)) s
   apart_ends high = done_ended g 0 s _ y high
-
-  pub apart_pad : (slot_on g n ≡ true → 16 ≤ past) → get_or s.edges n 0 ≡ 0 → 16 ≤ past
-  apart_pad there z = there (slot_is_on g s y n h (omega arith))
 
   module _ (goes_on_yet : s.count < 2048) where
     pub apart_rests : keeps_apart s.edges s.ends (suc code) n (past - 16) ≡ false → Done g 0 s (keep_at g code n (past - 16)) s

@@ -8,7 +8,7 @@ use Rattle.std.specs.Int.Signed.{lt_z, non_neg}
 use Rattle.std.specs.Int.{w64}
 use Rattle.std.proofs.lemmas.Int.{to_z-of_z, to_z_pos}
 use Rattle.model.specs.JoinedEnds.{through, at_pad, at_clue}
-use Rattle.boardview.specs.View.{end_of, end_at}
+use Rattle.boardview.specs.View.{end_of}
 use Rattle.model.specs.Lists.{default_free}
 
 pub back : (z : ℤ) → SFits w64 z → to_z w64 (of_z w64 z) ≡ z
@@ -54,10 +54,6 @@ clue_is e f n h = go h.0 h.1
     go zero q = absurd (n (ap (of_z w64) q))
     go (suc k) q = let small = rw q at f in
         rw (back e f, q, minus_two k, back (pos k) (record { sfits = omega (arith, small.sfits) })) refl
-
--- the default of a read is the pad's own number
-pub end_read : (ends : List ℤ) (v : ℕ) → v < 512 → length ends ≡ 512 → end_of (get_or ends v (pos 0)) ≡ end_at ends v
-end_read ends v h l = ap end_of (default_free ends v (pos 0) (pos v) (omega arith))
 
 -- A SLOT AND A READ END in the log
 pub slot_number : (n : ℕ) → n < 1024 → to_z w64 n ≡ pos n

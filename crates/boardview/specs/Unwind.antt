@@ -1,13 +1,11 @@
 -- Laws of the log: undoing more entries is undoing some and then the others, undoing a stored edge or a joined line gives back edges and
 -- ends, and SINCE goes from step to step. It rests on View.antt, Bytes.antt and Ends.antt.
-use Rattle.std.specs.Prelude.{ℕ, zero, suc, ◌+◌, ◌*◌, ◌-◌, ◌%◌, ◌/◌, ◌<◌, ◌≡◌, refl, Bool, true, false, List, get_or, set, length, ℤ, pos, negsuc}
+use Rattle.std.specs.Prelude.{ℕ, zero, suc, ◌+◌, ◌*◌, ◌-◌, ◌%◌, ◌/◌, ◌<◌, ◌≡◌, refl, true, false, List, get_or, set, length, ℤ, pos, negsuc}
 use Rattle.std.proofs.Common.{sym, ap, ◌∙◌, arith, length-set, get_or-set_same, get_or-set_other, set-set}
 use Rattle.std.proofs.lemmas.List.{set-get_or}
-use Rattle.model.specs.JoinedEnds.{is_through, unjoinable}
+use Rattle.model.specs.JoinedEnds.{unjoinable}
 use Rattle.boardview.specs.declared.Arrays.{Arrays}
-use Rattle.boardview.specs.Told.{pick}
-use Rattle.boardview.specs.View.{logged, end_of, end_at, put_number, joined, unjoined, second_pad, slot_logged, undone_one, unwound, Since, stopped, going}
-use Rattle.boardview.specs.Ends.{length_put}
+use Rattle.boardview.specs.View.{logged, end_of, end_at, joined, unjoined, second_pad, undone_one, unwound, Since, stopped, going}
 
 -- UNDOING ENTRIES
 pub unwound_split : (w : ℕ) (log : List ℤ) (m j i : ℕ) (E : List ℕ × List ℤ) → unwound w log m (j + i) E ≡ unwound w log m j (unwound w log (m + j) i E)
@@ -143,24 +141,3 @@ unwound_step w log least k E h = ap (λ (n : ℕ). unwound w log least n E) more
 
     place : least + (k - 1 - least) ≡ k - 1
     place = omega arith
-
-pub length_undone : (w : ℕ) (log : List ℤ) (k : ℕ) (E : List ℕ × List ℤ) → length (undone_one w log k E).1 ≡ length E.1
-unfolding undone_one unjoined
-length_undone w log k E = go (is_through (end_of A))
-  where
-    A : ℤ
-    A = get_or log (3 * k + 1) (pos 0)
-
-    B : ℤ
-    B = get_or log (3 * k + 2) (pos 0)
-
-    v : ℕ
-    v = slot_logged log k / 2 - 16
-
-    q : ℕ
-    q = second_pad w (slot_logged log k)
-
-    go : (b : Bool) → length (pick b E.1 (put_number (end_of B) (pos q) (put_number (end_of A) (pos v) (set (set E.1 v A) q B)))) ≡ length E.1
-    go true = refl
-    go false = length_put (end_of B) (pos q) (put_number (end_of A) (pos v) (set (set E.1 v A) q B)) ∙ (length_put (end_of A) (pos v) (set (set E.1 v A) q B)
-        ∙ (length-set (set E.1 v A) q B ∙ length-set E.1 v A))

@@ -92,82 +92,82 @@ decide_line-returns t c = rw c.stop.ensures (raised c.args.kinds.now _ c.args.di
 
 pub shape_down-detour-requires : goal.shape_down-detour-requires
 shape_down-detour-requires t c =
-    (omega (arith, c.decreases), (omega (arith, c.requires.1, c.args.kinds.now.told.largest_width), omega (arith, c.requires.1, c.args.kinds.now.told.largest_width), omega (arith, c.requires.1, c.args.kinds.now.told.largest_width), (λ o. (same_on (down_left c.args.kinds.now c.requires.2.few_pads c.args.v c.requires.0) (down_left_below c.args.kinds.now c.requires.2.few_pads c.args.v c.requires.0) o, down_far_left c.args.kinds.now c.requires.2.few_pads c.args.v c.requires.0 (sym (down_left c.args.kinds.now c.requires.2.few_pads c.args.v c.requires.0) ∙ o))), c.requires.2))
+    (omega (arith, c.decreases), (omega (arith, c.requires.1, c.args.kinds.now.told.largest_width), omega (arith, c.requires.1, c.args.kinds.now.told.largest_width), omega (arith, c.requires.1, c.args.kinds.now.told.largest_width), (λ o. (same_on (down_left c.args.kinds.now c.args.v c.requires.0) (down_left_below c.args.kinds.now c.args.v c.requires.0) o, down_far_left c.args.kinds.now c.args.v c.requires.0 (sym (down_left c.args.kinds.now c.args.v c.requires.0) ∙ o))), c.requires.2))
 
 pub shape_down-detour-requires-2 : goal.shape_down-detour-requires-2
 shape_down-detour-requires-2 t c =
-    (omega (arith, c.decreases, c.detour.ensures.fewer), (omega (arith, c.requires.1, c.args.kinds.now.told.largest_width), omega (arith, c.requires.1, c.args.kinds.now.told.largest_width), omega (arith, c.requires.1, c.args.kinds.now.told.largest_width), (λ o. (same_on (down_left_below c.args.kinds.now c.requires.2.few_pads c.args.v c.requires.0) (down_left c.args.kinds.now c.requires.2.few_pads c.args.v c.requires.0) o, down_far_left c.args.kinds.now c.requires.2.few_pads c.args.v c.requires.0 (sym (down_left_below c.args.kinds.now c.requires.2.few_pads c.args.v c.requires.0) ∙ o))), c.detour.ensures.ready))
+    (omega (arith, c.decreases, c.detour.ensures.fewer), (omega (arith, c.requires.1, c.args.kinds.now.told.largest_width), omega (arith, c.requires.1, c.args.kinds.now.told.largest_width), omega (arith, c.requires.1, c.args.kinds.now.told.largest_width), (λ o. (same_on (down_left_below c.args.kinds.now c.args.v c.requires.0) (down_left c.args.kinds.now c.args.v c.requires.0) o, down_far_left c.args.kinds.now c.args.v c.requires.0 (sym (down_left_below c.args.kinds.now c.args.v c.requires.0) ∙ o))), c.detour.ensures.ready))
 
 pub shape_down-detour-requires-3 : goal.shape_down-detour-requires-3
 shape_down-detour-requires-3 t c =
-    (omega (arith, c.decreases, c.detour.ensures.fewer, c.detour-2.ensures.fewer, c.far_detour.ensures.fewer), (omega (arith, c.requires.1, c.args.kinds.now.told.largest_width), omega (arith, c.requires.1, c.args.kinds.now.told.largest_width), omega (arith, c.requires.1, c.args.kinds.now.told.largest_width), (λ o. (same_on (down_right c.args.kinds.now c.requires.2.few_pads c.args.v c.requires.0) (down_right_below c.args.kinds.now c.requires.2.few_pads c.args.v c.requires.0) o, down_far_right c.args.kinds.now c.requires.2.few_pads c.args.v c.requires.0 (sym (down_right c.args.kinds.now c.requires.2.few_pads c.args.v c.requires.0) ∙ o))), c.far_detour.ensures.ready))
+    (omega (arith, c.decreases, c.detour.ensures.fewer, c.detour-2.ensures.fewer, c.far_detour.ensures.fewer), (omega (arith, c.requires.1, c.args.kinds.now.told.largest_width), omega (arith, c.requires.1, c.args.kinds.now.told.largest_width), omega (arith, c.requires.1, c.args.kinds.now.told.largest_width), (λ o. (same_on (down_right c.args.kinds.now c.args.v c.requires.0) (down_right_below c.args.kinds.now c.args.v c.requires.0) o, down_far_right c.args.kinds.now c.args.v c.requires.0 (sym (down_right c.args.kinds.now c.args.v c.requires.0) ∙ o))), c.far_detour.ensures.ready))
 
 pub shape_down-detour-requires-4 : goal.shape_down-detour-requires-4
 shape_down-detour-requires-4 t c =
-    (omega (arith, c.decreases, c.detour.ensures.fewer, c.detour-2.ensures.fewer, c.far_detour.ensures.fewer, c.detour-3.ensures.fewer), (omega (arith, c.requires.1, c.args.kinds.now.told.largest_width), omega (arith, c.requires.1, c.args.kinds.now.told.largest_width), omega (arith, c.requires.1, c.args.kinds.now.told.largest_width), (λ o. (same_on (down_right_below c.args.kinds.now c.requires.2.few_pads c.args.v c.requires.0) (down_right c.args.kinds.now c.requires.2.few_pads c.args.v c.requires.0) o, down_far_right c.args.kinds.now c.requires.2.few_pads c.args.v c.requires.0 (sym (down_right_below c.args.kinds.now c.requires.2.few_pads c.args.v c.requires.0) ∙ o))), c.detour-3.ensures.ready))
+    (omega (arith, c.decreases, c.detour.ensures.fewer, c.detour-2.ensures.fewer, c.far_detour.ensures.fewer, c.detour-3.ensures.fewer), (omega (arith, c.requires.1, c.args.kinds.now.told.largest_width), omega (arith, c.requires.1, c.args.kinds.now.told.largest_width), omega (arith, c.requires.1, c.args.kinds.now.told.largest_width), (λ o. (same_on (down_right_below c.args.kinds.now c.args.v c.requires.0) (down_right c.args.kinds.now c.args.v c.requires.0) o, down_far_right c.args.kinds.now c.args.v c.requires.0 (sym (down_right_below c.args.kinds.now c.args.v c.requires.0) ∙ o))), c.detour-3.ensures.ready))
 
 pub shape_down-corner-requires-2 : goal.shape_down-corner-requires-2
 shape_down-corner-requires-2 t c =
-    (omega (arith, c.decreases, c.detour.ensures.fewer, c.detour-2.ensures.fewer, c.far_detour.ensures.fewer, c.detour-3.ensures.fewer, c.detour-4.ensures.fewer, c.far_detour-2.ensures.fewer, c.corner.ensures.fewer), (omega (arith, c.requires.1, c.args.kinds.now.told.largest_width), omega (arith, c.requires.1, c.args.kinds.now.told.largest_width), (λ o. down_right_corner c.args.kinds.now c.requires.2.few_pads c.args.v c.requires.0 _ refl o), c.corner.ensures.ready))
+    (omega (arith, c.decreases, c.detour.ensures.fewer, c.detour-2.ensures.fewer, c.far_detour.ensures.fewer, c.detour-3.ensures.fewer, c.detour-4.ensures.fewer, c.far_detour-2.ensures.fewer, c.corner.ensures.fewer), (omega (arith, c.requires.1, c.args.kinds.now.told.largest_width), omega (arith, c.requires.1, c.args.kinds.now.told.largest_width), (λ o. down_right_corner c.args.kinds.now c.args.v c.requires.0 _ refl o), c.corner.ensures.ready))
 
 pub shape_down-bar-requires : goal.shape_down-bar-requires
 shape_down-bar-requires t c =
-    (omega (arith, c.decreases, c.detour.ensures.fewer, c.detour-2.ensures.fewer, c.far_detour.ensures.fewer, c.detour-3.ensures.fewer, c.detour-4.ensures.fewer, c.far_detour-2.ensures.fewer, c.corner.ensures.fewer, c.corner-2.ensures.fewer), (omega (arith, c.requires.1, c.args.kinds.now.told.largest_width), omega (arith, c.requires.1, c.args.kinds.now.told.largest_width), down_left_bar_on c.args.kinds.now c.requires.2.few_pads c.args.v c.requires.0, c.corner-2.ensures.ready))
+    (omega (arith, c.decreases, c.detour.ensures.fewer, c.detour-2.ensures.fewer, c.far_detour.ensures.fewer, c.detour-3.ensures.fewer, c.detour-4.ensures.fewer, c.far_detour-2.ensures.fewer, c.corner.ensures.fewer, c.corner-2.ensures.fewer), (omega (arith, c.requires.1, c.args.kinds.now.told.largest_width), omega (arith, c.requires.1, c.args.kinds.now.told.largest_width), down_left_bar_on c.args.kinds.now c.args.v c.requires.0, c.corner-2.ensures.ready))
 
 pub shape_down-bar-requires-2 : goal.shape_down-bar-requires-2
 shape_down-bar-requires-2 t c =
-    (omega (arith, c.decreases, c.detour.ensures.fewer, c.detour-2.ensures.fewer, c.far_detour.ensures.fewer, c.detour-3.ensures.fewer, c.detour-4.ensures.fewer, c.far_detour-2.ensures.fewer, c.corner.ensures.fewer, c.corner-2.ensures.fewer, c.bar.ensures.fewer), (omega (arith, c.requires.1, c.args.kinds.now.told.largest_width), omega (arith, c.requires.1, c.args.kinds.now.told.largest_width), down_right_bar_on c.args.kinds.now c.requires.2.few_pads c.args.v c.requires.0, c.bar.ensures.ready))
+    (omega (arith, c.decreases, c.detour.ensures.fewer, c.detour-2.ensures.fewer, c.far_detour.ensures.fewer, c.detour-3.ensures.fewer, c.detour-4.ensures.fewer, c.far_detour-2.ensures.fewer, c.corner.ensures.fewer, c.corner-2.ensures.fewer, c.bar.ensures.fewer), (omega (arith, c.requires.1, c.args.kinds.now.told.largest_width), omega (arith, c.requires.1, c.args.kinds.now.told.largest_width), down_right_bar_on c.args.kinds.now c.args.v c.requires.0, c.bar.ensures.ready))
 
 pub shape_right-detour-requires : goal.shape_right-detour-requires
 shape_right-detour-requires t c =
-    (omega (arith, c.decreases), (omega (arith, c.requires.1, c.args.kinds.now.told.largest_width), omega (arith, c.requires.1, c.args.kinds.now.told.largest_width), omega (arith, c.requires.1, c.args.kinds.now.told.largest_width), all_on (right_up_left c.args.kinds.now c.requires.2.few_pads c.args.v c.requires.0) (right_up_right c.args.kinds.now c.requires.2.few_pads c.args.v c.requires.0) (right_up c.args.kinds.now c.requires.2.few_pads c.args.v c.requires.0), c.requires.2))
+    (omega (arith, c.decreases), (omega (arith, c.requires.1, c.args.kinds.now.told.largest_width), omega (arith, c.requires.1, c.args.kinds.now.told.largest_width), omega (arith, c.requires.1, c.args.kinds.now.told.largest_width), all_on (right_up_left c.args.kinds.now c.args.v c.requires.0) (right_up_right c.args.kinds.now c.args.v c.requires.0) (right_up c.args.kinds.now c.args.v c.requires.0), c.requires.2))
 
 pub shape_right-detour-requires-2 : goal.shape_right-detour-requires-2
 shape_right-detour-requires-2 t c =
-    (omega (arith, c.decreases, c.detour.ensures.fewer), (omega (arith, c.requires.1, c.args.kinds.now.told.largest_width), omega (arith, c.requires.1, c.args.kinds.now.told.largest_width), omega (arith, c.requires.1, c.args.kinds.now.told.largest_width), all_on (right_up_right c.args.kinds.now c.requires.2.few_pads c.args.v c.requires.0) (right_up_left c.args.kinds.now c.requires.2.few_pads c.args.v c.requires.0) (right_up c.args.kinds.now c.requires.2.few_pads c.args.v c.requires.0), c.detour.ensures.ready))
+    (omega (arith, c.decreases, c.detour.ensures.fewer), (omega (arith, c.requires.1, c.args.kinds.now.told.largest_width), omega (arith, c.requires.1, c.args.kinds.now.told.largest_width), omega (arith, c.requires.1, c.args.kinds.now.told.largest_width), all_on (right_up_right c.args.kinds.now c.args.v c.requires.0) (right_up_left c.args.kinds.now c.args.v c.requires.0) (right_up c.args.kinds.now c.args.v c.requires.0), c.detour.ensures.ready))
 
 pub shape_right-detour-requires-3 : goal.shape_right-detour-requires-3
 shape_right-detour-requires-3 t c =
-    (omega (arith, c.decreases, c.detour.ensures.fewer, c.detour-2.ensures.fewer), (omega (arith, c.requires.1, c.args.kinds.now.told.largest_width), omega (arith, c.requires.1, c.args.kinds.now.told.largest_width), omega (arith, c.requires.1, c.args.kinds.now.told.largest_width), all_on (right_up c.args.kinds.now c.requires.2.few_pads c.args.v c.requires.0) (right_up_left c.args.kinds.now c.requires.2.few_pads c.args.v c.requires.0) (right_up_right c.args.kinds.now c.requires.2.few_pads c.args.v c.requires.0), c.detour-2.ensures.ready))
+    (omega (arith, c.decreases, c.detour.ensures.fewer, c.detour-2.ensures.fewer), (omega (arith, c.requires.1, c.args.kinds.now.told.largest_width), omega (arith, c.requires.1, c.args.kinds.now.told.largest_width), omega (arith, c.requires.1, c.args.kinds.now.told.largest_width), all_on (right_up c.args.kinds.now c.args.v c.requires.0) (right_up_left c.args.kinds.now c.args.v c.requires.0) (right_up_right c.args.kinds.now c.args.v c.requires.0), c.detour-2.ensures.ready))
 
 pub shape_right-detour-requires-4 : goal.shape_right-detour-requires-4
 shape_right-detour-requires-4 t c =
-    (omega (arith, c.decreases, c.detour.ensures.fewer, c.detour-2.ensures.fewer, c.detour-3.ensures.fewer), (omega (arith, c.requires.1, c.args.kinds.now.told.largest_width), omega (arith, c.requires.1, c.args.kinds.now.told.largest_width), omega (arith, c.requires.1, c.args.kinds.now.told.largest_width), all_on (right_left c.args.kinds.now c.requires.2.few_pads c.args.v c.requires.0) (right_right c.args.kinds.now c.requires.2.few_pads c.args.v c.requires.0) (right_below c.args.kinds.now c.requires.2.few_pads c.args.v c.requires.0), c.detour-3.ensures.ready))
+    (omega (arith, c.decreases, c.detour.ensures.fewer, c.detour-2.ensures.fewer, c.detour-3.ensures.fewer), (omega (arith, c.requires.1, c.args.kinds.now.told.largest_width), omega (arith, c.requires.1, c.args.kinds.now.told.largest_width), omega (arith, c.requires.1, c.args.kinds.now.told.largest_width), all_on (right_left c.args.kinds.now c.args.v c.requires.0) (right_right c.args.kinds.now c.args.v c.requires.0) (right_below c.args.kinds.now c.args.v c.requires.0), c.detour-3.ensures.ready))
 
 pub shape_right-detour-requires-5 : goal.shape_right-detour-requires-5
 shape_right-detour-requires-5 t c =
-    (omega (arith, c.decreases, c.detour.ensures.fewer, c.detour-2.ensures.fewer, c.detour-3.ensures.fewer, c.detour-4.ensures.fewer), (omega (arith, c.requires.1, c.args.kinds.now.told.largest_width), omega (arith, c.requires.1, c.args.kinds.now.told.largest_width), omega (arith, c.requires.1, c.args.kinds.now.told.largest_width), all_on (right_right c.args.kinds.now c.requires.2.few_pads c.args.v c.requires.0) (right_left c.args.kinds.now c.requires.2.few_pads c.args.v c.requires.0) (right_below c.args.kinds.now c.requires.2.few_pads c.args.v c.requires.0), c.detour-4.ensures.ready))
+    (omega (arith, c.decreases, c.detour.ensures.fewer, c.detour-2.ensures.fewer, c.detour-3.ensures.fewer, c.detour-4.ensures.fewer), (omega (arith, c.requires.1, c.args.kinds.now.told.largest_width), omega (arith, c.requires.1, c.args.kinds.now.told.largest_width), omega (arith, c.requires.1, c.args.kinds.now.told.largest_width), all_on (right_right c.args.kinds.now c.args.v c.requires.0) (right_left c.args.kinds.now c.args.v c.requires.0) (right_below c.args.kinds.now c.args.v c.requires.0), c.detour-4.ensures.ready))
 
 pub shape_right-detour-requires-6 : goal.shape_right-detour-requires-6
 shape_right-detour-requires-6 t c =
-    (omega (arith, c.decreases, c.detour.ensures.fewer, c.detour-2.ensures.fewer, c.detour-3.ensures.fewer, c.detour-4.ensures.fewer, c.detour-5.ensures.fewer), (omega (arith, c.requires.1, c.args.kinds.now.told.largest_width), omega (arith, c.requires.1, c.args.kinds.now.told.largest_width), omega (arith, c.requires.1, c.args.kinds.now.told.largest_width), all_on (right_below c.args.kinds.now c.requires.2.few_pads c.args.v c.requires.0) (right_left c.args.kinds.now c.requires.2.few_pads c.args.v c.requires.0) (right_right c.args.kinds.now c.requires.2.few_pads c.args.v c.requires.0), c.detour-5.ensures.ready))
+    (omega (arith, c.decreases, c.detour.ensures.fewer, c.detour-2.ensures.fewer, c.detour-3.ensures.fewer, c.detour-4.ensures.fewer, c.detour-5.ensures.fewer), (omega (arith, c.requires.1, c.args.kinds.now.told.largest_width), omega (arith, c.requires.1, c.args.kinds.now.told.largest_width), omega (arith, c.requires.1, c.args.kinds.now.told.largest_width), all_on (right_below c.args.kinds.now c.args.v c.requires.0) (right_left c.args.kinds.now c.args.v c.requires.0) (right_right c.args.kinds.now c.args.v c.requires.0), c.detour-5.ensures.ready))
 
 pub shape_right-corner-requires : goal.shape_right-corner-requires
 shape_right-corner-requires t c =
-    (omega (arith, c.decreases, c.detour.ensures.fewer, c.detour-2.ensures.fewer, c.detour-3.ensures.fewer, c.detour-4.ensures.fewer, c.detour-5.ensures.fewer, c.detour-6.ensures.fewer), (omega (arith, c.requires.1, c.args.kinds.now.told.largest_width), omega (arith, c.requires.1, c.args.kinds.now.told.largest_width), right_corner c.args.kinds.now c.requires.2.few_pads c.args.v c.requires.0 _ refl, c.detour-6.ensures.ready))
+    (omega (arith, c.decreases, c.detour.ensures.fewer, c.detour-2.ensures.fewer, c.detour-3.ensures.fewer, c.detour-4.ensures.fewer, c.detour-5.ensures.fewer, c.detour-6.ensures.fewer), (omega (arith, c.requires.1, c.args.kinds.now.told.largest_width), omega (arith, c.requires.1, c.args.kinds.now.told.largest_width), right_corner c.args.kinds.now c.args.v c.requires.0 _ refl, c.detour-6.ensures.ready))
 
 pub shape_right-corner-requires-2 : goal.shape_right-corner-requires-2
 shape_right-corner-requires-2 t c =
-    (omega (arith, c.decreases, c.detour.ensures.fewer, c.detour-2.ensures.fewer, c.detour-3.ensures.fewer, c.detour-4.ensures.fewer, c.detour-5.ensures.fewer, c.detour-6.ensures.fewer, c.corner.ensures.fewer), (omega (arith, c.requires.1, c.args.kinds.now.told.largest_width), omega (arith, c.requires.1, c.args.kinds.now.told.largest_width), left_corner c.args.kinds.now c.requires.2.few_pads c.args.v c.requires.0 _ refl, c.corner.ensures.ready))
+    (omega (arith, c.decreases, c.detour.ensures.fewer, c.detour-2.ensures.fewer, c.detour-3.ensures.fewer, c.detour-4.ensures.fewer, c.detour-5.ensures.fewer, c.detour-6.ensures.fewer, c.corner.ensures.fewer), (omega (arith, c.requires.1, c.args.kinds.now.told.largest_width), omega (arith, c.requires.1, c.args.kinds.now.told.largest_width), left_corner c.args.kinds.now c.args.v c.requires.0 _ refl, c.corner.ensures.ready))
 
 pub shape_right-bar-requires : goal.shape_right-bar-requires
 shape_right-bar-requires t c =
-    (omega (arith, c.decreases, c.detour.ensures.fewer, c.detour-2.ensures.fewer, c.detour-3.ensures.fewer, c.detour-4.ensures.fewer, c.detour-5.ensures.fewer, c.detour-6.ensures.fewer, c.corner.ensures.fewer, c.corner-2.ensures.fewer), (omega (arith, c.requires.1, c.args.kinds.now.told.largest_width), omega (arith, c.requires.1, c.args.kinds.now.told.largest_width), right_bar_on c.args.kinds.now c.requires.2.few_pads c.args.v c.requires.0, c.corner-2.ensures.ready))
+    (omega (arith, c.decreases, c.detour.ensures.fewer, c.detour-2.ensures.fewer, c.detour-3.ensures.fewer, c.detour-4.ensures.fewer, c.detour-5.ensures.fewer, c.detour-6.ensures.fewer, c.corner.ensures.fewer, c.corner-2.ensures.fewer), (omega (arith, c.requires.1, c.args.kinds.now.told.largest_width), omega (arith, c.requires.1, c.args.kinds.now.told.largest_width), right_bar_on c.args.kinds.now c.args.v c.requires.0, c.corner-2.ensures.ready))
 
 pub shape_right-bar-requires-2 : goal.shape_right-bar-requires-2
 shape_right-bar-requires-2 t c =
-    (omega (arith, c.decreases, c.detour.ensures.fewer, c.detour-2.ensures.fewer, c.detour-3.ensures.fewer, c.detour-4.ensures.fewer, c.detour-5.ensures.fewer, c.detour-6.ensures.fewer, c.corner.ensures.fewer, c.corner-2.ensures.fewer, c.bar.ensures.fewer), (omega (arith, c.requires.1, c.args.kinds.now.told.largest_width), omega (arith, c.requires.1, c.args.kinds.now.told.largest_width), left_bar_on c.args.kinds.now c.requires.2.few_pads c.args.v c.requires.0, c.bar.ensures.ready))
+    (omega (arith, c.decreases, c.detour.ensures.fewer, c.detour-2.ensures.fewer, c.detour-3.ensures.fewer, c.detour-4.ensures.fewer, c.detour-5.ensures.fewer, c.detour-6.ensures.fewer, c.corner.ensures.fewer, c.corner-2.ensures.fewer, c.bar.ensures.fewer), (omega (arith, c.requires.1, c.args.kinds.now.told.largest_width), omega (arith, c.requires.1, c.args.kinds.now.told.largest_width), left_bar_on c.args.kinds.now c.args.v c.requires.0, c.bar.ensures.ready))
 
 pub shape_right-returns : goal.shape_right-returns
 shape_right-returns t c =
     let g = grid_in c.args.kinds.now in
-    done_as g (append-nil _) (right_done c.args.kinds.now c.requires.2.few_pads c.args.v c.requires.0 _
+    done_as g (append-nil _) (right_done c.args.kinds.now c.args.v c.requires.0 _
     (done_then g c.detour.ensures (done_then g c.detour-2.ensures (done_then g c.detour-3.ensures (done_then g c.detour-4.ensures (done_then g c.detour-5.ensures (done_then g c.detour-6.ensures (done_then g c.corner.ensures (done_then g c.corner-2.ensures (done_then g c.bar.ensures (done_then g c.bar-2.ensures (done_nothing g 1 _ c.bar-2.ensures.ready))))))))))))
 
 pub shape_down-returns : goal.shape_down-returns
 shape_down-returns t c =
     let g = grid_in c.args.kinds.now in
-    done_as g (append-nil _) (down_done c.args.kinds.now c.requires.2.few_pads c.args.v c.requires.0 _
+    done_as g (append-nil _) (down_done c.args.kinds.now c.args.v c.requires.0 _
     (done_then g c.detour.ensures (done_then g c.detour-2.ensures (done_then g c.far_detour.ensures (done_then g c.detour-3.ensures (done_then g c.detour-4.ensures (done_then g c.far_detour-2.ensures (done_then g c.corner.ensures (done_then g c.corner-2.ensures (done_then g c.bar.ensures (done_then g c.bar-2.ensures (done_nothing g 1 _ c.bar-2.ensures.ready))))))))))))
 
 pub decide_none-store-requires : goal.decide_none-store-requires
@@ -289,8 +289,8 @@ far_detour-returns-else-has t c = no_side (grid_in c.args.kinds.now) _ c.require
 
 pub shape_down-far_detour-requires : goal.shape_down-far_detour-requires
 shape_down-far_detour-requires t c =
-    (omega (arith, c.decreases, c.detour.ensures.fewer, c.detour-2.ensures.fewer), (omega (arith, c.requires.1), omega (arith, c.requires.1, c.args.kinds.now.told.largest_width), omega (arith, c.requires.1, c.args.kinds.now.told.largest_width), omega (arith, c.requires.1, c.args.kinds.now.told.largest_width), (λ h. (down_left c.args.kinds.now c.requires.2.few_pads c.args.v c.requires.0 ∙ far_left_on c.args.kinds.now c.requires.2.few_pads c.args.v c.requires.0 h, down_left_below c.args.kinds.now c.requires.2.few_pads c.args.v c.requires.0 ∙ far_left_on c.args.kinds.now c.requires.2.few_pads c.args.v c.requires.0 h)), c.detour-2.ensures.ready))
+    (omega (arith, c.decreases, c.detour.ensures.fewer, c.detour-2.ensures.fewer), (omega (arith, c.requires.1), omega (arith, c.requires.1, c.args.kinds.now.told.largest_width), omega (arith, c.requires.1, c.args.kinds.now.told.largest_width), omega (arith, c.requires.1, c.args.kinds.now.told.largest_width), (λ h. (down_left c.args.kinds.now c.args.v c.requires.0 ∙ far_left_on c.args.kinds.now c.args.v c.requires.0 h, down_left_below c.args.kinds.now c.args.v c.requires.0 ∙ far_left_on c.args.kinds.now c.args.v c.requires.0 h)), c.detour-2.ensures.ready))
 
 pub shape_down-far_detour-requires-2 : goal.shape_down-far_detour-requires-2
 shape_down-far_detour-requires-2 t c =
-    (omega (arith, c.decreases, c.detour.ensures.fewer, c.detour-2.ensures.fewer, c.far_detour.ensures.fewer, c.detour-3.ensures.fewer, c.detour-4.ensures.fewer), (omega (arith, c.requires.1), omega (arith, c.requires.1, c.args.kinds.now.told.largest_width), omega (arith, c.requires.1, c.args.kinds.now.told.largest_width), omega (arith, c.requires.1, c.args.kinds.now.told.largest_width), (λ h. (down_right c.args.kinds.now c.requires.2.few_pads c.args.v c.requires.0 ∙ far_right_on c.args.kinds.now c.requires.2.few_pads c.args.v c.requires.0 h, down_right_below c.args.kinds.now c.requires.2.few_pads c.args.v c.requires.0 ∙ far_right_on c.args.kinds.now c.requires.2.few_pads c.args.v c.requires.0 h)), c.detour-4.ensures.ready))
+    (omega (arith, c.decreases, c.detour.ensures.fewer, c.detour-2.ensures.fewer, c.far_detour.ensures.fewer, c.detour-3.ensures.fewer, c.detour-4.ensures.fewer), (omega (arith, c.requires.1), omega (arith, c.requires.1, c.args.kinds.now.told.largest_width), omega (arith, c.requires.1, c.args.kinds.now.told.largest_width), omega (arith, c.requires.1, c.args.kinds.now.told.largest_width), (λ h. (down_right c.args.kinds.now c.args.v c.requires.0 ∙ far_right_on c.args.kinds.now c.args.v c.requires.0 h, down_right_below c.args.kinds.now c.args.v c.requires.0 ∙ far_right_on c.args.kinds.now c.args.v c.requires.0 h)), c.detour-4.ensures.ready))
