@@ -124,3 +124,6 @@ module _ (bytes : List ℕ) (from at value : ℕ) (p : Passed bytes from at valu
     where
       longer : at + 1 - from ≡ at - from + 1
       longer = omega arith
+
+-- what the proofs of the functions of one field are found by
+pub ruleset field_laws = (neither, too_large, sound_value, no_sign_past, none_passed, one_passed, field_stops, field_led_by_0, field_too_long, field_unended, digits_there, sign_inside, hole_unended, hole_ends, digit_bounds)

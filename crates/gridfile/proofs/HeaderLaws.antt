@@ -13,7 +13,7 @@ use Rattle.gridfile.specs.declared.Declined.{Declined}
 use Rattle.gridfile.specs.declared.Field.{Field}
 use Rattle.gridfile.specs.declared.Fault.{Fault}
 use Rattle.std.specs.Prelude.{Ok, Err}
-use Rattle.gridfile.proofs.ReadLaws.{Ended, value_ended, comma_there, header_read, by_refusal, by_ending, declined_there}
+use Rattle.gridfile.proofs.ReadLaws.{Ended, value_ended, comma_there, header_read, by_refusal, by_ending, declined_there, found_there}
 
 module _ (bytes : List ℕ) where
   from_start : read_from (field_start 1 1 0 0 no_cells) (drop 0 bytes) ≡ read bytes
@@ -59,3 +59,6 @@ module _ (bytes : List ℕ) where
 
           pub rows_follow : is_size one.value ≡ true → is_size two.value ≡ true → read_from (field_start 2 1 one.value two.value no_cells) (drop (two.end + 1) bytes) ≡ read bytes
           rows_follow h w = by_ending (header_read 2 one.value bytes (one.end + 1)) two f 10 b (header_ends (two.end - (one.end + 1)) two.value (drop (two.end + 1) bytes) second.sound one.value h w) ∙ from_second
+
+-- what the proof of `read` is found by
+pub ruleset header_laws = (first_declined, first_alone, second_declined, third_field, height_refused, width_refused, rows_follow, value_ended, found_there)

@@ -24,7 +24,7 @@ use Rattle.gridfile.specs.declared.Declined.{Declined}
 use Rattle.gridfile.specs.declared.Field.{Field}
 use Rattle.gridfile.specs.declared.Fault.{Fault}
 use Rattle.std.specs.Prelude.{Ok, Err}
-use Rattle.gridfile.proofs.ReadLaws.{Ended, comma_there, FieldRead, row_read, by_refusal, by_ending, declined_there}
+use Rattle.gridfile.proofs.ReadLaws.{Ended, comma_there, FieldRead, row_read, by_refusal, by_ending, declined_there, row_value_ended, found_there}
 
 -- two tests that differ, or agree
 pub tests_differ : (a b : Bool) → not (beq a b) ≡ true → a ≡ b → ⊥
@@ -170,3 +170,6 @@ rows_sound high wide =
 -- what was read from there on is a grid
 pub grid_read : {height width : ℕ} {cells : List ℤ} → Size height → Size width → (rows : List ℕ) → record { number = 0; line = 0; field = 0; height = height; width = width; cells = cells } ≡ read_from (field_start 2 1 height width no_cells) rows → Accepted height width (take (height * width) cells)
 grid_read high wide rows is = (rw (← is) at (read_from_sound _ rows (rows_sound high wide))).in_range refl
+
+-- what the proofs of the functions of the rows are found by
+pub ruleset row_laws = (row_begins, row_declined, index_inside, miscounted, column_read, byte_after, file_ends, grid_read, size_of_test, tests_differ, tests_agree, row_value_ended, found_there)

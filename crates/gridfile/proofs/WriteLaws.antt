@@ -25,6 +25,7 @@ use Rattle.grid.specs.Answers.{number_of, index_of, some_number}
 use Rattle.gridfile.specs.declared.Unwritten.TheVariants.{BadGrid, NoRoom}
 use Rattle.gridfile.specs.Answers.{writing_says}
 use Rattle.std.specs.Prelude.{Ok, Err}
+use Rattle.reading.specs.ReadBack.{longest_text}
 use Rattle.reading.proofs.WriteRead.{refused_grid, no_room, has_room}
 
 -- ## The field of a pad
@@ -127,8 +128,8 @@ module _ (height width : ℕ) (cells : List ℤ) where
   unfolding grid_text comma line_end bytes
   grid_parts = simp append_assoc
 
-  pub parts_fit : {room : ℕ} → length (grid_text height width cells) ≤ room → length (decimal height) + 1 + (length (decimal width) + 1) + length (rows_text width 1 cells) ≤ room
-  parts_fit h = omega (arith, parts)
+  pub parts_fit : Accepted height width cells → length (rows_text width 1 cells) + (length (decimal height) + 1) + (length (decimal width) + 1) ≤ 2822
+  parts_fit a = omega (arith, longest_text height width cells a, parts)
     where
       parts : length (decimal height) + 1 + (length (decimal width) + 1) + length (rows_text width 1 cells) ≡ length (grid_text height width cells)
       parts = rw (← grid_parts) (simp length-append)
@@ -159,3 +160,6 @@ module _ (height width : ℕ) (cells : List ℤ) (a : Accepted height width cell
     pub copied : {after : List ℕ} → length text ≤ length buffer → after ≡ text ++ drop (length text) buffer → writing_says (Ok (length text)) after ≡ write height width cells buffer
     unfolding written
     copied room e = rw (e, is) (sym (has_room height width cells buffer a (rw is at room)))
+
+-- what the proofs of the writing functions are found by
+pub ruleset write_laws = (append-nil, a_blank, a_hole, its_digits, back, rows_begin, rows_done, pad_room, row_ended, row_goes_on, grid_parts, parts_fit, none_yet, cell_longer, field_longer, refused, too_short, copied)

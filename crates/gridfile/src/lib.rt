@@ -147,6 +147,7 @@ struct Field {
     end: usize,
 }
 
+#[tactic(auto, unfolding(model::specs::GridFile::is_digit))]
 pub fn is_digit(byte: u8) -> bool
     ensures { result ≡ is_digit byte }
 {
@@ -154,6 +155,7 @@ pub fn is_digit(byte: u8) -> bool
 }
 
 // What a disallowed byte is in a field that has so many digits before it.
+#[tactic(auto, unfolding(crate::specs::Fields::disallowed))]
 fn disallowed(digits: usize) -> Fault
     ensures { result ≡ disallowed digits }
 {
@@ -164,6 +166,7 @@ fn disallowed(digits: usize) -> Fault
 }
 
 // Whether a field of so many digits with this value is `0` alone, after which no digit may come.
+#[tactic(auto, unfolding(model::specs::GridFile::is_zero_alone))]
 fn is_zero_alone(digits: usize, value: usize) -> bool
     ensures { result ≡ is_zero_alone digits value }
 {
@@ -171,6 +174,7 @@ fn is_zero_alone(digits: usize, value: usize) -> bool
 }
 
 // Whether a hole's sign stands at a place.
+#[tactic(auto, using(crate::proofs::FieldLaws::field_laws), unfolding(model::specs::GridFile::is_hole_sign))]
 fn is_hole(bytes: &[u8], at: usize) -> bool
     ensures { result ≡ is_hole_sign (get_or bytes.now at 0) }
 {
@@ -178,6 +182,7 @@ fn is_hole(bytes: &[u8], at: usize) -> bool
 }
 
 // A field that ends, or should end, at a byte, after some digits with a value.
+#[tactic(auto, using(crate::proofs::FieldLaws::field_laws))]
 fn ended_field(byte: u8, digits: usize, value: usize, at: usize) -> Result<Field, Fault>
     ensures { result ≡ ended_field byte digits value at }
 {
@@ -191,6 +196,7 @@ fn ended_field(byte: u8, digits: usize, value: usize, at: usize) -> Result<Field
 }
 
 // The field of digits that begins at a place.
+#[tactic(auto, using(crate::proofs::FieldLaws::field_laws))]
 fn field_at(bytes: &[u8], from: usize) -> Result<Field, Fault>
     ensures { result ≡ field_at bytes.now from }
 {
@@ -212,6 +218,7 @@ fn field_at(bytes: &[u8], from: usize) -> Result<Field, Fault>
 }
 
 // The field of a row that begins at a place: a hole's sign alone, which has the value 0, or digits.
+#[tactic(auto, using(crate::proofs::FieldLaws::field_laws))]
 fn row_field_at(bytes: &[u8], from: usize) -> Result<Field, Fault>
     ensures { result ≡ row_field_at bytes.now from }
 {
@@ -233,6 +240,7 @@ fn located(found: Result<Field, Fault>, line: usize, field: usize) -> Result<Fie
 }
 
 // 256 blank cells.
+#[tactic(auto, unfolding(model::specs::GridFile::blank, model::specs::GridFile::no_cells))]
 pub fn no_cells() -> [i64; 256]
     ensures { result ≡ no_cells }
 {
@@ -240,6 +248,7 @@ pub fn no_cells() -> [i64; 256]
 }
 
 // A cell gets what its field says: a hole, blank if the field had no digits, else the value.
+#[tactic(auto, unfolding(model::specs::GridFile::blank, model::specs::GridFile::hole, reading::specs::FieldSteps::cell_of))]
 fn store_cell(cells: &mut [i64; 256], index: usize, hole: bool, digits: usize, value: usize)
     requires { (index < 256) × (value ≤ largest_code) }
     ensures { cells.new ≡ set cells.old index (cell_of (part_of hole digits value)) }
@@ -254,6 +263,7 @@ fn store_cell(cells: &mut [i64; 256], index: usize, hole: bool, digits: usize, v
 }
 
 // One row of a file from a place on, W fields of it: their cells are stored; the place behind the row.
+#[tactic(auto, using(crate::proofs::RowLaws::row_laws))]
 fn read_row(
     bytes: &[u8],
     from: usize,
@@ -280,6 +290,7 @@ fn read_row(
 }
 
 // The rows of a file whose header has been read: from a place on, H rows of W fields each, and nothing after them.
+#[tactic(auto, using(crate::proofs::RowLaws::row_laws))]
 fn read_rows(bytes: &[u8], from: usize, height: usize, width: usize) -> Result<Grid, Declined>
     requires { (is_size height ≡ true) × (is_size width ≡ true) × (from ≤ length bytes.now) }
     ensures { reading_says result ≡ read_from (field_start 2 1 height width no_cells) (drop from bytes.now) }
@@ -300,6 +311,7 @@ fn read_rows(bytes: &[u8], from: usize, height: usize, width: usize) -> Result<G
 }
 
 // The whole file.
+#[tactic(auto, using(crate::proofs::HeaderLaws::header_laws))]
 pub fn read(bytes: &[u8]) -> Result<Grid, Declined>
     ensures { reading_says result ≡ read bytes.now }
 {
@@ -323,6 +335,7 @@ pub fn read(bytes: &[u8]) -> Result<Grid, Declined>
 }
 
 // The field of a pad behind what the text holds: nothing for a blank one, the sign of a hole, or the code.
+#[tactic(auto, using(crate::proofs::WriteLaws::write_laws))]
 fn push_cell(text: &mut Text, cell: i64)
     requires { length text.old + length (cell_text cell) ≤ 2822 }
     ensures { text.new ≡ text.old ++ cell_text cell }
@@ -337,6 +350,7 @@ fn push_cell(text: &mut Text, cell: i64)
 }
 
 // The fields of the pads in index order behind what the text holds, after each a comma or, at a row's end, a line end.
+#[tactic(auto, using(crate::proofs::WriteLaws::write_laws))]
 fn push_rows(text: &mut Text, grid: &grid::Grid<'_>)
     requires { length text.old + length (rows_text grid.now.width 1 grid.now.cells.now) ≤ 2822 }
     ensures { text.new ≡ text.old ++ rows_text grid.now.width 1 grid.now.cells.now }
@@ -355,6 +369,7 @@ fn push_rows(text: &mut Text, grid: &grid::Grid<'_>)
 }
 
 // The text of a grid.
+#[tactic(auto, using(crate::proofs::WriteLaws::write_laws))]
 fn text_of(grid: &grid::Grid<'_>) -> Text
     ensures { result ≡ grid_text grid.now.height grid.now.width grid.now.cells.now }
 {
@@ -367,6 +382,7 @@ fn text_of(grid: &grid::Grid<'_>) -> Text
 
 // A grid into a lent buffer, and its text's length: the grid's refusals come first, then no room where the buffer is shorter than the text.
 // The text is made in an array that the longest one fits, so that nothing is written where there is no room.
+#[tactic(auto, using(crate::proofs::WriteLaws::write_laws))]
 pub fn write(
     height: usize,
     width: usize,

@@ -1,6 +1,6 @@
 -- `gridfile::read_row` meets its contract. The loop keeps `RowRead`: reading on from the column is what reading from the row's first
 -- column on comes to. Assumes nothing.
-use Rattle.gridfile.proofs.RowLaws.{tests_differ, tests_agree, row_begins, row_declined, index_inside, miscounted, column_read}
+use Rattle.gridfile.proofs.RowLaws.{tests_differ, tests_agree, row_declined, index_inside, miscounted, column_read}
 use Rattle.gridfile.proofs.ReadLaws.{row_value_ended, found_there}
 use Rattle.std.specs.Prelude.{Result, Err}
 use Rattle.std.proofs.lemmas.Result.{err_from_is_err_and}
@@ -14,19 +14,10 @@ use Prim.Native.Nat.{◌+◌}
 use native.Mathlib.Omega.{arith}
 use Rattle.gridfile.proofs.read_row.Goals as goal
 
-pub loop-column-init : goal.loop-column-init
-loop-column-init c = λ height answer left r. row_begins c.requires.0 r
-
 pub returns-in_err-value : goal.returns-in_err-value
 returns-in_err-value c =
     let p = err_from_is_err_and c.from_residual.result c.from_residual.ensures.1 in
     λ height answer left r. rw (p.1, p.2) (row_declined _ _ _ _ _ _ _ ((c.loop-column.invariant height answer left r).going c.loop-column-test.true) left _ (c.in_err-value.ensures ∙ ap (λ (f : Result Field Fault). located f (c.args.row + 2) (c.loop-column.column + 1)) c.row_field_at.ensures))
-
-pub overflow_mul-index : goal.overflow_mul-index
-overflow_mul-index c = omega (arith, index_inside _ _ _ c.requires.0 c.requires.1 c.loop-column-test.true)
-
-pub overflow_add-index : goal.overflow_add-index
-overflow_add-index c = omega (arith, index_inside _ _ _ c.requires.0 c.requires.1 c.loop-column-test.true)
 
 pub overflow_sub-end : goal.overflow_sub-end
 overflow_sub-end c = (row_value_ended _ _ _ (sym c.row_field_at.ensures ∙ found_there _ _ _ _ c.in_ok-value.ensures)).reached
