@@ -3,15 +3,13 @@
 use Rattle.std.specs.Prelude.{ℕ, ◌*◌, ◌-◌, ◌≤◌, ◌<◌, ◌≡◌, List, ◌++◌, length, replicate, drop, ℤ, Result, Ok, Err}
 use Rattle.std.proofs.Common.{sym, ap, ◌∙◌, arith}
 use Rattle.rules.specs.Grid.{places}
-use Rattle.rules.specs.Places.{few_places}
 use Rattle.model.specs.Refusals.{grid_refusal}
 use Rattle.model.specs.RefusalLaws.{not_refused}
 use Rattle.model.specs.Runs as runs
 use Rattle.model.specs.Common.{with_number, common}
 use Rattle.model.specs.CommonLaws.{refused_grid, short_table, stopped_list, complete_list}
 use Rattle.grid.specs.declared.Refusal.{Refusal}
-use Rattle.grid.specs.declared.Refusal.TheVariants.{Size, CellCount, Cell}
-use Rattle.grid.specs.Answers.{number_of, refusal_says}
+use Rattle.grid.specs.Answers.{number_of, index_of, some_number}
 use Rattle.tally.specs.declared.Stop.{Stop}
 use Rattle.tally.specs.declared.Solved.{Solved}
 use Rattle.tally.specs.Outcomes.{outcome_number}
@@ -23,12 +21,7 @@ use Rattle.copper.specs.Answers.{common_says}
 use Rattle.copper.specs.declared.NoTable.TheVariants.{Grid, Short, Incomplete}
 
 module _ (height width : ℕ) (cells : List ℤ) (limit : ℕ) (buffer table : List ℕ) where
-  some_number : (r : Refusal) → number_of r ≡ 0 → ⊥
-  some_number Size e = omega arith
-  some_number CellCount e = omega arith
-  some_number (Cell index) e = omega arith
-
-  pub refused_says : (refusal : Refusal) → refusal_says (Err refusal) ≡ grid_refusal height width cells
+  pub refused_says : (refusal : Refusal) → (number_of refusal, index_of refusal) ≡ grid_refusal height width cells
       → common_says (Err (Grid refusal)) buffer table ≡ common height width cells limit buffer table
   refused_says refusal is = (λ i. record { searched = runs.declined_search (is i).0 (is i).1 buffer; table = table })
       ∙ sym (refused_grid height width cells limit buffer table (λ e. some_number refusal (ap (λ (p : ℕ × ℕ). p.0) is ∙ e)))
@@ -36,10 +29,6 @@ module _ (height width : ℕ) (cells : List ℤ) (limit : ℕ) (buffer table : L
   module _ (fine : (grid_refusal height width cells).0 ≡ 0) where
     pub short_says : length table < places height width → common_says (Err Short) buffer table ≡ common height width cells limit buffer table
     short_says short = sym (short_table height width cells limit buffer table fine short)
-
-    -- the search is not refused where the grid is not
-    pub not_refused_again : (refusal : Refusal) (buffer' : List ℕ) → Solves height width cells limit buffer (Err refusal) buffer' → ⊥
-    not_refused_again refusal buffer' solves = some_number refusal (ap (λ (s : runs.Solved). s.number) (solves.of_run fine))
 
     module _ (room : places height width ≤ length table) (found : Solved) (buffer' : List ℕ) (solves : Solves height width cells limit buffer (Ok found) buffer') where
       its_run : answer_says (Ok found) buffer' ≡ runs.solved (run_of height width cells limit buffer) buffer
@@ -65,14 +54,3 @@ module _ (height width : ℕ) (cells : List ℤ) (limit : ℕ) (buffer table : L
 
           start : List ℕ
           start = replicate (places height width) 0 ++ past
-
--- the number of places fits, in each of its factors
-module _ (height width : ℕ) (cells : List ℤ) (fine : (grid_refusal height width cells).0 ≡ 0) where
-  pub tall : (2 ≤ height) × (height ≤ 16)
-  tall = (not_refused height width cells fine).height_in_range
-
-  pub wide : (2 ≤ width) × (width ≤ 16)
-  wide = (not_refused height width cells fine).width_in_range
-
-  pub places_few : (2 * height - 1) * (2 * width - 1) ≤ 961
-  places_few = few_places height width tall.1 wide.1

@@ -71,12 +71,12 @@ pub fn common(
 ) -> Result<Tally, NoTable>
     ensures { common_says result buffer.new table.new ≡ common height width cells.now limit buffer.old table.old }
 {
-    grid::grid_refusal(height, width, cells)?;
-    let places = (2 * height - 1) * (2 * width - 1);
+    let grid = grid::accept(height, width, cells)?;
+    let places = grid.places();
     if table.len() < places {
         return Err(NoTable::Short);
     }
-    let found = solver::solve(height, width, cells, limit, buffer)?;
+    let found = solver::search(&grid, limit, buffer);
     if found.outcome.is_err() {
         return Err(NoTable::Incomplete(found));
     }
