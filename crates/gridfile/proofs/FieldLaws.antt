@@ -4,13 +4,13 @@ use mathlib.Core.Bool.{Bool, true, false, not, ◌&&◌}
 use mathlib.Core.List.{List}
 use mathlib.Core.Logic.{◌⊎◌, inl, inr}
 use Prim.Native.Nat.{ℕ, ◌+◌, ◌-◌, ◌*◌, ◌^◌, ◌≤◌, ◌<◌}
-use native.Mathlib.Nat.{pow-le-pow_right, sub_self}
+use native.Mathlib.Nat.{sub_self}
 use native.Mathlib.Numerals.{add-one}
 use native.Mathlib.Omega.{arith}
 use lib.ListN.{length, get_or, drop, drop_of_length-le, get_or-eq_default}
 use lib.Seq.{drop-cons}
 use lib.Dec.{ltb}
-use borrow.Author.Tests.{ltb-true, ltb-false, lt-ltb, le-ltb, ne_eqb, eq-eqb, not-true, not-false}
+use borrow.Author.Tests.{ltb-true, ltb-false, lt-ltb, le-ltb, ne_eqb, eq-eqb, not-false}
 use Rattle.rules.specs.Grid.{largest_code}
 use Rattle.rules.specs.Tests.{conflict}
 use Rattle.model.specs.Bounds.{most_digits}
@@ -96,16 +96,10 @@ module _ (bytes : List ℕ) (from : ℕ) where
 pub digit_more : (value digits digit : ℕ) → value < 10 ^ digits → digit ≤ 9 → value * 10 + digit < 10 ^ (digits + 1)
 digit_more value digits digit h d = rw add-one (omega arith)
 
-pub ten_digits : (value digits : ℕ) → value < 10 ^ digits → digits ≤ 10 → value < 10000000000
-ten_digits value digits h d = omega (arith, pow-le-pow_right {n = 10} (omega arith) d)
-
 -- ## The loop of `field_at`
 
 pub a_digit : {r : Bool} (byte : ℕ) → r ≡ is_digit byte → not r ≡ false → is_digit byte ≡ true
 a_digit byte e h = sym e ∙ not-false _ h
-
-pub not_digit : {r : Bool} (byte : ℕ) → r ≡ is_digit byte → not r ≡ true → is_digit byte ≡ false
-not_digit byte e h = sym e ∙ not-true _ h
 
 -- what the loop keeps: the digits passed are at most ten, their value has as many, and the field is what is left of it
 pub record Passed (bytes : List ℕ) (from at value : ℕ) : Type 0 where

@@ -103,3 +103,6 @@ module _ {five : List ℕ} {value i : ℕ} (p : Passed five value i) (few : leng
 
     pub a_code : value ≤ largest_code → cell (pos value) ≡ packed_pad five
     a_code h = from_end (value_in_range value h)
+
+-- what the proof of `pad_of` is found by
+pub ruleset pad_laws = (all_are_FF, blank_pad, none_passed, refused_high, refused_low, one_passed, too_large, a_code)

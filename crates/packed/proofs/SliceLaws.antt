@@ -18,7 +18,7 @@ use Rattle.model.specs.Bounds.{is_size}
 use Rattle.model.specs.RefusalLaws.{size_of_test}
 use Rattle.model.specs.GridFile.{Reading, blank, no_cells, declined_reading}
 use Rattle.model.specs.Packed.{cell, refused, packed_pad, declined_pad, read_pads, read_sized, read_packed}
-use Rattle.reading.specs.PadSteps.{two_at_least, height_refused, width_refused, too_short, too_long, whole, pad_read, pad_refused}
+use Rattle.reading.specs.PadSteps.{below_two, two_at_least, height_refused, width_refused, too_short, too_long, whole, pad_read, pad_refused}
 use Rattle.reading.specs.PackedPads.{Packable, packable}
 use Rattle.reading.proofs.PackedSlices.{packed_sound}
 
@@ -120,3 +120,6 @@ module _ (bytes : List ℕ) (two : 2 ≤ length bytes) {height width : ℕ} (h :
 pub grid_read : {height width : ℕ} {cells : List ℤ} → is_size height ≡ true → is_size width ≡ true → (pads : List ℕ) → length pads ≡ height * width * 5 → record { number = 0; line = 0; field = 0; height = height; width = width; cells = cells } ≡ read_pads height width (height * width) [] pads → Accepted height width (take (height * width) cells)
 unfolding read_packed
 grid_read {height} {width} tall wide pads long is = (rw (whole height width pads tall wide long ∙ sym is) at (packed_sound (height ∷ width ∷ pads))).in_range refl
+
+-- what the proofs of the functions of a slice are found by
+pub ruleset slice_laws = (pad_part, cell_back, pads_fit, pads_begin, all_read, inside, refused_here, read_here, bad_height, bad_width, short_slice, long_slice, whole_slice, grid_read, size_of_test, below_two)

@@ -26,6 +26,7 @@ fn all_blank(five: &[u8]) -> bool
 }
 
 // What the five bytes of a pad give: of each byte the high half is the first digit.
+#[tactic(auto, using(crate::proofs::PadLaws::pad_laws))]
 fn pad_of(five: &[u8]) -> Result<i64, Fault>
     requires { length five.now ≤ 5 }
     ensures { pad_says result ≡ packed_pad five.now }
@@ -52,6 +53,7 @@ fn pad_of(five: &[u8]) -> Result<i64, Fault>
 }
 
 // A refusal at a pad: the rows begin with line 2, and fields are counted from 1.
+#[tactic(auto, using(crate::proofs::SliceLaws::slice_laws), unfolding(model::specs::Packed::declined_pad))]
 fn declined_pad(fault: Fault, width: usize, index: usize) -> Declined
     requires { (is_size width ≡ true) × (index ≤ 256) }
     ensures { reading_says (Err result) ≡ declined_pad (fault_number fault) width index }
@@ -60,6 +62,7 @@ fn declined_pad(fault: Fault, width: usize, index: usize) -> Declined
 }
 
 // The pads of a slice whose length is that of its sizes, in index order.
+#[tactic(auto, using(crate::proofs::SliceLaws::slice_laws))]
 fn read_pads(bytes: &[u8], height: usize, width: usize) -> Result<Grid, Declined>
     requires { (is_size height ≡ true) × (is_size width ≡ true) × (length bytes.now ≡ 2 + height * width * 5) }
     ensures { reading_says result ≡ read_pads height width (height * width) [] (drop 2 bytes.now) }
@@ -80,6 +83,7 @@ fn read_pads(bytes: &[u8], height: usize, width: usize) -> Result<Grid, Declined
 }
 
 // The whole slice: two bytes at least, then the sizes, then the whole length, then the pads.
+#[tactic(auto, using(crate::proofs::SliceLaws::slice_laws))]
 pub fn read_packed(bytes: &[u8]) -> Result<Grid, Declined>
     ensures { reading_says result ≡ read_packed bytes.now }
 {

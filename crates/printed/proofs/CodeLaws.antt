@@ -2,13 +2,13 @@
 use Rattle.std.specs.Prelude.{if◌then◌else◌}
 use mathlib.Core.Path.{◌≡◌, refl, ap, ◌∙◌}
 use mathlib.Core.Bool.{Bool, true, false}
-use mathlib.Core.List.{List, [], ◌∷◌, ◌++◌, append_assoc}
+use mathlib.Core.List.{List, [], ◌∷◌, ◌++◌, append_assoc, append-nil}
 use Prim.Native.Nat.{ℕ, zero, suc, ◌+◌, ◌*◌, ◌-◌, ◌/◌, ◌%◌, ◌≤◌, ◌<◌}
 use native.Mathlib.Nat.{mul-le-mul, add-zero, zero-add}
 use native.Mathlib.Numerals.{add-one}
 use native.Mathlib.Omega.{arith}
 use lib.ListN.{length, get_or, take, length-append}
-use lib.Seq.{length-take-le}
+use lib.Seq.{length-take-le, get_or-take}
 use lib.Dec.{eqb, ltb}
 use borrow.Author.Tests.{lt-ltb, le-ltb}
 use Rattle.rules.specs.Grid.{Size}
@@ -97,3 +97,6 @@ module _ (height width : ℕ) (layout first line : List ℕ) (index : ℕ) (p : 
   pub all_pushed : index ≡ height * width → line ≡ first ++ code_digits height width layout
   unfolding code_digits
   all_pushed there = rw there at p
+
+-- what the proof of `push_codes` is found by
+pub ruleset code_laws = (append-nil, all_pads, codes_taken, pushed_so_far, code_pushed, all_pushed, get_or-take)

@@ -284,3 +284,6 @@ module _ (height width : ℕ) (h : Size height) (w : Size width) (layout : List 
         right_more height width wide (take i layout) layout v 0 below (whole (right v)) (λ off. refl),
         down_more height width wide (take i layout) layout v 0 below (whole (down v)) (λ off. refl),
       ))
+
+-- what the proofs of the functions of the codes are found by
+pub ruleset coded_laws = (past_the_end, no_line, a_line, right_added, down_added, row_inside, first_small, none_added, line_taken, no_line_taken, all_added)

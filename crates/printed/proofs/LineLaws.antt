@@ -2,7 +2,7 @@
 use mathlib.Core.Path.{◌≡◌}
 use mathlib.Core.Bool.{true, false}
 use mathlib.Core.List.{List, [], ◌∷◌, ◌++◌, append_assoc}
-use Prim.Native.Nat.{ℕ, ◌+◌, ◌*◌, ◌≤◌}
+use Prim.Native.Nat.{ℕ, ◌*◌, ◌≤◌}
 use native.Mathlib.Omega.{arith}
 use lib.ListN.{length, length-append}
 use Rattle.model.specs.Bounds.{is_size}
@@ -12,7 +12,9 @@ use Rattle.rules.specs.Record.{record_lines}
 use Rattle.model.specs.Decimal.{decimal}
 use Rattle.model.specs.Printed.{code_digits, summary_line, layout_line, refusal_line}
 use Rattle.model.specs.RoutesTo.{progress_line}
+use Rattle.model.specs.RefusalLaws.{size_of_test}
 use Rattle.printed.specs.Written.{layout_text}
+use Rattle.printed.specs.Filled.{digits_20, digits_3}
 use Rattle.printed.proofs.CodeLaws.{codes_length, all_pads}
 
 pub codes_256 : (height width : ℕ) (layout : List ℕ) → Size height → Size width → length (code_digits height width layout) ≤ 256
@@ -46,10 +48,10 @@ module _ (height width number : ℕ) (layout : List ℕ) where
   unfolding layout_text
   no_width h w = simp (h, w)
 
--- ## How long a line is that is made part by part
+-- ## An empty line
 
 pub none_yet : {line : List ℕ} → line ≡ [] → length line ≤ 0
 none_yet e = rw e (omega arith)
 
-pub longer : {line : List ℕ} (before part : List ℕ) (most more : ℕ) → line ≡ before ++ part → length before ≤ most → length part ≤ more → length line ≤ most + more
-longer before part most more e b p = rw (e, length-append) (omega arith)
+-- what the proofs of the lines are found by
+pub ruleset line_laws = (none_yet, length-append, digits_20, digits_3, summary_parts, refusal_parts, progress_parts, layout_parts, codes_256, all_pads, no_height, no_width, size_of_test)

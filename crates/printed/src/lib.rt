@@ -28,6 +28,7 @@ pub type HeadLine = Line<67>;
 pub type LayoutLine = Line<299>;
 
 // The pads of the line at a place of a layout, by the place's number; none where there is no line.
+#[tactic(auto, using(crate::proofs::CodedLaws::coded_laws))]
 fn line_at(layout: &[u8], width: usize, i: usize) -> Option<Pads>
     requires { Size width × (i / field_side width < 31) }
     ensures { result ≡ pads_of width (line_place width layout.now i) }
@@ -43,6 +44,7 @@ fn line_at(layout: &[u8], width: usize, i: usize) -> Option<Pads>
 }
 
 // Adds a line to the code of its first pad: 1 for a line to the right, 2 for one downward.
+#[tactic(auto, using(crate::proofs::CodedLaws::coded_laws))]
 fn add_line(codes: &mut [u8; 256], pads: Pads)
     requires { (pads.first < 256) × Codes codes.old }
     ensures { codes.new ≡ line_added (edge (edge_of pads)) codes.old }
@@ -54,6 +56,7 @@ fn add_line(codes: &mut [u8; 256], pads: Pads)
 }
 
 // The codes of the pads by their indexes, right + 2 * down: each line of the layout is added to the code of its first pad.
+#[tactic(auto, using(crate::proofs::CodedLaws::coded_laws))]
 fn codes_of(height: usize, width: usize, layout: &[u8]) -> [u8; 256]
     requires { Size height × Size width }
     ensures { CodesOf height width layout.now result }
@@ -68,6 +71,7 @@ fn codes_of(height: usize, width: usize, layout: &[u8]) -> [u8; 256]
 }
 
 // The codes of the pads in index order, one digit each, behind what the line holds.
+#[tactic(auto, using(crate::proofs::CodeLaws::code_laws), unfolding(model::specs::Printed::code_digits_from))]
 fn push_codes(line: &mut LayoutLine, height: usize, width: usize, layout: &[u8])
     requires { Size height × Size width × (length line.old + height * width ≤ 299) }
     ensures { line.new ≡ line.old ++ code_digits height width layout.now }
@@ -79,6 +83,7 @@ fn push_codes(line: &mut LayoutLine, height: usize, width: usize, layout: &[u8])
 }
 
 // Layouts, visited, fewest, outcome.
+#[tactic(auto, using(crate::proofs::LineLaws::line_laws))]
 pub fn summary_line(layouts: u64, visited: u64, fewest: u64, outcome: u8) -> HeadLine
     ensures { result ≡ summary_line layouts visited fewest outcome }
 {
@@ -91,6 +96,7 @@ pub fn summary_line(layouts: u64, visited: u64, fewest: u64, outcome: u8) -> Hea
 }
 
 // The word, number, line, field.
+#[tactic(auto, using(crate::proofs::LineLaws::line_laws), unfolding(model::specs::Text::bytes))]
 pub fn refusal_line(number: u8, line: u64, field: u64) -> HeadLine
     ensures { result ≡ refusal_line number line field }
 {
@@ -103,6 +109,7 @@ pub fn refusal_line(number: u8, line: u64, field: u64) -> HeadLine
 }
 
 // What is said of a run: the boards that it has visited, and the layouts found.
+#[tactic(auto, using(crate::proofs::LineLaws::line_laws), unfolding(model::specs::Text::bytes))]
 pub fn progress_line(visited: u64, layouts: u64) -> HeadLine
     ensures { result ≡ progress_line visited layouts }
 {
@@ -115,6 +122,7 @@ pub fn progress_line(visited: u64, layouts: u64) -> HeadLine
 }
 
 // A layout's number from 1, its lines, its codes; nothing where H or W is out of bounds.
+#[tactic(auto, using(crate::proofs::LineLaws::line_laws))]
 pub fn layout_line(height: usize, width: usize, number: u64, layout: &[u8]) -> LayoutLine
     ensures { result ≡ layout_text height width number layout.now }
 {
