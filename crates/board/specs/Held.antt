@@ -1,33 +1,26 @@
 -- What a board of the code holds of the model's board, and what an answer says. A board that the calls handed out holds one (IsBoard); that,
 -- and no more, is given of it. It rests on Past.antt, boardview's View.antt and the model's Calls.antt.
-use Rattle.std.specs.Prelude.{ℕ, ◌*◌, ◌%◌, ◌≤◌, ◌≡◌, length, take, Result, Ok, Err}
+use Rattle.std.specs.Prelude.{ℕ, ◌*◌, ◌%◌, ◌≡◌, List, take, Result, Ok, Err, ℤ}
 use Rattle.rules.specs.Grid.{places}
 use Rattle.model.specs.Calls as model
 use Rattle.grid.specs.Answers as grid
-use Rattle.boardview.specs.declared.Arrays.{Arrays}
-use Rattle.boardview.specs.View.{grid_in, Kinds, Ready, view}
+use Rattle.boardview.specs.View.{grid_in, Ready, view}
 use Rattle.boardview.specs.SameKinds.{Shows as Told}
-use Rattle.board.specs.Past.{Past, standing_marks}
+use Rattle.board.specs.Past.{Past}
+use Rattle.board.specs.Standing.{marks_in}
 use Rattle.board.specs.declared.Board.{Board}
 use Rattle.board.specs.declared.Answer.{Answer}
 use Rattle.board.specs.declared.Declined.{Declined}
 use Rattle.board.specs.declared.Declined.TheVariants.{Grid, NoEdge, NoState, NoCheckpoint}
-use Rattle.board.specs.declared.Shown.{Shown}
-
--- the arrays of a board
-abbrev pub arrays_of : Board → Arrays
-arrays_of b = b.arrays
+use Rattle.board.specs.declared.shown.Shown.{Shown}
 
 -- HELD: the grid, the state, and the states at the standing checkpoints; behind them the fresh board, whose log is empty
 pub record Held (b : Board) (B : model.Board) : Type 0 where
-  pub kinds : Kinds b.kind
-  pub told : Told B.grid b.kind
-  pub ready : Ready (grid_in b.kind) (arrays_of b)
-  pub shows : view (arrays_of b) ≡ B.state
-  pub few : b.standing ≤ 256
-  pub many : length b.marks ≡ 256
+  pub told : Told B.grid b.kinds
+  pub ready : Ready (grid_in b.kinds) b.arrays
+  pub shows : view b.arrays ≡ B.state
   pub no_entries : b.fresh % 1024 ≡ 0
-  pub past : Past (grid_in b.kind) B.grid b.fresh (arrays_of b) (standing_marks b.marks b.standing) B.standing
+  pub past : Past (grid_in b.kinds) B.grid b.fresh b.arrays (marks_in b.marks) B.standing
 
 -- A BOARD that the calls handed out
 abbrev pub IsBoard : Board → Type 0
@@ -65,9 +58,15 @@ abbrev pub declined_with : Declined → Board → Answer
 declined_with why b = record { said = Err why; board = b }
 
 -- WHAT A BOARD SHOWS: its sizes, edges as a record, ends and flag; past them the arrays are of no account
+abbrev pub edges_of : Shown → List ℕ
+edges_of r = take (places r.height r.width) r.edges
+
+abbrev pub ends_of : Shown → List ℤ
+ends_of r = take (r.height * r.width) r.ends
+
 pub record Shows (r : Shown) (B : model.Board) : Type 0 where
   pub height : r.height ≡ B.grid.height
   pub width : r.width ≡ B.grid.width
-  pub edges : take (places r.height r.width) r.edges ≡ (model.shown B).edges
-  pub ends : take (r.height * r.width) r.ends ≡ (model.shown B).ends
+  pub edges : edges_of r ≡ (model.shown B).edges
+  pub ends : ends_of r ≡ (model.shown B).ends
   pub flag : r.flag ≡ (model.shown B).flag

@@ -1,5 +1,6 @@
 -- What the board's calls say of the model's, and why.
 pub mod Past
+pub mod Standing
 pub mod PlaceLaws
 pub mod Held
 pub mod CallLaws

@@ -1,9 +1,13 @@
--- `Board::add_checkpoint` meets its contract: 256 stand, or the count is marked. Assumes nothing.
-use Rattle.board.specs.CallLaws.{checkpoint_declined, checkpoint_added}
+-- `Board::add_checkpoint` meets its contract: as many stand as may, or the count is marked. Assumes nothing.
+use Rattle.std.proofs.Common.{sym, ◌∙◌}
+use Rattle.board.specs.CallLaws.{checkpoint_declined, room_for_mark, checkpoint_added}
 use Rattle.board.proofs.Board.add_checkpoint.Goals as goal
 
-pub returns-then-standing-ge-MOST_CHECKPOINTS : goal.returns-then-standing-ge-MOST_CHECKPOINTS
-returns-then-standing-ge-MOST_CHECKPOINTS c = λ B held. rw c.decline.ensures (checkpoint_declined _ B held c.if-standing-ge-MOST_CHECKPOINTS.true)
+pub returns-then-is_full : goal.returns-then-is_full
+returns-then-is_full c = λ B held. rw c.decline.ensures (checkpoint_declined _ B held (sym c.if-is_full.true ∙ c.is_full.ensures))
+
+pub push-requires : goal.push-requires
+push-requires c = room_for_mark _ c.requires.0 c.requires.1 (sym c.if-is_full.false ∙ c.is_full.ensures)
 
 pub returns : goal.returns
-returns c = λ B held. checkpoint_added _ B held c.if-standing-ge-MOST_CHECKPOINTS.false
+returns c = λ B held. checkpoint_added _ B held (room_for_mark _ B held (sym c.if-is_full.false ∙ c.is_full.ensures)) _ c.push.ensures
