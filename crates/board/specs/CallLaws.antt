@@ -1,6 +1,8 @@
 -- Why each call's answer says what the model's does: the declined calls, the checkpoint, the undo, the decision. It rests on Held.antt.
 use Rattle.std.specs.Prelude.{ℕ, suc, ◌%◌, ◌≤◌, ◌<◌, ◌≡◌, refl, true, false, leb, List, [], ◌∷◌, length, Ok, Option, Some, None, unwrap_or}
 use Rattle.std.proofs.Common.{ap, sym, subst, arith, lt-ltb, le-ltb, leb-true, leb-false}
+use Rattle.std.proofs.Math.Logic.{∥∥₁_map, ∥∥₁_elim}
+use Rattle.std.proofs.Props.{props}
 use Rattle.rules.specs.Grid.{Grid}
 use Rattle.model.specs.Board.{State}
 use Rattle.model.specs.Calls as model
@@ -9,10 +11,11 @@ use Rattle.boardview.specs.View.{logged, grid_in, Ready, view}
 use Rattle.boardview.specs.Unwind.{back_to}
 use Rattle.board.specs.Past.{Past, begun, marked, past_fresh, past_marked, same_many}
 use Rattle.board.specs.Standing.{marks_in, Popped}
+use Rattle.board.specs.Holds.{Holds, IsHeld}
 use Rattle.board.specs.Held.{Held, number_of, index_of, Says, declined_with}
 use Rattle.board.specs.declared.Declined.{Declined}
 use Rattle.board.specs.declared.Declined.TheVariants.{NoCheckpoint}
-use Rattle.board.specs.declared.Board.{Board}
+use Rattle.board.specs.declared.parts.Board.{Board}
 use Rattle.board.specs.declared.marks.Marks.{Marks}
 
 -- a declined call: its number and index, and the board as it was
@@ -30,23 +33,31 @@ module _ (b : Board) (B : model.Board) (held : Held b B) where
       let most : 256 ≤ length (marks_in b.marks) = leb-true 256 (length (marks_in b.marks)) (sym full) in
       rw (le-ltb (length B.standing) 256 (omega (arith, standing_same, most)), model.add_checkpoint) (declined NoCheckpoint held)
 
-  pub room_for_mark : false ≡ leb 256 (length (marks_in b.marks)) → length (marks_in b.marks) < 256
-  room_for_mark room = leb-false 256 (length (marks_in b.marks)) (sym room)
+  marked_holds : (marks : Marks) → marks_in marks ≡ b.arrays.count ∷ marks_in b.marks
+      → Holds b.arrays b.kinds b.fresh marks (record { grid = B.grid; state = B.state; standing = B.state ∷ B.standing })
+  marked_holds marks more = record {
+    told = held.told;
+    ready = held.ready;
+    shows = held.shows;
+    no_entries = held.no_entries;
+    past = rw (more, ← held.shows) (past_marked (grid_in b.kinds) B.grid b.arrays held.ready held.past);
+  }
 
   pub checkpoint_added : length (marks_in b.marks) < 256 → (marks : Marks) → marks_in marks ≡ b.arrays.count ∷ marks_in b.marks
-      → Says (record { said = Ok 0; board = record { arrays = b.arrays; kinds = b.kinds; fresh = b.fresh; marks = marks } }) (model.add_checkpoint B)
+      → (h : ∥ IsHeld b.arrays b.kinds b.fresh marks ∥₁)
+      → Says (record { said = Ok 0; board = record { arrays = b.arrays; kinds = b.kinds; fresh = b.fresh; marks = marks; held = h } }) (model.add_checkpoint B)
   unfolding model.add_checkpoint
-  checkpoint_added room marks more = rw (lt-ltb (length B.standing) 256 (omega (arith, standing_same)), model.add_checkpoint) (record {
+  checkpoint_added room marks more h = rw (lt-ltb (length B.standing) 256 (omega (arith, standing_same)), model.add_checkpoint) (record {
     number = refl;
     answer = refl;
-    board = record {
-      told = held.told;
-      ready = held.ready;
-      shows = held.shows;
-      no_entries = held.no_entries;
-      past = rw (more, ← held.shows) (past_marked (grid_in b.kinds) B.grid b.arrays held.ready held.past);
-    };
+    board = marked_holds marks more;
   })
+
+pub room_for_mark : (marks : Marks) → false ≡ leb 256 (length (marks_in marks)) → length (marks_in marks) < 256
+room_for_mark marks room = leb-false 256 (length (marks_in marks)) (sym room)
+
+pub marked_held : (b : Board) (marks : Marks) → marks_in marks ≡ b.arrays.count ∷ marks_in b.marks → ∥ IsHeld b.arrays b.kinds b.fresh marks ∥₁
+marked_held b marks more = ∥∥₁_map b.held (λ h. (_, marked_holds b h.0 h.1 marks more))
 
 -- UNDO
 same_grid : (g : Grid) (states : List State) → model.undo_to g states ≡ record { grid = g; state = (model.undo_to g states).state; standing = (model.undo_to g states).standing }
@@ -83,15 +94,22 @@ module _ (b : Board) (B : model.Board) (held : Held b B) (last : Option ℕ) (ma
   behind : Back (grid_in b.kinds) B.grid b.fresh b.arrays mark (marks_in marks) B.standing
   behind = back (grid_in b.kinds) B.grid b.fresh held.no_entries b.arrays (marks_in b.marks) last (marks_in marks) B.standing held.past popped
 
-  pub mark_low : mark % 1024 ≤ logged b.arrays
-  mark_low = behind.low
-
-  pub undone : {s : Arrays} → s ≡ back_to (grid_in b.kinds).width b.arrays mark → Held (record { arrays = s; kinds = b.kinds; fresh = b.fresh; marks = marks }) (model.undo B)
+  pub undone : {s : Arrays} → s ≡ back_to (grid_in b.kinds).width b.arrays mark → Holds s b.kinds b.fresh marks (model.undo B)
   unfolding model.undo
-  undone {s} is = subst (λ (A : model.Board). Held (record { arrays = s; kinds = b.kinds; fresh = b.fresh; marks = marks }) A) (sym (same_grid B.grid B.standing)) (rw is (record {
+  undone {s} is = subst (λ (A : model.Board). Holds s b.kinds b.fresh marks A) (sym (same_grid B.grid B.standing)) (rw is (record {
     told = held.told;
     ready = behind.ready;
     shows = behind.shows;
     no_entries = held.no_entries;
     past = behind.past;
   }))
+
+module _ (b : Board) (last : Option ℕ) (marks : Marks) (popped : Popped (marks_in b.marks) last (marks_in marks)) where
+  pub mark_low : unwrap_or last b.fresh % 1024 ≤ logged b.arrays
+  mark_low = ∥∥₁_elim b.held one_way (λ h. (behind b h.0 h.1 last marks popped).low)
+    where
+      one_way : IsProp (unwrap_or last b.fresh % 1024 ≤ logged b.arrays)
+      one_way = Prim.hlevel props
+
+  pub undone_held : {s : Arrays} → s ≡ back_to (grid_in b.kinds).width b.arrays (unwrap_or last b.fresh) → ∥ IsHeld s b.kinds b.fresh marks ∥₁
+  undone_held is = ∥∥₁_map b.held (λ h. (model.undo h.0, undone b h.0 h.1 last marks popped is))

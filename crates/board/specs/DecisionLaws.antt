@@ -6,6 +6,7 @@ use Rattle.std.specs.Prelude.{◌≡◌, refl, true, false, List, [], ◌∷◌,
 use Rattle.std.proofs.Math.Path.{sym, ap}
 use Rattle.std.proofs.Common.{◌∙◌, subst}
 use borrow.Author.Tests.{eq-eqb, ne_eqb}
+use Rattle.std.proofs.Math.Logic.{∥∥₁_map}
 use Rattle.rules.specs.Grid.{Edge, edge, no_edge, blank_cell, Grid, grid_of}
 use Rattle.rules.specs.Drawing.{num}
 use Rattle.model.specs.Board.{EdgeState, line_or_none, decide, enough}
@@ -23,10 +24,11 @@ use Rattle.boardview.specs.SameKinds.{shown_decides}
 use Rattle.boardview.specs.Undecided.{enough_here}
 use Rattle.board.specs.Past.{past_since, past_fresh}
 use Rattle.board.specs.Standing.{marks_in}
+use Rattle.board.specs.Holds.{Holds, IsHeld}
 use Rattle.board.specs.Held.{Held, Says, declined_with}
 use Rattle.board.specs.declared.Declined.TheVariants.{Grid as of_grid, NoEdge, NoState}
 use Rattle.board.specs.CallLaws.{declined}
-use Rattle.board.specs.declared.Board.{Board}
+use Rattle.board.specs.declared.parts.Board.{Board}
 use Rattle.board.specs.declared.marks.Marks.{Marks}
 use Rattle.board.specs.declared.Answer.{Answer}
 
@@ -42,20 +44,22 @@ module _ (b : Board) (B : model.Board) (held : Held b B) (e : Edge) (m : EdgeSta
       ∙ shown_decides held.told (enough (grid_in b.kinds)) e m B.state
       ∙ ap (λ (f : ℕ). decide B.grid f e m B.state) same_bound
 
-  pub decided_says : {answer : ℕ} → answer ≡ num (flag_in s.count)
-      → Says (record { said = Ok answer; board = record { arrays = s; kinds = b.kinds; fresh = b.fresh; marks = b.marks } }) (model.decided B e m)
-  unfolding view
-  decided_says flag = record {
-    number = refl;
-    answer = flag ∙ ap (λ S. num S.flag) state_after;
-    board = record {
-      told = held.told;
-      ready = did.ready;
-      shows = state_after;
-      no_entries = held.no_entries;
-      past = past_since (grid_in b.kinds) B.grid held.no_entries b.arrays s did.since did.ready.log_long held.past;
-    };
+  decided_holds : Holds s b.kinds b.fresh b.marks (model.decided B e m).board
+  decided_holds = record {
+    told = held.told;
+    ready = did.ready;
+    shows = state_after;
+    no_entries = held.no_entries;
+    past = past_since (grid_in b.kinds) B.grid held.no_entries b.arrays s did.since did.ready.log_long held.past;
   }
+
+  pub decided_says : (h : ∥ IsHeld s b.kinds b.fresh b.marks ∥₁) {answer : ℕ} → answer ≡ num (flag_in s.count)
+      → Says (record { said = Ok answer; board = record { arrays = s; kinds = b.kinds; fresh = b.fresh; marks = b.marks; held = h } }) (model.decided B e m)
+  unfolding view
+  decided_says h flag = record { number = refl; answer = flag ∙ ap (λ S. num S.flag) state_after; board = decided_holds }
+
+pub decided_held : (b : Board) (e : Edge) (m : EdgeState) (s : Arrays) → Decided (grid_in b.kinds) b.arrays e m s → ∥ IsHeld s b.kinds b.fresh b.marks ∥₁
+decided_held b e m s did = ∥∥₁_map b.held (λ h. ((model.decided h.0 e m).board, decided_holds b h.0 h.1 e m s did))
 
 -- NOT A PLACE, and not a state
 module _ (b : Board) (B : model.Board) (held : Held b B) (y x : ℕ) where
@@ -93,10 +97,10 @@ module _ (b : Board) (B : model.Board) (held : Held b B) (y x : ℕ) where
     edge_read is = rw there (record { number = refl; answer = is ∙ ap (λ S. model.state_byte (S.edge e)) held.shows; board = held })
 
 -- THE FRESH BOARD
-pub fresh_held : (g : Grid) (s : Arrays) (kinds : Kinds) (marks : Marks) → FreshBoard g s.edges s.ends kinds s.count → length s.log ≡ 1440 → marks_in marks ≡ []
-    → Held (record { arrays = s; kinds = kinds; fresh = s.count; marks = marks }) (model.fresh_board g)
+pub fresh_holds : (g : Grid) (s : Arrays) (kinds : Kinds) (marks : Marks) → FreshBoard g s.edges s.ends kinds s.count → length s.log ≡ 1440 → marks_in marks ≡ []
+    → Holds s kinds s.count marks (model.fresh_board g)
 unfolding model.fresh_board
-fresh_held g s kinds marks new long none = record {
+fresh_holds g s kinds marks new long none = record {
   told = new.told;
   ready = new.ready s.log long;
   shows = new.shows s.log;
@@ -120,6 +124,6 @@ module _ (height width : ℕ) (cells : List ℤ) where
       same_grid = λ i. grid_of (same.0 i) (same.1 i) (same.2 i)
 
 -- the fresh 2 by 2 blank board
-pub blank_held : {b : Board} → Held b (model.fresh_board (grid_of 2 2 (blank_cell ∷ blank_cell ∷ blank_cell ∷ blank_cell ∷ []))) → Held b model.blank_board
+pub blank_held : (b : Board) → Held b (model.fresh_board (grid_of 2 2 (blank_cell ∷ blank_cell ∷ blank_cell ∷ blank_cell ∷ []))) → Held b model.blank_board
 unfolding model.blank_board
-blank_held held = held
+blank_held b held = held

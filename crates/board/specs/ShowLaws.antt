@@ -16,7 +16,7 @@ use Rattle.model.specs.PutBytes.{put_bytes}
 use Rattle.boardview.specs.ShownRecord.{record_shown, bytes_shown, edges_only}
 use Rattle.boardview.specs.ShownRecordLaws.{one_more}
 use Rattle.board.specs.Held.{Held, Shows}
-use Rattle.board.specs.declared.Board.{Board}
+use Rattle.board.specs.declared.parts.Board.{Board}
 use Rattle.board.specs.declared.shown.Shown.{Shown}
 
 -- LAID OUT: the first i elements are f at 0, 1, and so on

@@ -1,10 +1,7 @@
--- The sizes that a board shows are in range, so that it has few places and pads; and each call hands back a board. Assumes nothing.
+-- The sizes that a board shows are in range, so that it has few places and pads. Assumes nothing.
 use Rattle.std.specs.Prelude.{◌*◌, ◌-◌, ◌≤◌}
 use Rattle.std.proofs.Common.{mul-le-mul}
 use Rattle.rules.specs.Places.{few_places as few}
-use Rattle.model.specs.Calls as model
-use Rattle.board.specs.Held.{IsBoard, Says}
-use Rattle.board.specs.declared.Answer.{Answer}
 use Rattle.board.specs.declared.shown.Shown.{Shown}
 
 pub few_places : (r : Shown) → (2 * r.height - 1) * (2 * r.width - 1) ≤ 961
@@ -12,6 +9,3 @@ few_places r = few r.height r.width r.sizes.0.1 r.sizes.1.1
 
 pub few_pads : (r : Shown) → r.height * r.width ≤ 256
 few_pads r = mul-le-mul r.sizes.0.1 r.sizes.1.1
-
-pub answered : {r : Answer} {A : model.Answer} → Says r A → IsBoard r.board
-answered {r} {A} says = (A.board, says.board)

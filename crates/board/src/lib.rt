@@ -11,27 +11,19 @@ ghost use Rattle.grid.specs.AsGrid.{as_grid};
 ghost use Rattle.grid.specs.PadsAt.{pads_of, edge_of};
 ghost use Rattle.boardview.specs.View.{grid_in};
 ghost use Rattle.boardview.specs.ShownRecord.{record_shown};
-ghost use Rattle.board.specs.Held.{Held, IsBoard, number_said, answer_said, Says, Shows, declined_with};
+ghost use Rattle.board.specs.Held.{Held, number_said, answer_said, Says, Shows, declined_with};
 ghost use Rattle.board.specs.ShowLaws.{Laid, end_at_index};
 
-use boardview::{Arrays, Kinds};
+use boardview::Kinds;
 use grid::{Edge, Grid, Pads, Refusal};
 use marks::Marks;
 
 mod marks;
+mod parts;
 mod shown;
 
+pub use parts::Board;
 pub use shown::Shown;
-
-// The arrays; what is told of the grid; the count of the fresh board, to which undo with no checkpoint standing goes back, flag and all;
-// and the marks of the standing checkpoints: the count that stood then.
-#[derive(Clone, Copy)]
-pub struct Board {
-    arrays: Arrays,
-    kinds: Kinds,
-    fresh: usize,
-    marks: Marks,
-}
 
 // Why a call is declined: the grid of a new board is, there is no edge at the place, the state is neither a line nor none, or as many
 // checkpoints stand as may.
@@ -125,21 +117,20 @@ fn blank() -> Board
 
 // The board and the flag after the edge between two pads is decided.
 fn decided(board: Board, pads: Pads, line: bool) -> Answer
-    requires { IsBoard board × OnBoard (grid_in board.kinds) (edge_of pads) }
+    requires { OnBoard (grid_in board.kinds) (edge_of pads) }
     ensures { (B : model.Board) → Held board B → Says result (model.decided B (edge_of pads) (line_or_none line)) }
 {
-    let mut after = board;
-    decision::decide(
-        &mut after.arrays,
-        &after.kinds,
-        pads.direction,
-        pads.first,
-        line,
-    );
-    let answer = usize::from(after.arrays.is_flagged());
+    let mut arrays = board.arrays;
+    decision::decide(&mut arrays, &board.kinds, pads.direction, pads.first, line);
+    let answer = usize::from(arrays.is_flagged());
     Answer {
         said: Ok(answer),
-        board: after,
+        board: Board {
+            arrays,
+            kinds: board.kinds,
+            fresh: board.fresh,
+            marks: board.marks,
+        },
     }
 }
 
@@ -178,7 +169,6 @@ impl Board {
 
     // Decides the edge at a place, any numbers; 10 no such edge place, then 11 a state neither 1 nor 2; accepted, the answer is the flag.
     pub fn decide_edge(self, y: usize, x: usize, state: Edge) -> Answer
-        requires { IsBoard self }
         ensures { (B : model.Board) → Held self B → Says result (model.decide_edge B y x state.0) }
     {
         let Some(pads) = pads_at(&self.kinds, y, x) else {
@@ -195,7 +185,6 @@ impl Board {
 
     // Reads the edge at a place, any numbers; 10 no such edge place; accepted, the answer is the edge's byte.
     pub fn get_edge(self, y: usize, x: usize) -> Answer
-        requires { IsBoard self }
         ensures { (B : model.Board) → Held self B → Says result (model.read_edge B y x) }
     {
         let Some(pads) = pads_at(&self.kinds, y, x) else {
@@ -210,31 +199,42 @@ impl Board {
 
     // A checkpoint; 12 with 256 standing.
     pub fn add_checkpoint(self) -> Answer
-        requires { IsBoard self }
         ensures { (B : model.Board) → Held self B → Says result (model.add_checkpoint B) }
     {
         if self.marks.is_full() {
             return decline(self, Declined::NoCheckpoint);
         }
-        let mut board = self;
-        board.marks.push(self.arrays.count);
-        Answer { said: Ok(0), board }
+        let mut marks = self.marks;
+        marks.push(self.arrays.count);
+        Answer {
+            said: Ok(0),
+            board: Board {
+                arrays: self.arrays,
+                kinds: self.kinds,
+                fresh: self.fresh,
+                marks,
+            },
+        }
     }
 
     // Back to the last checkpoint not yet undone, or to the fresh board.
     pub fn undo(self) -> Board
-        requires { IsBoard self }
         ensures { (B : model.Board) → Held self B → Held result (model.undo B) }
     {
-        let mut board = self;
-        let mark = board.marks.pop().unwrap_or(self.fresh);
-        boardundo::undo(&mut board.arrays, &board.kinds, mark);
-        board
+        let mut marks = self.marks;
+        let mark = marks.pop().unwrap_or(self.fresh);
+        let mut arrays = self.arrays;
+        boardundo::undo(&mut arrays, &self.kinds, mark);
+        Board {
+            arrays,
+            kinds: self.kinds,
+            fresh: self.fresh,
+            marks,
+        }
     }
 
     // Edges, ends and flag.
     pub fn shown(self) -> Shown
-        requires { IsBoard self }
         ensures { (B : model.Board) → Held self B → Shows result B }
     {
         Shown {

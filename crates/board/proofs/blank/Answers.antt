@@ -3,4 +3,4 @@ use Rattle.board.specs.DecisionLaws.{blank_held}
 use Rattle.board.proofs.blank.Goals as goal
 
 pub returns : goal.returns
-returns c = blank_held c.fresh.ensures
+returns c = blank_held c.fresh.result c.fresh.ensures
