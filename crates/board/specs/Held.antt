@@ -1,37 +1,25 @@
--- What a board of the code holds of the model's board, and what an answer says. A board that the calls handed out holds one (IsBoard); that,
--- and no more, is given of it. It rests on Past.antt, boardview's View.antt and the model's Calls.antt.
-use Rattle.std.specs.Prelude.{ℕ, ◌*◌, ◌%◌, ◌≤◌, ◌≡◌, length, take, Result, Ok, Err}
+-- What a board of the code holds of the model's board, and what an answer says. It rests on Holds.antt and the model's Calls.antt.
+use Rattle.std.specs.Prelude.{ℕ, ◌*◌, ◌≡◌, List, take, Result, Ok, Err, ℤ}
+use Rattle.std.proofs.Math.Logic.{∥∥₁_elim}
 use Rattle.rules.specs.Grid.{places}
 use Rattle.model.specs.Calls as model
 use Rattle.grid.specs.Answers as grid
-use Rattle.boardview.specs.declared.Arrays.{Arrays}
-use Rattle.boardview.specs.View.{grid_in, Kinds, Ready, view}
-use Rattle.boardview.specs.SameKinds.{Shows as Told}
-use Rattle.board.specs.Past.{Past, standing_marks}
-use Rattle.board.specs.declared.Board.{Board}
+use Rattle.boardview.specs.View.{grid_in, Ready}
+use Rattle.board.specs.ReadyOneWay.{ready_one_way}
+use Rattle.board.specs.Holds.{Holds}
+use Rattle.board.specs.declared.parts.Board.{Board}
 use Rattle.board.specs.declared.Answer.{Answer}
 use Rattle.board.specs.declared.Declined.{Declined}
 use Rattle.board.specs.declared.Declined.TheVariants.{Grid, NoEdge, NoState, NoCheckpoint}
-use Rattle.board.specs.declared.Shown.{Shown}
+use Rattle.board.specs.declared.shown.Shown.{Shown}
 
--- the arrays of a board
-abbrev pub arrays_of : Board → Arrays
-arrays_of b = b.arrays
+-- HELD: the board of the model that a board of the code holds
+abbrev pub Held : Board → model.Board → Type 0
+Held b B = Holds b.arrays b.kinds b.fresh b.marks B
 
--- HELD: the grid, the state, and the states at the standing checkpoints; behind them the fresh board, whose log is empty
-pub record Held (b : Board) (B : model.Board) : Type 0 where
-  pub kinds : Kinds b.kind
-  pub told : Told B.grid b.kind
-  pub ready : Ready (grid_in b.kind) (arrays_of b)
-  pub shows : view (arrays_of b) ≡ B.state
-  pub few : b.standing ≤ 256
-  pub many : length b.marks ≡ 256
-  pub no_entries : b.fresh % 1024 ≡ 0
-  pub past : Past (grid_in b.kind) B.grid b.fresh (arrays_of b) (standing_marks b.marks b.standing) B.standing
-
--- A BOARD that the calls handed out
-abbrev pub IsBoard : Board → Type 0
-IsBoard b = (B : model.Board) × Held b B
+-- what is true of the arrays of every board
+pub ready_held : (b : Board) → Ready (grid_in b.kinds) b.arrays
+ready_held b = ∥∥₁_elim b.held ready_one_way (λ h. h.1.ready)
 
 -- WHAT AN ANSWER SAYS: document 01's number, 0 if accepted; and the answer, beside a number the index of the first bad cell, or 0
 abbrev pub number_of : Declined → ℕ
@@ -65,9 +53,15 @@ abbrev pub declined_with : Declined → Board → Answer
 declined_with why b = record { said = Err why; board = b }
 
 -- WHAT A BOARD SHOWS: its sizes, edges as a record, ends and flag; past them the arrays are of no account
+abbrev pub edges_of : Shown → List ℕ
+edges_of r = take (places r.height r.width) r.edges
+
+abbrev pub ends_of : Shown → List ℤ
+ends_of r = take (r.height * r.width) r.ends
+
 pub record Shows (r : Shown) (B : model.Board) : Type 0 where
   pub height : r.height ≡ B.grid.height
   pub width : r.width ≡ B.grid.width
-  pub edges : take (places r.height r.width) r.edges ≡ (model.shown B).edges
-  pub ends : take (r.height * r.width) r.ends ≡ (model.shown B).ends
+  pub edges : edges_of r ≡ (model.shown B).edges
+  pub ends : ends_of r ≡ (model.shown B).ends
   pub flag : r.flag ≡ (model.shown B).flag

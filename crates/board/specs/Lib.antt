@@ -1,5 +1,8 @@
 -- What the board's calls say of the model's, and why.
 pub mod Past
+pub mod Standing
+pub mod ReadyOneWay
+pub mod Holds
 pub mod PlaceLaws
 pub mod Held
 pub mod CallLaws

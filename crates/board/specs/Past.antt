@@ -2,9 +2,9 @@
 -- undoing the entries of the log made since gives them. A checkpoint is marked by the count that stood then: the log's length and the flag;
 -- and so is the fresh board, whose log is empty and whose flag may be set.
 -- It rests on boardview's View.antt and Unwind.antt.
-use Rattle.std.specs.Prelude.{ℕ, zero, suc, ◌+◌, ◌*◌, ◌-◌, ◌%◌, ◌≤◌, ◌<◌, ◌≡◌, List, [], ◌∷◌, get_or, set, length, ℤ, pos}
+use Rattle.std.specs.Prelude.{ℕ, suc, ◌+◌, ◌*◌, ◌-◌, ◌%◌, ◌≤◌, ◌<◌, ◌≡◌, List, [], ◌∷◌, get_or, length, ℤ, pos}
 use Rattle.std.proofs.Math.Path.{refl}
-use Rattle.std.proofs.Common.{ap, ◌∙◌, get_or-set_same, get_or-set_other}
+use Rattle.std.proofs.Common.{ap, ◌∙◌}
 use native.Mathlib.Omega.{arith}
 use Rattle.rules.specs.Grid.{Grid}
 use Rattle.model.specs.Board.{State, fresh}
@@ -92,22 +92,3 @@ module _ (told g : Grid) where
   pub past_marked : (s : Arrays) {start : ℕ} {marks : List ℕ} {states : List State} → Ready told s → Past told g start s marks states
       → Past told g start s (s.count ∷ marks) (view s ∷ states)
   past_marked s {marks} {states} ready past = let at = here s in marked {s = s} {mark = s.count} {marks = marks} {states = states} (omega arith) (rw at ready) (ap view at) (rw at past)
-
--- THE MARKS that stand, the last one first
-unfoldable pub standing_marks : List ℕ → ℕ → List ℕ
-standing_marks marks zero = []
-standing_marks marks (suc n) = get_or marks n 0 ∷ standing_marks marks n
-
-pub as_many : (marks : List ℕ) (n : ℕ) → length (standing_marks marks n) ≡ n
-unfolding standing_marks
-as_many marks zero = refl
-as_many marks (suc n) = ap suc (as_many marks n)
-
-pub other_mark : (marks : List ℕ) (n i mark : ℕ) → n ≤ i → standing_marks (set marks i mark) n ≡ standing_marks marks n
-unfolding standing_marks
-other_mark marks zero i mark low = refl
-other_mark marks (suc n) i mark low = rw (other_mark marks n i mark (omega arith), get_or-set_other marks i n mark 0 (λ same. omega arith)) refl
-
-pub one_more_mark : (marks : List ℕ) (n mark : ℕ) → n < length marks → standing_marks (set marks n mark) (suc n) ≡ mark ∷ standing_marks marks n
-unfolding standing_marks
-one_more_mark marks n mark low = rw (other_mark marks n n mark (omega arith), get_or-set_same marks n mark 0 low) refl

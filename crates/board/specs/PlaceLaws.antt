@@ -2,19 +2,16 @@
 -- EdgeAtLaws.antt and grid's PadsAt.antt.
 use Rattle.std.specs.Prelude.{ℕ, ◌≤◌, ◌<◌, ◌≡◌, true, Option, Some, None}
 use Rattle.std.proofs.Math.Path.{refl, ap}
-use Rattle.std.proofs.Common.{sym, ◌∙◌, subst, arith}
-use Rattle.rules.specs.Grid.{Edge, right, down, edge, no_edge, place_at, field_side, Grid, pads, OnBoard}
+use Rattle.std.proofs.Common.{sym, ◌∙◌, arith}
+use Rattle.rules.specs.Grid.{Edge, edge, no_edge, place_at, field_side, Grid, pads, OnBoard}
 use Rattle.rules.specs.Places.{first_inside, zero≢one}
 use Rattle.model.specs.PadTests.{on_board}
-use Rattle.model.specs.Board.{EdgeState}
 use Rattle.model.specs.BoardLaws.{on_board_test}
 use Rattle.model.specs.Calls.{edge_at}
 use Rattle.model.specs.EdgeAtLaws.{row_outside, column_outside, in_field, edge_at_on}
+use Rattle.grid.specs.Directions.{edge_to, first_to}
 use Rattle.grid.specs.PadsAt.{pads_of, edge_of, place_of, IfEdge, edge_nowhere, told_place}
 use Rattle.grid.specs.declared.Pads.{Pads}
-use Rattle.grid.specs.declared.Pads.TheVariants.{Beside, Above}
-use Rattle.boardview.specs.declared.Arrays.{Arrays}
-use Rattle.boardview.specs.View.{Decided}
 
 -- THE PADS AT A PLACE, by the tests that the code makes
 module _ (g : Grid) (y x : ℕ) where
@@ -51,26 +48,12 @@ module _ (g : Grid) (y x : ℕ) where
     pub told_on_board : 2 ≤ g.width → OnBoard g (edge_of pads)
     told_on_board wide = edge_at_on g y x wide (edge_of pads) one_there
 
--- THE EDGE OF TWO PADS, by how they stand
-module _ (g : Grid) (few : pads g ≤ 256) (there : Pads) (on : OnBoard g (edge_of there)) {a b : ℕ} where
-  module _ (are : there ≡ Beside a b) where
-    beside : edge_of there ≡ right a
-    unfolding edge_of
-    beside = ap edge_of are
+-- THE EDGE OF TWO PADS, by its direction and its first pad
+module _ (g : Grid) (few : pads g ≤ 256) (there : Pads) (on : OnBoard g (edge_of there)) where
+  pub decidable : (there.first < 256) × (on_board g (edge_to there.direction there.first) ≡ true)
+  unfolding edge_of
+  decidable = (omega (arith, first_inside g (edge_of there) on, few, first_to there.direction there.first), on_board_test g (edge_of there) on)
 
-    pub beside_on : (on_board g (right a) ≡ true) × (a < 256)
-    beside_on = let h = subst (OnBoard g) beside on in (on_board_test g (right a) h, omega (arith, first_inside g (right a) h))
-
-    pub beside_decided : {s s' : Arrays} {m : EdgeState} → Decided g s (right a) m s' → Decided g s (edge_of there) m s'
-    beside_decided did = rw beside did
-
-  module _ (are : there ≡ Above a b) where
-    above : edge_of there ≡ down a
-    unfolding edge_of
-    above = ap edge_of are
-
-    pub above_on : (on_board g (down a) ≡ true) × (a < 256)
-    above_on = let h = subst (OnBoard g) above on in (on_board_test g (down a) h, omega (arith, first_inside g (down a) h))
-
-    pub above_decided : {s s' : Arrays} {m : EdgeState} → Decided g s (down a) m s' → Decided g s (edge_of there) m s'
-    above_decided did = rw above did
+pub edge_is : (there : Pads) → edge_to there.direction there.first ≡ edge_of there
+unfolding edge_of
+edge_is there = refl

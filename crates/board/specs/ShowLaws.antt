@@ -15,9 +15,9 @@ use Rattle.model.specs.Lists.{default_free}
 use Rattle.model.specs.PutBytes.{put_bytes}
 use Rattle.boardview.specs.ShownRecord.{record_shown, bytes_shown, edges_only}
 use Rattle.boardview.specs.ShownRecordLaws.{one_more}
-use Rattle.board.specs.Held.{arrays_of, Held, Shows}
-use Rattle.board.specs.declared.Board.{Board}
-use Rattle.board.specs.declared.Shown.{Shown}
+use Rattle.board.specs.Held.{Held, Shows}
+use Rattle.board.specs.declared.parts.Board.{Board}
+use Rattle.board.specs.declared.shown.Shown.{Shown}
 
 -- LAID OUT: the first i elements are f at 0, 1, and so on
 pub record Laid {A : Type 0} (f : ℕ → A) (size : ℕ) (list : List A) (i : ℕ) : Type 0 where
@@ -73,9 +73,9 @@ end_at_index ends v = get_or ends v (pos 0)
 
 module _ (b : Board) (B : model.Board) (held : Held b B) where
   abbrev told : Grid
-  told = grid_in b.kind
+  told = grid_in b.kinds
 
-  ends_shown : (n : ℕ) → n ≤ 256 → tabulate (end_at_index b.arrays.ends) 0 n ≡ tabulate (λ v. end_number ((view (arrays_of b)).end v)) 0 n
+  ends_shown : (n : ℕ) → n ≤ 256 → tabulate (end_at_index b.arrays.ends) 0 n ≡ tabulate (λ v. end_number ((view b.arrays).end v)) 0 n
   unfolding view
   ends_shown n few = tabulate_same (end_at_index b.arrays.ends) _ 0 n (λ v low below. default_free b.arrays.ends v (pos 0) (pos v) (omega (arith, held.ready.ends_long)) ∙ sym (number_of_end (get_or b.arrays.ends v (pos v))))
 
@@ -95,5 +95,5 @@ module _ (b : Board) (B : model.Board) (held : Held b B) where
       same_field : record_shown told b.arrays.edges ≡ (model.shown B).edges
       same_field = λ i. field (held.told.height i) (held.told.width i) (λ e. model.state_byte ((held.shows i).edge e))
 
-      same_ends : tabulate (λ v. end_number ((view (arrays_of b)).end v)) 0 (pads told) ≡ (model.shown B).ends
+      same_ends : tabulate (λ v. end_number ((view b.arrays).end v)) 0 (pads told) ≡ (model.shown B).ends
       same_ends = λ i. tabulate (λ v. end_number ((held.shows i).end v)) 0 (held.told.height i * held.told.width i)

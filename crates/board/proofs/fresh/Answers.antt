@@ -1,8 +1,9 @@
 -- `board::fresh` meets its contract: the fresh arrays show the model's fresh board, and no checkpoint stands. Assumes nothing.
-use Prim.Native.Nat.{ℕ}
-use lib.ListN.{length-replicate}
-use Rattle.board.specs.DecisionLaws.{fresh_held}
+use Rattle.board.specs.DecisionLaws.{fresh_holds}
 use Rattle.board.proofs.fresh.Goals as goal
 
 pub returns : goal.returns
-returns c = fresh_held _ _ _ _ _ _ _ c.fresh_board-fresh.ensures.0 c.fresh_board-fresh.ensures.1 (length-replicate {A = ℕ} 256 0)
+returns c = fresh_holds _ _ _ _ c.fresh_board-fresh.ensures.0 c.fresh_board-fresh.ensures.1 c.none.ensures
+
+pub invariant_of-result : goal.invariant_of-result
+invariant_of-result c = record { held = ∣ (_, fresh_holds _ _ _ _ c.fresh_board-fresh.ensures.0 c.fresh_board-fresh.ensures.1 c.none.ensures) ∣₁ }
