@@ -1,10 +1,12 @@
 -- Record k of a buffer: what its line is where there is one. And for records that were put into a buffer one after the other, each as long
 -- as the field has places, the lines there are the lines of the records. It rests on Listing.antt and the model's HasRecord.antt.
-use Rattle.std.specs.Prelude.{ℕ, zero, suc, ◌+◌, ◌*◌, ◌≤◌, ◌<◌, ◌≡◌, Bool, length}
+use Rattle.std.specs.Prelude.{ℕ, zero, suc, ◌+◌, ◌*◌, ◌≤◌, ◌<◌, ◌≡◌, Bool, ◌&&◌, length}
 use Rattle.std.proofs.Math.Path.{refl, ap}
 use Rattle.std.proofs.Common.{sym, ◌∙◌, arith, length-drop, length-take-le}
 use Rattle.std.proofs.Math.Bool.{true, false}
 use mathlib.Core.List.{List, [], ◌∷◌, ◌++◌, append_assoc, Memᴰ}
+use mathlib.Core.Bool.{and-false}
+use borrow.Author.Tests.{le-ltb}
 use Rattle.std.proofs.Math.ListN.{length-append}
 use Rattle.rules.specs.Grid.{places}
 use Rattle.rules.specs.Places.{some_places}
@@ -28,31 +30,38 @@ module _ (height width count k : ℕ) (buffer : List ℕ) where
   unfolding line_text
   that_line t = rw (record_is_there _ _ _ _ _ t) refl
 
-  -- an empty part is no record, and nothing is printed for it
-  pub no_line : length (record_at height width count k buffer) ≡ 0 → line_text height width count k buffer ≡ []
-  unfolding line_text
-  no_line e = go (has_record height width count k (length buffer)) refl
-    where
-      go : (b : Bool) → has_record height width count k (length buffer) ≡ b → line_text height width count k buffer ≡ []
-      go false h = rw h refl
-      go true h =
-          let t = what_a_record_has _ _ _ _ _ h in
-          absurd (omega (arith, part_length t, some_places height width (size_of_test height t.tall).0 (size_of_test width t.wide).0))
+  -- from the count on there is none
+  pub no_part : count ≤ k → record_at height width count k buffer ≡ []
+  unfolding record_at has_record
+  no_part h = rw (le-ltb k count h, and-false (is_size height && is_size width)) refl
 
-  -- any other part is record k
-  pub some_line : (length (record_at height width count k buffer) ≡ 0 → ⊥) → HasRecord height width count k (length buffer)
-  unfolding record_at
-  some_line e = go (has_record height width count k (length buffer)) refl
-    where
-      go : (b : Bool) → has_record height width count k (length buffer) ≡ b → HasRecord height width count k (length buffer)
-      go true h = what_a_record_has _ _ _ _ _ h
-      go false h = absurd (e (rw h refl))
+  module _ (part : List ℕ) (same : part ≡ record_at height width count k buffer) where
+    -- an empty part is no record, and nothing is printed for it
+    pub no_line : length part ≡ 0 → line_text height width count k buffer ≡ []
+    unfolding line_text
+    no_line e = go (has_record height width count k (length buffer)) refl
+      where
+        go : (b : Bool) → has_record height width count k (length buffer) ≡ b → line_text height width count k buffer ≡ []
+        go false h = rw h refl
+        go true h =
+            let t = what_a_record_has _ _ _ _ _ h in
+            absurd (omega (arith, ap length same, e, part_length t, some_places height width (size_of_test height t.tall).0 (size_of_test width t.wide).0))
 
-  -- and the line of this part is that of record k
-  pub line_written : {part : List ℕ} → part ≡ record_at height width count k buffer → HasRecord height width count k (length buffer)
-      → layout_text height width (k + 1) part ≡ line_text height width count k buffer
-  unfolding layout_text
-  line_written e t = rw (that_line t, e, t.tall, t.wide) refl
+    -- any other part is record k
+    pub some_line : (length part ≡ 0 → ⊥) → HasRecord height width count k (length buffer)
+    unfolding record_at
+    some_line e = go (has_record height width count k (length buffer)) refl
+      where
+        go : (b : Bool) → has_record height width count k (length buffer) ≡ b → HasRecord height width count k (length buffer)
+        go true h = what_a_record_has _ _ _ _ _ h
+        go false h = absurd (e (ap length same ∙ rw h refl))
+
+    -- and the line of this part is that of record k
+    pub line_written : HasRecord height width count k (length buffer) → layout_text height width (k + 1) part ≡ line_text height width count k buffer
+    unfolding layout_text
+    line_written t = rw (that_line t, same, t.tall, t.wide) refl
+
+pub ruleset line_laws = (no_part, no_line, some_line, line_written)
 
 -- ## Records one after the other
 

@@ -1,19 +1,14 @@
 -- The head of the text, from what the reader and the search answer: `refused_head` for a refused file, `accepted_head` for an accepted one.
--- They rest on the laws of the reader and on the contract of `solve`.
+-- They rest on the contracts of the reader and of `search`.
 use Prim.Native.Nat.{ℕ, zero, suc, ◌*◌}
-use Rattle.std.specs.Prelude.{◌≡◌, Bool, true, false, List, [], ◌∷◌, take, ℤ, Result, Ok, Err}
-use Rattle.std.proofs.Math.Path.{refl, sym, ap}
-use Rattle.std.proofs.Common.{◌∙◌, arith}
+use Rattle.std.specs.Prelude.{◌≡◌, List, take, ℤ, Ok, Err}
+use Rattle.std.proofs.Math.Path.{refl, ap}
+use Rattle.std.proofs.Common.{arith}
 use Rattle.model.specs.Refusals.{grid_refusal}
 use Rattle.model.specs.RefusalLaws.{accepted_is_not_refused}
 use Rattle.model.specs.Runs as runs
-use Rattle.model.specs.GridFile.{Reading, Standing, read, read_from, start, accepted, declined, refusal, is_complete, after}
-use Rattle.model.specs.Printed.{summary_line}
+use Rattle.model.specs.GridFile.{read}
 use Rattle.model.specs.Routes.{found_within}
-use Rattle.reading.specs.ReadingLaws.{SoundReading, read_sound}
-use Rattle.grid.specs.declared.Refusal.{Refusal}
-use Rattle.grid.specs.declared.Refusal.TheVariants.{Size, CellCount, Cell}
-use Rattle.grid.specs.Answers.{number_of}
 use Rattle.gridfile.specs.declared.Grid.{Grid}
 use Rattle.gridfile.specs.declared.Declined.{Declined}
 use Rattle.gridfile.specs.declared.Fault.{Fault}
@@ -23,30 +18,9 @@ use Rattle.gridfile.specs.Answers.{reading_says}
 use Rattle.tally.specs.declared.Solved.{Solved}
 use Rattle.tally.specs.Answers.{answer_says}
 use Rattle.solver.specs.Answers.{Solves, run_of}
-use Rattle.listing.specs.declared.Heading.{Heading}
 use Rattle.listing.specs.Listing.{grid_found, reading_found, reading_head, put_records, Headed}
 
 -- ## A refused file
-
-some_number : (refusal : Refusal) → number_of refusal ≡ 0 → ⊥
-some_number Size is = omega arith
-some_number CellCount is = omega arith
-some_number (Cell index) is = omega arith
-
--- a declined grid is 0 by 0
-pub declined_sizes : (s : Standing) (bytes : List ℕ) → ((read_from s bytes).number ≡ 0 → ⊥) → ((read_from s bytes).height ≡ 0) × ((read_from s bytes).width ≡ 0)
-unfolding read_from accepted declined
-declined_sizes s [] n = go (is_complete s) refl
-  where
-    go : (b : Bool) → is_complete s ≡ b → ((read_from s []).height ≡ 0) × ((read_from s []).width ≡ 0)
-    go true h = absurd (n (rw (h, read_from) refl))
-    go false h = rw (h, read_from) (refl, refl)
-declined_sizes s (byte ∷ bytes) n = go (refusal s byte) refl (declined_sizes (after s byte) bytes)
-  where
-    go : (m : ℕ) → refusal s byte ≡ m → (((read_from (after s byte) bytes).number ≡ 0 → ⊥) → ((read_from (after s byte) bytes).height ≡ 0) × ((read_from (after s byte) bytes).width ≡ 0))
-        → ((read_from s (byte ∷ bytes)).height ≡ 0) × ((read_from s (byte ∷ bytes)).width ≡ 0)
-    go zero h rest = rw (h, read_from) (rest (rw (h, read_from) at n))
-    go (suc m) h rest = rw (h, read_from) (refl, refl)
 
 pub some_fault : (fault : Fault) → fault_number fault ≡ 0 → ⊥
 some_fault StrayByte is = omega arith
@@ -88,12 +62,7 @@ module _ (file : List ℕ) where
     run = run_of grid.height grid.width cells limit buffer
 
     not_refused : (grid_refusal grid.height grid.width cells).0 ≡ 0
-    not_refused = let sound : SoundReading (reading_says (Ok grid)) = rw same (read_sound file) in
-        ap (λ (x : ℕ × ℕ). x.0) (accepted_is_not_refused grid.height grid.width cells (sound.in_range refl))
-
-    -- the grid of an accepted file is not declined
-    pub never_declined : (refusal : Refusal) (buffer' : List ℕ) → Solves grid.height grid.width cells limit buffer (Err refusal) buffer' → ⊥
-    never_declined refusal buffer' solves = some_number refusal (ap (λ (s : runs.Solved). s.number) (solves.of_run not_refused))
+    not_refused = ap (λ (x : ℕ × ℕ). x.0) (accepted_is_not_refused grid.height grid.width cells grid.accepted)
 
     pub accepted_head : (found : Solved) (buffer' : List ℕ) → Solves grid.height grid.width cells limit buffer (Ok found) buffer'
         → Headed limit file buffer (Ok (record { height = grid.height; width = grid.width; found = found })) buffer'

@@ -25,15 +25,12 @@ pub fn head(file: &[u8], limit: u64, buffer: &mut [u8]) -> Result<Heading, Decli
     ensures { Headed limit file.now buffer.old result buffer.new }
 {
     let grid = gridfile::read(file)?;
-    let pads = grid.height * grid.width;
-    match solver::solve(grid.height, grid.width, &grid.cells[..pads], limit, buffer) {
-        Ok(found) => Ok(Heading {
-            height: grid.height,
-            width: grid.width,
-            found,
-        }),
-        Err(_) => unreachable!(),
-    }
+    let found = solver::search(&grid.accepted(), limit, buffer);
+    Ok(Heading {
+        height: grid.height,
+        width: grid.width,
+        found,
+    })
 }
 
 // The line of the head: the summary line of what was found, or that of a refused file.
@@ -56,6 +53,7 @@ pub fn head_line(found: Result<Solved, Declined>) -> HeadLine
 }
 
 // The line of layout k, from 0; nothing where there is no record k.
+#[tactic(auto, using(crate::specs::BufferRecords::line_laws))]
 pub fn line(buffer: &[u8], height: usize, width: usize, layouts: usize, k: usize) -> LayoutLine
     ensures { result ≡ line_text height width layouts k buffer.now }
 {
