@@ -1,6 +1,6 @@
 -- Laws of the kinds of small grids: how the next grid is found from the last pad on, and which kinds are the first. Assumes nothing.
-use Rattle.std.specs.Prelude.{ℕ, zero, suc, ◌+◌, ◌-◌, ◌≤◌, ◌<◌, ◌≡◌, refl, Bool, true, false, ◌⊎◌, List, map, ltb, ℤ, pos, negsuc, length, get_or, set, replicate}
-use Rattle.std.proofs.Common.{arith, sym, ap, subst, ◌∙◌, inl, inr, ⊎_elim, length-set, get_or-set_same, get_or-set_other, ext_get_or, ltb-true, ltb-false, lt-ltb, le-ltb, add-one}
+use Rattle.std.specs.Prelude.{ℕ, zero, suc, ◌+◌, ◌-◌, ◌≤◌, ◌<◌, ◌≡◌, refl, Bool, true, false, ◌⊎◌, List, map, ltb, ℤ, pos, negsuc, length, get_or, set, take, replicate}
+use Rattle.std.proofs.Common.{length-take-le, get_or-take, arith, sym, ap, subst, ◌∙◌, inl, inr, ⊎_elim, length-set, get_or-set_same, get_or-set_other, ext_get_or, ltb-true, ltb-false, lt-ltb, le-ltb, add-one}
 use Rattle.std.proofs.Math.Decide.{ℕ_discrete}
 use Rattle.std.proofs.lemmas.List.{length-replicate, get_or-replicate, length-map}
 use Rattle.std.proofs.Math.ListN.{get_or-map}
@@ -14,22 +14,6 @@ lt_or_ge a b = go (ltb a b) refl
     go false e = inr (ltb-false a b e)
 
 -- ## How many codes there are
-
-more_bounded : (codes kind most : ℕ) → codes ≤ most → kind ≤ most + 1 → more_codes codes kind ≤ most
-unfolding more_codes
-more_bounded codes kind most few small = go (ltb codes (kind - 1)) refl
-  where
-    go : (b : Bool) → ltb codes (kind - 1) ≡ b → more_codes codes kind ≤ most
-    go true e = rw (e, more_codes) (omega arith)
-    go false e = rw (e, more_codes) few
-
-pub more_same : (codes kind : ℕ) → kind - 1 ≤ codes → codes ≡ more_codes codes kind
-unfolding more_codes
-more_same codes kind no_more = rw (le-ltb codes (kind - 1) no_more, more_codes) refl
-
-pub more_grown : (codes kind : ℕ) → codes < kind - 1 → kind - 1 ≡ more_codes codes kind
-unfolding more_codes
-more_grown codes kind more = rw (lt-ltb codes (kind - 1) more, more_codes) refl
 
 -- one pad more
 pub codes_further : (kinds : List ℕ) (pad codes : ℕ) → codes ≡ codes_before kinds pad → more_codes codes (get_or kinds pad 0) ≡ codes_before kinds (pad + 1)
@@ -45,7 +29,8 @@ unfolding codes_before
 codes_few kinds valid zero inside = omega arith
 codes_few kinds valid (suc pad) inside =
     let few = codes_few kinds valid pad (omega arith) in
-    more_bounded (codes_before kinds pad) (get_or kinds pad 0) (suc pad) (omega arith) (let h = valid.numbered pad (omega arith) in omega arith)
+    let its_kind = valid.numbered pad (omega arith) in
+    omega arith
 
 pub codes_same : (kinds other : List ℕ) (pad : ℕ) → ((k : ℕ) → k < pad → get_or kinds k 0 ≡ get_or other k 0) → codes_before kinds pad ≡ codes_before other pad
 unfolding codes_before
@@ -69,9 +54,6 @@ none_carried kinds = record {
   blank = λ k from inside. absurd (omega arith);
 }
 
-pub one_back : {kinds now : List ℕ} (pad : ℕ) → 0 < pad → Carried kinds now pad → Carried kinds now (pad - 1 + 1)
-one_back {kinds} {now} pad some carried = let e : pad ≡ pad - 1 + 1 = omega arith in subst (λ (n : ℕ). Carried kinds now n) e carried
-
 -- a grid that comes later differs first at a pad that has not its largest kind
 changed_before : (kinds now : List ℕ) (pad : ℕ) → Carried kinds now pad → (other : List ℕ) → Kinds other → length other ≡ length kinds
     → (later : Before kinds other) → later.pad < pad
@@ -81,13 +63,13 @@ changed_before kinds now pad carried other valid long later = ⊎_elim (λ below
     (lt_or_ge later.pad pad)
 
 -- where every pad has its largest kind, none comes later, and all are blank again
-none_later : (kinds now : List ℕ) → Carried kinds now 0 → Next kinds false now
-none_later kinds now carried = record {
+pub none_later : (kinds now : List ℕ) (pad : ℕ) → pad ≤ 0 → Carried kinds now pad → Next kinds false now
+none_later kinds now pad none carried = record {
   same_pads = carried.same_pads;
   its_kinds = record { numbered = λ k in_now. omega (arith, carried.blank k (omega arith) (let long = carried.same_pads in omega arith)) };
   later = λ e. absurd (never e);
   none_between = λ e. absurd (never e);
-  last = λ e other valid long later. let k = changed_before kinds now 0 carried other valid long later in omega arith;
+  last = λ e other valid long later. let k = changed_before kinds now pad carried other valid long later in omega arith;
   blank_again = λ e. ext_get_or 0 now (replicate (length kinds) 0) (carried.same_pads ∙ sym (length-replicate (length kinds) 0))
       (λ k in_now. let inside : k < length kinds = (let long = carried.same_pads in omega arith) in
       carried.blank k (omega arith) inside ∙ sym (get_or-replicate (length kinds) k 0 0 inside));
@@ -96,10 +78,11 @@ none_later kinds now carried = record {
     never : false ≡ true → ⊥
     never e = let z : ◌≡◌ {A = ℕ} 0 1 = cc in omega arith
 
-pub none_left : {kinds now : List ℕ} (pad : ℕ) → pad ≤ 0 → Carried kinds now pad → Next kinds false now
-none_left {kinds} {now} pad none carried = let e : pad ≡ 0 = omega arith in none_later kinds now (subst (λ (n : ℕ). Carried kinds now n) e carried)
+module _ (kinds now : List ℕ) (from : ℕ) (some : 0 < from) (inside : from ≤ length kinds) (carried : Carried kinds now from) where
+  -- the last pad that is as it was
+  abbrev pad : ℕ
+  pad = from - 1
 
-module _ (kinds now : List ℕ) (pad : ℕ) (inside : pad < length kinds) (carried : Carried kinds now (pad + 1)) where
   same_codes : codes_before now pad ≡ codes_before kinds pad
   same_codes = codes_same now kinds pad (λ k below. carried.before k (omega arith))
 
@@ -113,8 +96,8 @@ module _ (kinds now : List ℕ) (pad : ℕ) (inside : pad < length kinds) (carri
   at_set kind = get_or-set_same now pad kind 0 (let k = carried.same_pads in omega arith)
 
   -- a pad with its largest kind is blank again, and the one before it is next
-  pub carried_on : codes_before now pad + 2 ≤ get_or now pad 0 → Carried kinds (set now pad 0) pad
-  carried_on full = record {
+  pub carried_on : (codes : ℕ) → codes ≡ codes_before now pad → 2 + codes ≤ get_or now pad 0 → Carried kinds (set now pad 0) pad
+  carried_on codes counted full = record {
     same_pads = length-set now pad 0 ∙ carried.same_pads;
     before = λ k below. after_set 0 k (λ e. omega arith) ∙ carried.before k (omega arith);
     largest = λ k from in_grid. elim (ℕ_discrete k pad) [
@@ -128,7 +111,7 @@ module _ (kinds now : List ℕ) (pad : ℕ) (inside : pad < length kinds) (carri
   }
 
   -- a pad whose kind can still grow takes the next one: that is the next grid
-  module _ (valid : Kinds kinds) (room : get_or now pad 0 < codes_before now pad + 2) where
+  module _ (valid : Kinds kinds) (codes : ℕ) (counted : codes ≡ codes_before now pad) (room : get_or now pad 0 < 2 + codes) where
     abbrev next : List ℕ
     next = set now pad (get_or now pad 0 + 1)
 
@@ -165,7 +148,7 @@ module _ (kinds now : List ℕ) (pad : ℕ) (inside : pad < length kinds) (carri
     -- between the two lies none
     none_fits : (other : List ℕ) → Kinds other → length other ≡ length kinds → Before kinds other → Before other next → ⊥
     none_fits other others long later sooner =
-        let from_kinds : later.pad ≤ pad = (let k = changed_before kinds now (pad + 1) carried other others long later in omega arith) in
+        let from_kinds : later.pad ≤ pad = (let k = changed_before kinds now from carried other others long later in omega arith) in
         let to_next : sooner.pad ≤ pad = ⊎_elim (λ above. absurd (omega (arith, sooner.less, next_blank sooner.pad above (omega (arith, sooner.inside))))) (λ fine. fine) (lt_or_ge pad sooner.pad) in
         ⊎_elim
         (λ first. omega (arith, later.less, sooner.same later.pad first, next_before later.pad (omega arith)))
@@ -182,7 +165,7 @@ module _ (kinds now : List ℕ) (pad : ℕ) (inside : pad < length kinds) (carri
     next_found = record {
       same_pads = length-set now pad _ ∙ carried.same_pads;
       its_kinds = next_kinds;
-      later = λ e. record { pad = pad; inside = inside; same = λ k below. sym (next_before k below); less = omega (arith, next_here) };
+      later = λ e. record { pad = pad; inside = omega arith; same = λ k below. sym (next_before k below); less = omega (arith, next_here) };
       none_between = λ e. none_fits;
       last = λ e. absurd (never e);
       blank_again = λ e. absurd (never e);
@@ -200,7 +183,6 @@ blank_kinds pads = record { numbered = λ pad inside. rw (get_or-replicate {A = 
 -- ## Cells
 
 pub cell_code : (kind : ℕ) → (kind ≡ 0 → ⊥) → (kind ≡ 1 → ⊥) → pos (kind - 2) ≡ cell_of_kind kind
-unfolding cell_of_kind
 cell_code zero not_blank not_hole = absurd (not_blank refl)
 cell_code (suc zero) not_blank not_hole = absurd (not_hole refl)
 cell_code (suc (suc code)) not_blank not_hole = ap pos (omega arith)
@@ -214,9 +196,9 @@ cell_put kinds cells i cell inside here before k below = elim (ℕ_discrete k i)
   | no other ↦ get_or-set_other cells i k cell (negsuc 0) other ∙ before k (omega arith)
 ]
 
--- all of them
-pub cells_put : (kinds : List ℕ) (cells : List ℤ) → length cells ≡ length kinds
-    → ((k : ℕ) → k < length kinds → get_or cells k (negsuc 0) ≡ cell_of_kind (get_or kinds k 0)) → cells ≡ cells_of kinds
-unfolding cells_of cell_of_kind
-cells_put kinds cells long each = ext_get_or (negsuc 0) cells (map cell_of_kind kinds) (long ∙ sym (length-map kinds cell_of_kind))
-    (λ k inside. each k (omega arith) ∙ sym (get_or-map cell_of_kind kinds k 0))
+-- the first ones are those of the kinds
+pub cells_put : (kinds : List ℕ) (cells : List ℤ) → length kinds ≤ length cells
+    → ((k : ℕ) → k < length kinds → get_or cells k (negsuc 0) ≡ cell_of_kind (get_or kinds k 0)) → take (length kinds) cells ≡ cells_of kinds
+cells_put kinds cells long each = ext_get_or (negsuc 0) (take (length kinds) cells) (map cell_of_kind kinds) (length-take-le _ _ long ∙ sym (length-map kinds cell_of_kind))
+    (λ k inside. let below : k < length kinds = (let e = length-take-le (length kinds) cells long in omega arith) in
+    get_or-take (length kinds) cells k (negsuc 0) below ∙ each k below ∙ sym (get_or-map cell_of_kind kinds k 0))

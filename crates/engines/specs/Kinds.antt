@@ -1,11 +1,11 @@
 -- SMALL GRIDS ONE AFTER THE OTHER. A grid is told by a kind for each pad: 0 is a blank pad, 1 a hole, 2 + c the code c. Codes are numbered by their
 -- first pad, so that of all grids that differ only in the names of their codes one is told (`Kinds`). They come in the order of a dictionary, pad
 -- 0 first (`Before`), and `Next` says what comes after one. Nothing is proved here; the laws stand in KindLaws.antt.
-use Rattle.std.specs.Prelude.{ℕ, zero, suc, ◌+◌, ◌-◌, ◌≤◌, ◌<◌, ◌≡◌, Bool, true, false, List, map, ltb, ℤ, pos, negsuc, length, get_or, replicate}
+use Rattle.std.specs.Prelude.{ℕ, zero, suc, ◌+◌, ◌-◌, ◌≤◌, ◌<◌, ◌≡◌, max, Bool, true, false, List, map, ℤ, pos, negsuc, length, get_or, replicate}
 
 -- how many codes there are with a pad of this kind after so many
-unfoldable pub more_codes : ℕ → ℕ → ℕ
-more_codes codes kind = elim (ltb codes (kind - 1)) [ true ↦ kind - 1 | false ↦ codes ]
+abbrev pub more_codes : ℕ → ℕ → ℕ
+more_codes codes kind = max codes (kind - 1)
 
 -- how many codes stand at the pads before this one
 unfoldable pub codes_before : List ℕ → ℕ → ℕ
@@ -33,11 +33,11 @@ pub record Next (kinds : List ℕ) (more : Bool) (next : List ℕ) : Type 0 wher
   pub blank_again : more ≡ false → next ≡ replicate (length kinds) 0
 
 -- the cell of a kind, as the engines read it
-unfoldable pub cell_of_kind : ℕ → ℤ
+abbrev pub cell_of_kind : ℕ → ℤ
 cell_of_kind zero = negsuc 0
 cell_of_kind (suc zero) = negsuc 1
 cell_of_kind (suc (suc code)) = pos code
 
 -- the cells of the kinds
-unfoldable pub cells_of : List ℕ → List ℤ
+abbrev pub cells_of : List ℕ → List ℤ
 cells_of kinds = map cell_of_kind kinds

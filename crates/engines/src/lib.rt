@@ -5,7 +5,7 @@
 #![tactic(auto)]
 
 ghost use Rattle.std.specs.Prelude.{◌≡◌, true, ◌↔◌, ◌+◌, ◌*◌, ◌-◌, ◌≤◌, ◌<◌, List, ℕ, length};
-ghost use Rattle.rules.specs.Grid.{places};
+ghost use Rattle.rules.specs.Grid.{places, Size};
 ghost use Rattle.tally.specs.Answers.{answer_says};
 ghost use Rattle.engines.specs.Equal.{SameCounts, SameBytes, Equal, Compares};
 ghost use Rattle.engines.specs.Kinds.{more_codes, codes_before, Kinds, Next, cell_of_kind, cells_of};
@@ -24,22 +24,6 @@ fn tally_of(answer: Result<Solved, Refusal>) -> Tally
     answer.map_or(Tally::EMPTY, |solved| solved.tally)
 }
 
-// Whether two answers say the same: both complete, and layouts and fewest lines alike, or one refusal.
-fn same_counts(walked: Result<Solved, Refusal>, solved: Result<Solved, Refusal>) -> bool
-    ensures { (first second : List ℕ) → (result ≡ true) ↔ SameCounts (answer_says walked first) (answer_says solved second) }
-{
-    match (walked, solved) {
-        (Ok(walked), Ok(solved)) => {
-            walked.outcome.is_ok()
-                && solved.outcome.is_ok()
-                && walked.tally.layouts == solved.tally.layouts
-                && walked.tally.fewest == solved.tally.fewest
-        }
-        (Err(walked), Err(solved)) => walked == solved,
-        _ => false,
-    }
-}
-
 // Whether two buffers have so many bytes, and these are the same.
 fn same_bytes(first: &[u8], second: &[u8], count: usize) -> bool
     ensures { (result ≡ true) ↔ SameBytes count first.now second.now }
@@ -50,30 +34,19 @@ fn same_bytes(first: &[u8], second: &[u8], count: usize) -> bool
     first[..count] == second[..count]
 }
 
-// The bytes of a record.
-fn record_size(height: usize, width: usize) -> usize
-    requires { (1 ≤ height) × (height ≤ 16) × (1 ≤ width) × (width ≤ 16) }
-    ensures { (result ≡ places height width) × (1 ≤ result) × (result ≤ 961) }
-{
-    (2 * height - 1) * (2 * width - 1)
-}
-
 // Whether so many records lie in two buffers, and are the same bytes.
 fn same_records(height: usize, width: usize, layouts: usize, first: &[u8], second: &[u8]) -> bool
-    requires { 0 < layouts → (1 ≤ height) × (height ≤ 16) × (1 ≤ width) × (width ≤ 16) }
+    requires { 0 < layouts → Size height × Size width }
     ensures { (result ≡ true) ↔ SameBytes (layouts * places height width) first.now second.now }
 {
     if layouts == 0 {
         return true;
     }
-    let size = record_size(height, width);
-    if layouts > first.len() / size {
-        return false;
-    }
-    same_bytes(first, second, layouts * size)
+    let size = grid::places(height, width);
+    layouts <= first.len() / size && same_bytes(first, second, layouts * size)
 }
 
-// Whether two answers and the records in their buffers are the same.
+// Whether two answers and the records in their buffers are the same: both complete, with layouts and fewest lines alike, or one refusal.
 fn same_answers(
     height: usize,
     width: usize,
@@ -82,11 +55,20 @@ fn same_answers(
     first: &[u8],
     second: &[u8],
 ) -> bool
-    requires { 0 < (answer_says walked first.now).layouts → (1 ≤ height) × (height ≤ 16) × (1 ≤ width) × (width ≤ 16) }
+    requires { 0 < (answer_says walked first.now).layouts → Size height × Size width }
     ensures { (result ≡ true) ↔ Equal height width walked first.now solved second.now }
 {
-    same_counts(walked, solved)
-        && same_records(height, width, tally_of(walked).layouts, first, second)
+    match (walked, solved) {
+        (Ok(walked), Ok(solved)) => {
+            walked.outcome.is_ok()
+                && solved.outcome.is_ok()
+                && walked.tally.layouts == solved.tally.layouts
+                && walked.tally.fewest == solved.tally.fewest
+                && same_records(height, width, walked.tally.layouts, first, second)
+        }
+        (Err(walked), Err(solved)) => walked == solved,
+        _ => false,
+    }
 }
 
 // What is told of a grid: whether the engines are equal on it, and what they counted.
@@ -100,6 +82,7 @@ pub struct Compared {
 
 // Runs both engines on a grid and compares them. The buffers have room for 64 records of a 3 by 3 grid, which has at most 5 layouts, and no byte of
 // the one is like one of the other before.
+#[tactic(auto, using(crate::specs::CallLaws::layout_sizes))]
 pub fn compare(height: usize, width: usize, cells: &[i64]) -> Compared
     ensures { Compares height width cells.now result }
 {
@@ -125,6 +108,7 @@ fn more_codes(codes: u8, kind: u8) -> u8
 }
 
 // How many codes stand at the pads before this one.
+#[tactic(auto, using(crate::specs::KindLaws::codes_further), unfolding(crate::specs::Kinds::codes_before))]
 fn codes_before(kinds: &[u8], pad: usize) -> u8
     requires { pad ≤ length kinds.now }
     ensures { result ≡ codes_before kinds.now pad }
@@ -137,6 +121,7 @@ fn codes_before(kinds: &[u8], pad: usize) -> u8
 }
 
 // Steps to the next grid in the order of the kinds, the last pad changing fastest; false where it was the last, and then the first stands again.
+#[tactic(auto, using(crate::specs::KindLaws::none_carried, crate::specs::KindLaws::few_codes))]
 pub fn next_grid(kinds: &mut [u8]) -> bool
     requires { Kinds kinds.old × (length kinds.old ≤ 9) }
     ensures { Next kinds.old result kinds.new }
@@ -163,33 +148,17 @@ pub fn cell_of_kind(kind: u8) -> i64
     }
 }
 
-// The cells of the kinds.
-fn put_cells(kinds: &[u8], cells: &mut [i64])
-    requires { length cells.old ≡ length kinds.now }
-    ensures { cells.new ≡ cells_of kinds.now }
-{
-    for (pad, kind) in kinds.iter().enumerate() {
-        cells[pad] = cell_of_kind(*kind);
-    }
-}
-
-// Compares the engines on the grid of these kinds, whose cells are put into the lent ones.
-fn compare_cells(height: usize, width: usize, kinds: &[u8], cells: &mut [i64]) -> Compared
-    requires { length cells.old ≡ length kinds.now }
-    ensures { Compares height width (cells_of kinds.now) result }
-{
-    put_cells(kinds, cells);
-    compare(height, width, cells)
-}
-
 // Compares the engines on the grid of these kinds, one for each pad.
+#[tactic(auto, using(crate::specs::KindLaws::cells_put))]
 pub fn compare_kinds(height: usize, width: usize, kinds: &[u8]) -> Compared
     requires { length kinds.now ≤ 9 }
     ensures { Compares height width (cells_of kinds.now) result }
 {
-    let mut cells = [0i64; 9];
-    let pads = kinds.len();
-    compare_cells(height, width, kinds, &mut cells[..pads])
+    let mut cells = [BLANK; 9];
+    for (pad, kind) in kinds.iter().enumerate() {
+        cells[pad] = cell_of_kind(*kind);
+    }
+    compare(height, width, &cells[..kinds.len()])
 }
 
 // What is counted over many grids.
