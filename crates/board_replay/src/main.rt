@@ -5,7 +5,6 @@
 #![tactic(auto)]
 
 ghost use Rattle.std.specs.Prelude.{◌≡◌, ◌≤◌, length};
-ghost use Rattle.board.specs.Held.{IsBoard};
 
 use board::{Answer, Board};
 use grid::Edge;
@@ -16,10 +15,7 @@ use stream::{byte_at, grid_at, later, number_at, replay_all, taken, taken_bytes,
 const LONGEST: usize = 400000;
 
 // One call: 32 times the kind, plus the row; and the column. The kinds are 0 checkpoint, 1 undo, 2 read, 3 decide a line, 4 decide none.
-fn called(board: Board, first: u8, column: u8) -> Answer
-    requires { IsBoard board }
-    ensures { IsBoard result.board }
-{
+fn called(board: Board, first: u8, column: u8) -> Answer {
     let y = usize::from(first % 32);
     let x = usize::from(column);
     match first / 32 {
@@ -35,24 +31,15 @@ fn called(board: Board, first: u8, column: u8) -> Answer
 }
 
 // The checksum with what a board shows after a call.
-fn taken_board(sum: u64, answer: usize, board: Board) -> u64
-    requires { IsBoard board }
-{
+fn taken_board(sum: u64, answer: usize, board: Board) -> u64 {
     let shown = board.shown();
-    let height = shown.height;
-    let width = shown.width;
-    let places = (2 * height - 1) * (2 * width - 1);
-    let pads = height * width;
-    let flag = shown.flag;
-    let edges = shown.edges;
-    let ends = shown.ends;
-    let head = taken(taken(sum, answer as u64), flag as u64);
-    taken_ends(taken_bytes(head, &edges[..places]), &ends[..pads])
+    let head = taken(taken(sum, answer as u64), u64::from(shown.flag));
+    taken_ends(taken_bytes(head, shown.edges()), shown.ends())
 }
 
 // The calls of one sequence, from a place on; its checksum.
 fn sum_of_calls(stream: &[u8], place: usize, calls: usize, fresh: Board) -> u64
-    requires { IsBoard fresh × (calls ≤ 65535) }
+    requires { calls ≤ 65535 }
 {
     let mut board = fresh;
     let mut sum: u64 = 1;
