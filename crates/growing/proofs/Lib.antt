@@ -1,3 +1,2 @@
 -- Laws that the proofs of the crate share.
 mod ReadLaws
-mod LoopLaws

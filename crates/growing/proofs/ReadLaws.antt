@@ -12,7 +12,8 @@ use lib.Seq.{take-suc, take_all, split_at}
 use borrow.Author.Tests.{le-leb, lt-leb}
 use Rattle.model.specs.GridFile.{is_digit}
 use Rattle.model.specs.RoutesTo.{largest_limit, most_limit_digits, all_digits, value_after, is_limit, boards, no_limit, limit_of}
-use Rattle.model.proofs.LimitLaws.{digits_append, value_append}
+use Rattle.model.proofs.LimitLaws.{digits_append, value_append, too_long}
+use Rattle.reading.specs.FieldSteps.{digit_bounds}
 
 -- more digits make no less
 value_grows : (text : List ℕ) (value : ℕ) → value ≤ value_after value text
@@ -46,12 +47,12 @@ module _ (text : List ℕ) where
       parted : text ≡ take at text ++ (byte ∷ drop (suc at) text)
       parted = split_at text at 0 below
 
-      pub one_passed : is_digit byte ≡ true → value * 10 + (byte - 48) ≤ largest_limit → Passed (at + 1) (value * 10 + (byte - 48))
+      pub one_passed : is_digit byte ≡ true → (next : ℕ) → (next ≡ value * 10 + (byte - 48)) × (next ≤ largest_limit) → Passed (at + 1) next
       unfolding all_digits value_after
-      one_passed digit fits = rw (add-one at) (record {
+      one_passed digit next (is, fits) = rw (add-one at) (record {
         inside = below;
         digits = rw (take-suc text at 0 below) (digits_append (take at text) (byte ∷ []) passed.digits ∙ rw (digit, all_digits) refl);
-        its_value = rw (take-suc text at 0 below) (value_append 0 (take at text) (byte ∷ []) ∙ rw passed.its_value refl);
+        its_value = rw (take-suc text at 0 below) (value_append 0 (take at text) (byte ∷ []) ∙ rw passed.its_value (sym is));
         small = fits;
       })
 
@@ -78,3 +79,6 @@ module _ (text : List ℕ) where
 pub no_text : (text : List ℕ) → length text ≡ 0 → limit_of text ≡ no_limit
 unfolding limit_of is_limit
 no_text text none = rw none refl
+
+-- what the proof of the reader is found by
+pub ruleset read_laws = (none_passed, all_passed, no_digit, too_large, no_text, too_long, digit_bounds)

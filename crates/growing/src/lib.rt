@@ -24,6 +24,7 @@ const FIRST_LIMIT: u64 = 1000000;
 const TIMES: u64 = 4;
 
 // The limit of visited boards that a text says, in 1 to 20 digits.
+#[tactic(auto, using(crate::proofs::ReadLaws::read_laws))]
 pub fn limit_of(text: &[u8]) -> Option<u64>
     ensures { says result ≡ limit_of text.now }
 {
@@ -42,6 +43,7 @@ pub fn limit_of(text: &[u8]) -> Option<u64>
 }
 
 // The line for an argument that is no limit.
+#[tactic(auto, unfolding(model::specs::RoutesTo::limit_line, model::specs::Text::bytes))]
 pub fn limit_line() -> [u8; 97]
     ensures { result ≡ limit_line }
 {
