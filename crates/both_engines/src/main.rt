@@ -71,6 +71,8 @@ fn compare_size(
     print_size(rt, height, width, sums);
 }
 
+// The first grid of each size is blank.
+#[tactic(auto, using(engines::specs::KindLaws::blank_kinds))]
 fn main(rt: HostRuntime) {
     compare_size(&rt, 2, 2, 1, 0, &mut [0; 4]);
     compare_size(&rt, 2, 3, 1, 0, &mut [0; 6]);

@@ -1,7 +1,7 @@
 -- ONE CALL OF EACH ENGINE on one grid, whatever their limits are and their buffers held before: where both end complete they give one list
 -- (promises' BothEngines.antt). It follows from the contracts of `walk` and `solve` alone. So `compare` tells that they differ only where one of
 -- them did not end complete.
-use Rattle.std.specs.Prelude.{ℕ, ◌≡◌, true, ◌↔◌, List, ℤ, Result}
+use Rattle.std.specs.Prelude.{ℕ, ◌≡◌, true, ◌↔◌, List, ℤ, Result, Ok, Err, refl}
 use Rattle.std.proofs.Common.{sym, ap, ◌∙◌}
 use Rattle.model.specs.Runs as runs
 use Rattle.promises.specs.BothEngines.{SameList, engines_agree}
@@ -12,7 +12,6 @@ use Rattle.walking.specs.Answers.{Walks}
 use Rattle.solver.specs.Answers.{Solves}
 use Rattle.engines.specs.declared.Compared.{Compared}
 use Rattle.engines.specs.Equal.{Equal, Compares}
-use Rattle.engines.specs.EqualLaws.{buffer_after}
 
 module _ (height width : ℕ) (cells : List ℤ) (limit limit' : ℕ) (buffer buffer' : List ℕ) where
   -- THE THEOREM for callers
@@ -24,6 +23,11 @@ module _ (height width : ℕ) (cells : List ℤ) (limit limit' : ℕ) (buffer bu
       rw (walks.equal, solves.equal) (engines_agree height width cells limit limit' buffer buffer'
       (sym (ap (λ (s : runs.Solved). s.outcome) walks.equal) ∙ walk_complete)
       (sym (ap (λ (s : runs.Solved). s.outcome) solves.equal) ∙ search_complete))
+
+-- an answer says what its buffer holds
+buffer_after : (r : Result Solved Refusal) (buffer : List ℕ) → (answer_says r buffer).buffer ≡ buffer
+buffer_after (Ok s) buffer = refl
+buffer_after (Err refusal) buffer = refl
 
 -- the answers are equal exactly where both are complete
 pub compared_equal : (height width : ℕ) (cells : List ℤ) (r : Compared) → (told : Compares height width cells r)

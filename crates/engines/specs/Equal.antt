@@ -1,5 +1,5 @@
--- WHAT EQUAL MEANS of the answers of the two engines on one grid, and what `compare` tells of it. Nothing is proved here; the laws stand in
--- EqualLaws.antt, and that two complete answers are always equal stands in BothCalls.antt.
+-- WHAT EQUAL MEANS of the answers of the two engines on one grid, and what `compare` tells of it. Nothing is proved here;
+-- that two complete answers are always equal stands in BothCalls.antt.
 use Rattle.std.specs.Prelude.{ℕ, ◌*◌, ◌≤◌, ◌≡◌, true, ◌↔◌, List, length, take, replicate, ℤ, Result}
 use Rattle.rules.specs.Grid.{places}
 use Rattle.model.specs.Runs as runs

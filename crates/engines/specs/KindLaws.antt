@@ -1,7 +1,9 @@
 -- Laws of the kinds of small grids: how the next grid is found from the last pad on, and which kinds are the first. Assumes nothing.
-use Rattle.std.specs.Prelude.{ℕ, zero, suc, ◌+◌, ◌-◌, ◌≤◌, ◌<◌, ◌≡◌, refl, Bool, true, false, ◌⊎◌, List, map, ltb, ℤ, pos, negsuc, length, get_or, set, take, replicate}
-use Rattle.std.proofs.Common.{length-take-le, get_or-take, arith, sym, ap, subst, ◌∙◌, inl, inr, ⊎_elim, length-set, get_or-set_same, get_or-set_other, ext_get_or, ltb-true, ltb-false, lt-ltb, le-ltb, add-one}
+use Rattle.std.specs.Prelude.{ℕ, zero, suc, ◌+◌, ◌-◌, ◌≤◌, ◌<◌, ◌≡◌, refl, Bool, true, false, ◌⊎◌, List, map, ltb, ℤ, negsuc, length, get_or, set, take, replicate}
+use Rattle.std.proofs.Common.{length-take-le, get_or-take, arith, sym, ap, ◌∙◌, inl, inr, ⊎_elim, length-set, get_or-set_same, get_or-set_other, ext_get_or, ltb-true, ltb-false, add-one}
 use Rattle.std.proofs.Math.Decide.{ℕ_discrete}
+use Rattle.std.specs.List.{fold}
+use Rattle.std.proofs.lemmas.List.Sums.{fold_more}
 use Rattle.std.proofs.lemmas.List.{length-replicate, get_or-replicate, length-map}
 use Rattle.std.proofs.Math.ListN.{get_or-map}
 use Rattle.engines.specs.Kinds.{more_codes, codes_before, Kinds, Before, Next, cell_of_kind, cells_of}
@@ -15,14 +17,12 @@ lt_or_ge a b = go (ltb a b) refl
 
 -- ## How many codes there are
 
--- one pad more
-pub codes_further : (kinds : List ℕ) (pad codes : ℕ) → codes ≡ codes_before kinds pad → more_codes codes (get_or kinds pad 0) ≡ codes_before kinds (pad + 1)
+-- they are counted by a fold over the kinds of those pads
+pub codes_folded : (kinds : List ℕ) (pad : ℕ) → pad ≤ length kinds → fold more_codes 0 (take pad kinds) ≡ codes_before kinds pad
 unfolding codes_before
-codes_further kinds pad codes e = rw (add-one pad, e) refl
-
-pub codes_none : (kinds : List ℕ) → 0 ≡ codes_before kinds 0
-unfolding codes_before
-codes_none kinds = refl
+codes_folded kinds zero inside = refl
+codes_folded kinds (suc pad) inside =
+    rw (← add-one pad, fold_more more_codes 0 kinds pad 0 (omega arith)) (ap (λ (codes : ℕ). more_codes codes (get_or kinds pad 0)) (codes_folded kinds pad (omega arith)))
 
 pub codes_few : (kinds : List ℕ) → Kinds kinds → (pad : ℕ) → pad ≤ length kinds → codes_before kinds pad ≤ pad
 unfolding codes_before
@@ -67,16 +67,13 @@ pub none_later : (kinds now : List ℕ) (pad : ℕ) → pad ≤ 0 → Carried ki
 none_later kinds now pad none carried = record {
   same_pads = carried.same_pads;
   its_kinds = record { numbered = λ k in_now. omega (arith, carried.blank k (omega arith) (let long = carried.same_pads in omega arith)) };
-  later = λ e. absurd (never e);
-  none_between = λ e. absurd (never e);
+  later = λ e. absurd (cc);
+  none_between = λ e. absurd (cc);
   last = λ e other valid long later. let k = changed_before kinds now pad carried other valid long later in omega arith;
   blank_again = λ e. ext_get_or 0 now (replicate (length kinds) 0) (carried.same_pads ∙ sym (length-replicate (length kinds) 0))
       (λ k in_now. let inside : k < length kinds = (let long = carried.same_pads in omega arith) in
       carried.blank k (omega arith) inside ∙ sym (get_or-replicate (length kinds) k 0 0 inside));
 }
-  where
-    never : false ≡ true → ⊥
-    never e = let z : ◌≡◌ {A = ℕ} 0 1 = cc in omega arith
 
 module _ (kinds now : List ℕ) (from : ℕ) (some : 0 < from) (inside : from ≤ length kinds) (carried : Carried kinds now from) where
   -- the last pad that is as it was
@@ -167,12 +164,9 @@ module _ (kinds now : List ℕ) (from : ℕ) (some : 0 < from) (inside : from �
       its_kinds = next_kinds;
       later = λ e. record { pad = pad; inside = omega arith; same = λ k below. sym (next_before k below); less = omega (arith, next_here) };
       none_between = λ e. none_fits;
-      last = λ e. absurd (never e);
-      blank_again = λ e. absurd (never e);
+      last = λ e. absurd (cc);
+      blank_again = λ e. absurd (cc);
     }
-      where
-        never : true ≡ false → ⊥
-        never e = let z : ◌≡◌ {A = ℕ} 0 1 = cc in omega arith
 
 -- ## The first grid
 
@@ -181,20 +175,6 @@ pub blank_kinds : (pads : ℕ) → Kinds (replicate pads 0)
 blank_kinds pads = record { numbered = λ pad inside. rw (get_or-replicate {A = ℕ} pads pad 0 0 (let k = length-replicate {A = ℕ} pads 0 in omega arith)) (omega arith) }
 
 -- ## Cells
-
-pub cell_code : (kind : ℕ) → (kind ≡ 0 → ⊥) → (kind ≡ 1 → ⊥) → pos (kind - 2) ≡ cell_of_kind kind
-cell_code zero not_blank not_hole = absurd (not_blank refl)
-cell_code (suc zero) not_blank not_hole = absurd (not_hole refl)
-cell_code (suc (suc code)) not_blank not_hole = ap pos (omega arith)
-
--- one cell more
-pub cell_put : (kinds : List ℕ) (cells : List ℤ) (i : ℕ) (cell : ℤ) → i < length cells → cell ≡ cell_of_kind (get_or kinds i 0)
-    → ((k : ℕ) → k < i → get_or cells k (negsuc 0) ≡ cell_of_kind (get_or kinds k 0))
-    → (k : ℕ) → k < i + 1 → get_or (set cells i cell) k (negsuc 0) ≡ cell_of_kind (get_or kinds k 0)
-cell_put kinds cells i cell inside here before k below = elim (ℕ_discrete k i) [
-  | yes e ↦ rw e (get_or-set_same cells i cell (negsuc 0) inside ∙ here)
-  | no other ↦ get_or-set_other cells i k cell (negsuc 0) other ∙ before k (omega arith)
-]
 
 -- the first ones are those of the kinds
 pub cells_put : (kinds : List ℕ) (cells : List ℤ) → length kinds ≤ length cells

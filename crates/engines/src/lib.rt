@@ -4,11 +4,11 @@
 // each up to a renaming of its codes exactly once, as one kind for each pad (specs/Kinds.antt).
 #![tactic(auto)]
 
-ghost use Rattle.std.specs.Prelude.{◌≡◌, true, ◌↔◌, ◌+◌, ◌*◌, ◌-◌, ◌≤◌, ◌<◌, List, ℕ, length};
+ghost use Rattle.std.specs.Prelude.{◌≡◌, true, ◌↔◌, ◌*◌, ◌≤◌, ◌<◌, List, ℕ, length};
 ghost use Rattle.rules.specs.Grid.{places, Size};
 ghost use Rattle.tally.specs.Answers.{answer_says};
-ghost use Rattle.engines.specs.Equal.{SameCounts, SameBytes, Equal, Compares};
-ghost use Rattle.engines.specs.Kinds.{more_codes, codes_before, Kinds, Next, cell_of_kind, cells_of};
+ghost use Rattle.engines.specs.Equal.{SameBytes, Equal, Compares};
+ghost use Rattle.engines.specs.Kinds.{codes_before, Kinds, Next, cell_of_kind, cells_of};
 ghost use Rattle.engines.specs.Sums.{with_grid};
 
 use grid::{BLANK, HOLE, Refusal};
@@ -100,24 +100,14 @@ pub fn compare(height: usize, width: usize, cells: &[i64]) -> Compared
     }
 }
 
-// The greater number of codes: those so far, or those of a kind, which numbers them by their first pad.
-fn more_codes(codes: u8, kind: u8) -> u8
-    ensures { result ≡ more_codes codes kind }
-{
-    codes.max(kind.saturating_sub(1))
-}
-
-// How many codes stand at the pads before this one.
-#[tactic(auto, using(crate::specs::KindLaws::codes_further), unfolding(crate::specs::Kinds::codes_before))]
+// How many codes stand at the pads before this one: kind 2 + c is code c, and codes are numbered by their first pad.
 fn codes_before(kinds: &[u8], pad: usize) -> u8
     requires { pad ≤ length kinds.now }
     ensures { result ≡ codes_before kinds.now pad }
 {
-    let mut codes: u8 = 0;
-    for kind in &kinds[..pad] {
-        codes = more_codes(codes, *kind);
-    }
-    codes
+    kinds[..pad]
+        .iter()
+        .fold(0, |codes, kind| codes.max(kind.saturating_sub(1)))
 }
 
 // Steps to the next grid in the order of the kinds, the last pad changing fastest; false where it was the last, and then the first stands again.
