@@ -13,7 +13,7 @@ use Rattle.rules.specs.RecordLaws.{length_field, length_tabulate}
 use Rattle.model.specs.Calls as model
 use Rattle.model.specs.Calls.{Board, Answer}
 use Rattle.board.specs.Held.{Shows}
-use Rattle.board.specs.declared.Shown as shown
+use Rattle.board.specs.declared.shown.Shown as shown
 use Rattle.hunekowha.specs.Replay.{block, block_size}
 
 -- PUT: a whole list at a place of another
@@ -37,9 +37,9 @@ put_then {A} old place a b fits =
 pub length_put : {A : Type 0} (old : List A) (place : ℕ) (new : List A) → place + length new ≤ length old → length (put_at old place new) ≡ length old
 length_put old place new fits = length-paste old place new (length new) fits (omega arith)
 
--- the size that the code finds
-pub size_shown : {B : Board} {r : shown.Shown} → Shows r B → 3 + (2 * r.height - 1) * (2 * r.width - 1) + r.height * r.width ≡ block_size B
-size_shown shows = λ i. 3 + (2 * shows.height i - 1) * (2 * shows.width i - 1) + shows.height i * shows.width i
+-- the size, by what is shown
+pub size_shown : {B : Board} {r : shown.Shown} → Shows r B → 3 + places r.height r.width + r.height * r.width ≡ block_size B
+size_shown shows = λ i. 3 + places (shows.height i) (shows.width i) + shows.height i * shows.width i
 
 -- A BLOCK has as many numbers as its size says
 pub block_long : (A : Answer) → length (block A) ≡ block_size A.board
@@ -81,9 +81,6 @@ module _ (old : List ℤ) (place : ℕ) (A : Answer) (r : shown.Shown) (shows : 
   abbrev shown_ends : List ℤ
   shown_ends = take (r.height * r.width) r.ends
 
-  same_places : places r.height r.width ≡ places A.board.grid.height A.board.grid.width
-  same_places = λ i. places (shows.height i) (shows.width i)
-
   edges_many : length shown_edges ≡ places A.board.grid.height A.board.grid.width
   edges_many = ap length shows.edges ∙ sym (length-map (model.shown A.board).edges pos) ∙ edges_long
 
@@ -101,14 +98,11 @@ module _ (old : List ℤ) (place : ℕ) (A : Answer) (r : shown.Shown) (shows : 
       long₂ : length after₂ ≡ length old
       long₂ = ap length put₂ ∙ length-paste after₁ (place + 3) (map pos shown_edges) (length shown_edges) room_for_edges (omega (arith, length-map shown_edges pos)) ∙ long₁
 
-      pub room_for_ends : place + 3 + places r.height r.width + length shown_ends ≤ length after₂
-      room_for_ends = omega (arith, long₂, ends_many, same_places)
-
       pub block_written : number ≡ A.number → given ≡ A.answer → flag ≡ num (model.shown A.board).flag → (after₃ : List ℤ)
-          → after₃ ≡ paste after₂ (place + 3 + places r.height r.width) shown_ends (length shown_ends) → after₃ ≡ put_at old place (block A)
+          → after₃ ≡ paste after₂ (place + 3 + length shown_edges) shown_ends (length shown_ends) → after₃ ≡ put_at old place (block A)
       block_written same_number same_answer same_flag after₃ put₃ =
           let at₁ : after₁ ≡ put_at old place head = put₁ ∙ (λ i. paste old place (map pos (same_number i ∷ same_answer i ∷ same_flag i ∷ [])) 3) in
           let at₂ : after₂ ≡ put_at (put_at old place head) (place + 3) edges =
           put₂ ∙ (λ i. paste (at₁ i) (place + 3) (map pos (shows.edges i)) (length (shows.edges i)))
           ∙ ap (λ (n : ℕ). paste (put_at old place head) (place + 3) edges n) (sym (length-map (model.shown A.board).edges pos)) in
-          put₃ ∙ (λ i. paste (at₂ i) (place + 3 + same_places i) (shows.ends i) (length (shows.ends i))) ∙ block_put
+          put₃ ∙ (λ i. paste (at₂ i) (place + 3 + edges_many i) (shows.ends i) (length (shows.ends i))) ∙ block_put

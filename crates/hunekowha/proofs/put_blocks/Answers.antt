@@ -43,9 +43,6 @@ offset_bounds-calls-at-in-loop-i-3 c = omega (arith, c.requires.counted, c.loop-
 pub bounds-calls-at-in-loop-i-3 : goal.bounds-calls-at-in-loop-i-3
 bounds-calls-at-in-loop-i-3 c = omega (arith, c.requires.counted, c.loop-i-test.true)
 
-pub called-made-requires : goal.called-made-requires
-called-made-requires c = (c.loop-i.invariant.2.of, c.loop-i.invariant.2.held)
-
 pub overflow_mul-i : goal.overflow_mul-i
 overflow_mul-i c = omega (arith, place_fits _ _ _ _ c.loop-i.invariant.0 c.loop-i.invariant.1 _ c.requires.fits c.loop-i.invariant.2 c.loop-i-test.true)
 
