@@ -40,11 +40,11 @@ pub returns-then-is_err : goal.returns-then-is_err
 returns-then-is_err c =
     let ok = c.in_ok-grid.ensures in
     stopped_says _ _ _ _ _ _ (fine ok.says) (omega (arith, many c.in_ok-grid.grid ok.same c.places-places.ensures, c.if-table-places.false)) _ _
-        (solves c.in_ok-grid.grid ok.same c.search-found.ensures) (stopped_is _ c.if-is_err.ensures.value)
+    (solves c.in_ok-grid.grid ok.same c.search-found.ensures) (stopped_is _ c.if-is_err.ensures.value)
 
 pub returns : goal.returns
 returns c =
     let ok = c.in_ok-grid.ensures in
     let size = many c.in_ok-grid.grid ok.same c.places-places.ensures in
     complete_says _ _ _ _ _ _ (fine ok.says) (omega (arith, size, c.if-table-places.false)) _ _
-        (solves c.in_ok-grid.grid ok.same c.search-found.ensures) (complete_is _ c.if-is_err.ensures.value) _ (rw size at c.clear.ensures) _ c.overlay_records.ensures
+    (solves c.in_ok-grid.grid ok.same c.search-found.ensures) (complete_is _ c.if-is_err.ensures.value) _ (rw size at c.clear.ensures) _ c.overlay_records.ensures
