@@ -24,12 +24,12 @@ times = 4
 abbrev pub next_limit : (reached limit : ℕ) → ℕ
 next_limit reached limit = least (reached * times) limit
 
--- the smaller of two numbers is the first or the second
-pub the_first : (a b : ℕ) → a ≤ b → a ≡ least a b
-the_first a b h = rw (le-leb a b h, least) refl
-
-pub the_second : (a b : ℕ) → b < a → b ≡ least a b
-the_second a b h = rw (lt-leb a b h, least) refl
+-- the smaller of two numbers is within the second, and where it is below the second it is the first
+smaller : (a b : ℕ) → (least a b ≤ b) × (least a b < b → least a b ≡ a)
+smaller a b = elim (dec_le a b) [
+  | yes h ↦ rw (le-leb a b h, least) (h, λ below. refl)
+  | no h ↦ rw (lt-leb a b (omega (arith, h)), least) (omega arith, λ below. absurd (omega (arith, below)))
+]
 
 -- a limit that has been reached: it is the last one, or has at least the boards of the first
 pub record Reached (reached limit : ℕ) : Type 0 where
@@ -37,15 +37,11 @@ pub record Reached (reached limit : ℕ) : Type 0 where
   pub some : reached < limit → routes_limit ≤ reached
 
 pub first_reached : (limit : ℕ) → Reached (first_limit limit) limit
-first_reached limit = elim (dec_le routes_limit limit) [
-  | yes h ↦ rw (← (the_first routes_limit limit h)) (record { within = h; some = λ below. omega arith })
-  | no h ↦ rw (← (the_second routes_limit limit (omega (arith, h)))) (record { within = omega arith; some = λ below. absurd (omega (arith, below)) })
-]
+first_reached limit = let (within, own) = smaller routes_limit limit in record { within = within; some = λ below. omega (arith, own below) }
 
 -- the next one is larger, as long as the last is not reached
 pub next_reached : (reached limit : ℕ) → Reached reached limit → reached < limit → (reached < next_limit reached limit) × Reached (next_limit reached limit) limit
-next_reached reached limit so_far below = elim (dec_le (reached * times) limit) [
-  | yes h ↦ let many = so_far.some below in
-      rw (← (the_first (reached * times) limit h)) (omega (arith, many), record { within = h; some = λ below'. omega (arith, many) })
-  | no h ↦ rw (← (the_second (reached * times) limit (omega (arith, h)))) (below, record { within = omega arith; some = λ below'. absurd (omega (arith, below')) })
-]
+next_reached reached limit so_far below =
+    let (within, own) = smaller (reached * times) limit in
+    let many = so_far.some below in
+    (grind (arith, within, own, many), record { within = within; some = λ below'. omega (arith, own below', many) })

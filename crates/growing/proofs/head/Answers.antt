@@ -14,4 +14,4 @@ loop-head-preserved g c =
     })
 
 pub returns-after-loop-head : goal.returns-after-loop-head
-returns-after-loop-head g c = headed_last _ _ _ _ _ c.loop-head.invariant.is_run _ c.loop-head.invariant.so_far.within (grind arith)
+returns-after-loop-head g c = headed_last _ _ _ _ _ c.loop-head.invariant.is_run _ c.loop-head.invariant.so_far.within (λ spent. cc (c.is_spent.ensures.1 spent))

@@ -10,6 +10,3 @@ slice_bounds-print_list-end c = sym (length-replicate {0} {A = ℕ} 3936256 0)
 
 pub print_list-requires : goal.print_list-requires
 print_list-requires c = (c.requires, length-replicate {0} {A = ℕ} 3936256 0)
-
-pub returns : goal.returns
-returns c = tt
