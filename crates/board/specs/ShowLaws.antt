@@ -6,7 +6,7 @@ use Rattle.std.proofs.Math.Seq.{take-suc}
 use Rattle.std.proofs.Common.{◌∙◌, arith, zero-add, add-one, length-set, take-suc-set, take-take, take_at}
 use Rattle.rules.specs.Grid.{places, Grid, pads}
 use Rattle.rules.specs.Record.{field, tabulate}
-use Rattle.rules.specs.RecordLaws.{tabulate_same, length_field}
+use Rattle.rules.specs.RecordLaws.{tabulate_parts, tabulate_same, length_field}
 use Rattle.model.specs.JoinedEnds.{end_number}
 use Rattle.model.specs.Calls as model
 use Rattle.boardview.specs.View.{view, grid_in, flag_in}
@@ -14,10 +14,14 @@ use Rattle.boardview.specs.Ends.{number_of_end}
 use Rattle.model.specs.Lists.{default_free}
 use Rattle.model.specs.PutBytes.{put_bytes}
 use Rattle.boardview.specs.ShownRecord.{record_shown, bytes_shown, edges_only}
-use Rattle.boardview.specs.ShownRecordLaws.{one_more}
 use Rattle.board.specs.Held.{Held, Shows}
 use Rattle.board.specs.declared.parts.Board.{Board}
 use Rattle.board.specs.declared.shown.Shown.{Shown}
+
+-- one more of a list that is laid out
+one_more : {A : Type 0} (f : ℕ → A) (start n : ℕ) → tabulate f start (suc n) ≡ tabulate f start n ++ (f (start + n) ∷ [])
+unfolding tabulate
+one_more f start n = ap (tabulate f start) (sym (add-one n)) ∙ tabulate_parts f start n 1
 
 -- LAID OUT: the first i elements are f at 0, 1, and so on
 pub record Laid {A : Type 0} (f : ℕ → A) (size : ℕ) (list : List A) (i : ℕ) : Type 0 where

@@ -1,40 +1,28 @@
--- The pads that were found at a place, and the byte at the slot of their edge. Assumes nothing.
-use Prim.Native.Nat.{ℕ, ◌+◌, ◌*◌, ◌≤◌, ◌<◌}
-use mathlib.Core.Path.{◌≡◌, refl, sym, ap, subst}
+-- The first pad of an edge of the field, and the byte at the slot of an edge. Assumes nothing.
+use Prim.Native.Nat.{ℕ, ◌≤◌, ◌<◌}
+use mathlib.Core.Path.{◌≡◌, sym}
 use mathlib.Core.List.{List}
+use native.Mathlib.Omega.{arith}
 use lib.ListN.{get_or, length}
-use Rattle.rules.specs.Grid.{first, Place, edge}
-use Rattle.rules.specs.Record.{byte_at_place}
-use Rattle.std.specs.Prelude.{Some, None}
+use Rattle.std.specs.Prelude.{Some}
+use Rattle.rules.specs.Grid.{Size, field_side, place_at}
+use Rattle.rules.proofs.Places.{first_small}
 use Rattle.grid.specs.Directions.{edge_to, first_to}
-use Rattle.boardparts.specs.Sides.{slot_small}
-use Rattle.grid.specs.PadsAt.{pads_of, edge_of, place_of, IfEdge, told_place}
 use Rattle.grid.specs.declared.Pads.{Pads}
+use Rattle.grid.specs.PadsAt.{pads_of, edge_of, place_of, told_place}
+use Rattle.boardparts.specs.Sides.{slot_small}
 use Rattle.boardview.specs.View.{slot}
-use Rattle.boardview.specs.ShownRecord.{bytes_shown, slot_of_place}
-use Rattle.boardview.specs.ShownRecordLaws.{no_byte, edge_byte}
+use Rattle.boardview.specs.ShownRecord.{bytes_shown}
+use Rattle.boardview.specs.ShownRecordLaws.{edge_byte}
 
--- the pads that were found at a place
-module _ (width : ℕ) (p : Place) where
-  module _ {pads : Pads} (are : Some pads ≡ pads_of width p) where
-    told : edge (edge_of pads) ≡ p
-    unfolding place_of
-    told = told_place width p are
+pub small_pad : (height width : ℕ) → Size height → Size width → (row column : ℕ) → row < field_side height → column < field_side width
+    → {pads : Pads} → Some pads ≡ pads_of width (place_at width row column) → pads.first < 256
+unfolding edge_of place_of
+small_pad height width tall wide row column below inside {pads} are =
+    rw (first_to pads.direction pads.first)
+    (first_small width row column wide.1 (omega arith) (omega arith) (edge_of pads) (sym (told_place width (place_at width row column) are)))
 
-    pub told_small : IfEdge p (λ e. first e < 256) → pads.first < 256
-    unfolding edge_of
-    told_small small = rw (first_to pads.direction pads.first) (small (edge_of pads) (sym told))
-
-    pub told_slot : {n : ℕ} → n ≡ slot (edge_to pads.direction pads.first) → n ≡ slot (edge_of pads)
-    unfolding edge_of
-    told_slot is = is
-
-    pub slot_inside : IfEdge p (λ e. first e < 256) → {n : ℕ} → n ≡ slot (edge_to pads.direction pads.first) → n < 1024
-    slot_inside small is = rw is (slot_small pads.direction pads.first (told_small small))
-
-    pub byte_there : (edges : List ℕ) → length edges ≡ 1024 → ((k : ℕ) → get_or edges k 2 ≤ 2) → {n : ℕ} → n ≡ slot (edge_of pads) → n < 1024 → get_or edges n 0 ≡ byte_at_place (bytes_shown edges) p
-    byte_there edges long bytes {n} is inside = subst (λ q. get_or edges n 0 ≡ byte_at_place (bytes_shown edges) q) told (rw is (edge_byte edges long bytes (edge_of pads) (rw is at inside)))
-
-  pub nothing_there : None ≡ pads_of width p → (edges : List ℕ) → 0 ≡ byte_at_place (bytes_shown edges) p
-  unfolding slot_of_place place_of
-  nothing_there none edges = no_byte edges p (ap slot_of_place (told_place width p none))
+pub byte_at_slot : (edges : List ℕ) → length edges ≡ 1024 → ((n : ℕ) → get_or edges n 2 ≤ 2) → (pads : Pads) → pads.first < 256
+    → {n : ℕ} → n ≡ slot (edge_to pads.direction pads.first) → get_or edges n 0 ≡ bytes_shown edges (edge_of pads)
+unfolding edge_of
+byte_at_slot edges long bytes pads small is = rw is (edge_byte edges long bytes (edge_to pads.direction pads.first) (slot_small pads.direction pads.first small))

@@ -1,5 +1,4 @@
--- Laws of the digits: a digit that is read, whether it fits by the tests that the code makes, whether all fit, and the byte of an edge.
--- Assumes nothing.
+-- Laws of the digits: a digit that is read, whether it fits by the tests that the code makes, and whether all fit. Assumes nothing.
 use Prim.Native.Nat.{ℕ, ◌*◌, ◌≤◌, ◌<◌}
 use mathlib.Core.Path.{◌≡◌, refl, sym, ap, ◌∙◌}
 use mathlib.Core.Bool.{Bool, true, false, ◌&&◌, ◌||◌, not}
@@ -8,18 +7,12 @@ use native.Mathlib.Omega.{arith}
 use lib.Dec.{eqb}
 use lib.ListN.{length}
 use borrow.Author.Tests.{le-leb, eq-eqb, ne_eqb}
-use Rattle.rules.specs.Grid.{Edge, right, down, Place, grid_of}
-use Rattle.rules.specs.Record.{byte_of, byte_at_place}
+use Rattle.rules.specs.Grid.{Edge, right, down, grid_of}
 use Rattle.rules.specs.Tests.{all_below}
 use Rattle.model.specs.PadTests.{on_board}
 use Rattle.grid.specs.declared.accepted.Grid.{Grid}
 use Rattle.grid.specs.AsGrid.{as_grid, right_on_board}
-use Rattle.grid.specs.Directions.{edge_to}
-use Rattle.grid.specs.PadsAt.{pads_of, edge_of, edge_there, edge_nowhere, told_place}
-use Rattle.grid.specs.declared.Pads.{Pads}
-use Rattle.std.specs.Prelude.{Option}
-use Rattle.std.proofs.Common.{Some, None}
-use Rattle.model.specs.JudgeText.{digit_at, coded, digit_fits, codes_fit, coded_bytes}
+use Rattle.model.specs.JudgeText.{digit_at, coded, digit_fits, codes_fit}
 
 -- ## A digit
 
@@ -47,14 +40,3 @@ module _ (height width : ℕ) (digits : List ℕ) where
   pub by_all : {answer : Bool} {pads n : ℕ} → length digits ≡ pads → pads ≡ height * width → n ≡ height * width → answer ≡ all_below (digit_fits height width digits) n → answer ≡ codes_fit height width digits
   unfolding codes_fit
   by_all long are same says = says ∙ rw (eq-eqb (length digits) (height * width) (long ∙ are), same) refl
-
--- ## The byte at a place
-
-module _ (width : ℕ) (p : Place) (digits : List ℕ) {pads : Option Pads} (are : pads ≡ pads_of width p) where
-  pub byte_there : {found : Pads} → pads ≡ Some found → {byte : ℕ} {line : Bool} → byte ≡ byte_of line → line ≡ coded digits (edge_to found.direction found.first)
-      → byte ≡ byte_at_place (coded_bytes digits) p
-  unfolding edge_of
-  byte_there is made says = made ∙ ap byte_of says ∙ ap (byte_at_place (coded_bytes digits)) (sym (edge_there pads is) ∙ told_place width p are)
-
-  pub byte_nowhere : pads ≡ None → 0 ≡ byte_at_place (coded_bytes digits) p
-  byte_nowhere none = ap (byte_at_place (coded_bytes digits)) (sym (edge_nowhere pads none) ∙ told_place width p are)

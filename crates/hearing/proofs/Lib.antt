@@ -1,4 +1,4 @@
 -- Laws that the proofs of the crate share.
 mod DigitLaws
-mod RowLaws
+mod RecordLaws
 mod TextLaws

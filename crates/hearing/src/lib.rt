@@ -3,19 +3,16 @@
 // specs/JudgeText.antt there; specs/Whole.antt here says it of the bytes of standard input.
 #![tactic(auto)]
 
-ghost use Rattle.std.specs.Prelude.{◌≡◌, not, ◌||◌, ◌+◌, ◌*◌, ◌≤◌, ◌<◌, length, Ok};
-ghost use Rattle.rules.specs.Grid.{field_side, places, place_at};
-ghost use Rattle.rules.specs.Record.{byte_at_place, field};
-ghost use Rattle.rules.specs.RecordLaws.{field_row};
+ghost use Rattle.std.specs.Prelude.{◌≡◌, not, ◌||◌, ◌*◌, ◌<◌, Ok};
 ghost use Rattle.model.specs.GridFile.{read};
 ghost use Rattle.model.specs.JudgeText.{digit_at, code_at, coded, digit_fits, record_of_codes, judged_line, judged_text, codes_fit, coded_bytes, usage_line};
 ghost use Rattle.model.specs.PadTests.{on_board};
 ghost use Rattle.grid.specs.AsGrid.{as_grid};
 ghost use Rattle.grid.specs.Directions.{edge_to};
-ghost use Rattle.text.specs.Put.{Put};
+ghost use Rattle.grid.specs.PadsAt.{edge_of};
 ghost use Rattle.judging.specs.Judging.{judged_says};
 
-use grid::{Direction, Edge, Grid};
+use grid::{Direction, Edge, Grid, Pads};
 use judging::Judged;
 use printed::HeadLine;
 
@@ -83,40 +80,12 @@ fn codes_fit(grid: &Grid, digits: &[u8]) -> bool
     digits.len() == grid.pads() && (0..grid.pads()).all(|v| digit_fits(grid, digits, v))
 }
 
-// The byte at a place of the record; a place that is no edge holds undecided.
-fn byte_at(digits: &[u8], width: usize, row: usize, column: usize) -> u8
-    requires { (width ≤ 16) × (row < 31) × (column < 31) }
-    ensures { result ≡ byte_at_place (coded_bytes digits.now) (place_at width row column) }
+// The byte of the edge between two pads.
+#[tactic(auto, unfolding(grid::specs::PadsAt::edge_of))]
+fn byte_between(digits: &[u8], pads: Pads) -> u8
+    ensures { result ≡ coded_bytes digits.now (edge_of pads) }
 {
-    match grid::pads_at(width, row, column) {
-        Some(pads) => Edge::from(leads(digits, pads.direction, pads.first)).0,
-        None => Edge::UNDECIDED.0,
-    }
-}
-
-// Puts one row of the record from a place on; the place after it.
-fn put_row(out: &mut [u8], at: usize, digits: &[u8], width: usize, row: usize) -> usize
-    requires { (2 ≤ width) × (width ≤ 16) × (row < 31) × (at + field_side width ≤ length out.old) }
-    ensures { Put out.old out.new at (field_row width (coded_bytes digits.now) row) result }
-{
-    let side = 2 * width - 1;
-    for column in 0..side {
-        out[at + column] = byte_at(digits, width, row, column);
-    }
-    at + side
-}
-
-// Puts the record, row by row; its length.
-fn put_record(out: &mut [u8], digits: &[u8], grid: &Grid) -> usize
-    requires { places grid.now.height grid.now.width ≤ length out.old }
-    ensures { Put out.old out.new 0 (field grid.now.height grid.now.width (coded_bytes digits.now)) result }
-{
-    let rows = 2 * grid.height - 1;
-    let mut at = 0;
-    for row in 0..rows {
-        at = put_row(out, at, digits, grid.width, row);
-    }
-    at
+    Edge::from(leads(digits, pads.direction, pads.first)).0
 }
 
 // The record of codes, laid out in the lent bytes, which are as many as the field of the largest grid has places; it is empty where the codes
@@ -127,8 +96,10 @@ fn record_of_codes<'a>(out: &'a mut [u8; 961], grid: &Grid, digits: &[u8]) -> &'
     if !codes_fit(grid, digits) {
         return &out[..0];
     }
-    let length = put_record(out, digits, grid);
-    &out[..length]
+    records::put_field(grid.height, grid.width, out, 0, |pads| {
+        byte_between(digits, pads)
+    });
+    &out[..grid.places()]
 }
 
 // The verdict and the lines.

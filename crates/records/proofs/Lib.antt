@@ -1,2 +1,3 @@
 -- Laws that the proofs of the crate cite.
 mod RecordLaws
+mod LaidLaws

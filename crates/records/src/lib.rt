@@ -1,5 +1,6 @@
 // The record calls: layout k as a part of the lent answer buffer, the lines of a record, and the shorter of two lent records.
-// Each result equals the definition of the same name in the crate `model`, specs/Records.antt there, for every input.
+// Each result equals the definition of the same name in the crate `model`, specs/Records.antt there, for every input. And a record laid out in
+// a buffer, for whoever knows the byte of an edge.
 #![tactic(auto)]
 
 ghost use Rattle.std.specs.Prelude.{◌≡◌};
@@ -7,6 +8,9 @@ ghost use Rattle.model.specs.Bounds.{is_size};
 ghost use Rattle.model.specs.Records.{has_record, record_at, shorter};
 ghost use Rattle.rules.specs.Record.{record_lines};
 
+mod fields;
+
+pub use fields::put_field;
 use grid::Edge;
 
 // Whether a buffer of so many bytes has a record k: H and W are sizes, k is below the count, and the record ends in time.

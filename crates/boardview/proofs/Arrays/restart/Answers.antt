@@ -1,8 +1,8 @@
 -- `boardview::Arrays::restart` meets its contract.
 use mathlib.Core.Path.{sym, ◌∙◌}
-use Rattle.std.proofs.Math.Path.{refl, ap}
+use Rattle.std.proofs.Math.Path.{refl}
 use borrow.Author.Tests.{lt-ltb, le-ltb, leb-true, leb-false}
-use Rattle.boardview.specs.View.{restarted, with_count}
+use Rattle.boardview.specs.View.{restarted}
 use Rattle.boardview.proofs.Arrays.restart.Goals as goal
 use Rattle.boardview.proofs.Arrays.restart.Goals.{then-is_flagged, else-is_flagged}
 

@@ -1,0 +1,2 @@
+-- What laying out a record promises.
+pub mod Laid
