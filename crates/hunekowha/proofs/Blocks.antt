@@ -1,6 +1,6 @@
 -- The blocks that replay writes: one list put behind another is the two put at once; a block has as many numbers as the board's size asks,
 -- the board's size stays, and the blocks of all calls are as many as the calls. Assumes nothing.
-use Prim.Native.Nat.{ℕ, ◌+◌, ◌*◌, ◌-◌, ◌≤◌}
+use Prim.Native.Nat.{ℕ, ◌+◌, ◌≤◌}
 use mathlib.Core.Path.{◌≡◌, refl, sym, ap, ◌∙◌}
 use mathlib.Core.List.{List, [], ◌∷◌, ◌++◌, map, append_assoc}
 use native.Mathlib.Omega.{arith}
@@ -12,8 +12,8 @@ use Rattle.rules.specs.Drawing.{num}
 use Rattle.rules.specs.RecordLaws.{length_field, length_tabulate}
 use Rattle.model.specs.Calls as model
 use Rattle.model.specs.Calls.{Board, Answer}
-use Rattle.board.specs.Held.{Shows}
-use Rattle.board.specs.declared.Shown as shown
+use Rattle.board.specs.Held.{Shows, edges_of, ends_of}
+use Rattle.board.specs.declared.shown.Shown.{Shown}
 use Rattle.hunekowha.specs.Replay.{block, block_size}
 
 -- PUT: a whole list at a place of another
@@ -37,9 +37,18 @@ put_then {A} old place a b fits =
 pub length_put : {A : Type 0} (old : List A) (place : ℕ) (new : List A) → place + length new ≤ length old → length (put_at old place new) ≡ length old
 length_put old place new fits = length-paste old place new (length new) fits (omega arith)
 
--- the size that the code finds
-pub size_shown : {B : Board} {r : shown.Shown} → Shows r B → 3 + (2 * r.height - 1) * (2 * r.width - 1) + r.height * r.width ≡ block_size B
-size_shown shows = λ i. 3 + (2 * shows.height i - 1) * (2 * shows.width i - 1) + shows.height i * shows.width i
+-- WHAT A BOARD SHOWS has as many edges and ends as its sizes say, and so many numbers has its block
+module _ {B : Board} {r : Shown} (shows : Shows r B) where
+  pub edges_many : length (edges_of r) ≡ places B.grid.height B.grid.width
+  unfolding model.shown
+  edges_many = ap length shows.edges ∙ length_field B.grid.height B.grid.width _
+
+  pub ends_many : length (ends_of r) ≡ pads B.grid
+  unfolding model.shown
+  ends_many = ap length shows.ends ∙ length_tabulate _ 0 (pads B.grid)
+
+  pub size_shown : 3 + length (edges_of r) + length (ends_of r) ≡ block_size B
+  size_shown = λ i. 3 + edges_many i + ends_many i
 
 -- A BLOCK has as many numbers as its size says
 pub block_long : (A : Answer) → length (block A) ≡ block_size A.board
@@ -47,68 +56,44 @@ unfolding block model.shown
 block_long A = simp (length-append, length-map, length_field, length_tabulate) (omega arith)
 
 -- THE BLOCK as the code puts it: the head, the edges, the ends
-module _ (old : List ℤ) (place : ℕ) (A : Answer) (r : shown.Shown) (shows : Shows r A.board) (fits : place + block_size A.board ≤ length old) where
+module _ (old : List ℤ) (place : ℕ) (A : Answer) (r : Shown) (shows : Shows r A.board) (fits : place + block_size A.board ≤ length old) where
   abbrev head : List ℤ
   head = map pos (A.number ∷ A.answer ∷ num (model.shown A.board).flag ∷ [])
 
   abbrev edges : List ℤ
-  edges = map pos (model.shown A.board).edges
+  edges = map pos (edges_of r)
 
-  abbrev ends : List ℤ
-  ends = (model.shown A.board).ends
-
-  edges_long : length edges ≡ places A.board.grid.height A.board.grid.width
-  unfolding model.shown
-  edges_long = simp (length-map, length_field) refl
-
-  ends_long : length ends ≡ pads A.board.grid
-  unfolding model.shown
-  ends_long = simp length_tabulate refl
-
-  pub block_put : put_at (put_at (put_at old place head) (place + 3) edges) (place + 3 + places A.board.grid.height A.board.grid.width) ends ≡ put_at old place (block A)
+  same_block : head ++ edges ++ ends_of r ≡ block A
   unfolding block
-  block_put =
-      let first = put_then old place head edges (omega (arith, edges_long)) in
-      let both : length (head ++ edges) ≡ 3 + length edges = simp length-append refl in
-      ap (λ (l : List ℤ). put_at l (place + 3 + places A.board.grid.height A.board.grid.width) ends) first
-      ∙ ap (λ (n : ℕ). put_at (put_at old place (head ++ edges)) n ends) (let e : place + 3 + places A.board.grid.height A.board.grid.width ≡ place + length (head ++ edges) = omega (arith, edges_long) in e)
-      ∙ put_then old place (head ++ edges) ends (omega (arith, edges_long, ends_long))
+  same_block = λ i. head ++ map pos (shows.edges i) ++ shows.ends i
 
-  -- as the code has it: numbers of its own, and parts of what the board shows
-  abbrev shown_edges : List ℕ
-  shown_edges = take (places r.height r.width) r.edges
+  edges_long : length edges ≡ length (edges_of r)
+  edges_long = length-map (edges_of r) pos
 
-  abbrev shown_ends : List ℤ
-  shown_ends = take (r.height * r.width) r.ends
-
-  same_places : places r.height r.width ≡ places A.board.grid.height A.board.grid.width
-  same_places = λ i. places (shows.height i) (shows.width i)
-
-  edges_many : length shown_edges ≡ places A.board.grid.height A.board.grid.width
-  edges_many = ap length shows.edges ∙ sym (length-map (model.shown A.board).edges pos) ∙ edges_long
-
-  ends_many : length shown_ends ≡ pads A.board.grid
-  ends_many = ap length shows.ends ∙ ends_long
+  all_fit : place + 3 + length (edges_of r) + length (ends_of r) ≤ length old
+  all_fit = omega (arith, size_shown shows)
 
   module _ (number given flag : ℕ) (after₁ : List ℤ) (put₁ : after₁ ≡ paste old place (map pos (number ∷ given ∷ flag ∷ [])) 3) where
     long₁ : length after₁ ≡ length old
-    long₁ = ap length put₁ ∙ length-paste old place (map pos (number ∷ given ∷ flag ∷ [])) 3 (omega arith) (omega arith)
+    long₁ = ap length put₁ ∙ length-paste old place (map pos (number ∷ given ∷ flag ∷ [])) 3 (omega (arith, all_fit)) (omega arith)
 
-    pub room_for_edges : place + 3 + length shown_edges ≤ length after₁
-    room_for_edges = omega (arith, long₁, edges_many)
+    pub room_for_edges : place + 3 + length (edges_of r) ≤ length after₁
+    room_for_edges = omega (arith, long₁, all_fit)
 
-    module _ (after₂ : List ℤ) (put₂ : after₂ ≡ paste after₁ (place + 3) (map pos shown_edges) (length shown_edges)) where
+    module _ (after₂ : List ℤ) (put₂ : after₂ ≡ paste after₁ (place + 3) edges (length (edges_of r))) where
       long₂ : length after₂ ≡ length old
-      long₂ = ap length put₂ ∙ length-paste after₁ (place + 3) (map pos shown_edges) (length shown_edges) room_for_edges (omega (arith, length-map shown_edges pos)) ∙ long₁
+      long₂ = ap length put₂ ∙ length-paste after₁ (place + 3) edges (length (edges_of r)) room_for_edges (omega (arith, edges_long)) ∙ long₁
 
-      pub room_for_ends : place + 3 + places r.height r.width + length shown_ends ≤ length after₂
-      room_for_ends = omega (arith, long₂, ends_many, same_places)
+      pub room_for_ends : place + 3 + length (edges_of r) + length (ends_of r) ≤ length after₂
+      room_for_ends = omega (arith, long₂, all_fit)
 
       pub block_written : number ≡ A.number → given ≡ A.answer → flag ≡ num (model.shown A.board).flag → (after₃ : List ℤ)
-          → after₃ ≡ paste after₂ (place + 3 + places r.height r.width) shown_ends (length shown_ends) → after₃ ≡ put_at old place (block A)
+          → after₃ ≡ paste after₂ (place + 3 + length (edges_of r)) (ends_of r) (length (ends_of r)) → after₃ ≡ put_at old place (block A)
       block_written same_number same_answer same_flag after₃ put₃ =
           let at₁ : after₁ ≡ put_at old place head = put₁ ∙ (λ i. paste old place (map pos (same_number i ∷ same_answer i ∷ same_flag i ∷ [])) 3) in
-          let at₂ : after₂ ≡ put_at (put_at old place head) (place + 3) edges =
-          put₂ ∙ (λ i. paste (at₁ i) (place + 3) (map pos (shows.edges i)) (length (shows.edges i)))
-          ∙ ap (λ (n : ℕ). paste (put_at old place head) (place + 3) edges n) (sym (length-map (model.shown A.board).edges pos)) in
-          put₃ ∙ (λ i. paste (at₂ i) (place + 3 + same_places i) (shows.ends i) (length (shows.ends i))) ∙ block_put
+          let at₂ : after₂ ≡ put_at (put_at old place head) (place + 3) edges = put₂ ∙ (λ i. paste (at₁ i) (place + 3) edges (sym edges_long i)) in
+          let two : after₂ ≡ put_at old place (head ++ edges) = at₂ ∙ put_then old place head edges (omega (arith, edges_long, all_fit)) in
+          let both : length (head ++ edges) ≡ 3 + length edges = simp length-append refl in
+          let at₃ : place + 3 + length (edges_of r) ≡ place + length (head ++ edges) = omega (arith, edges_long, both) in
+          put₃ ∙ (λ i. paste (two i) (at₃ i) (ends_of r) (length (ends_of r))) ∙ put_then old place (head ++ edges) (ends_of r) (omega (arith, edges_long, both, all_fit))
+          ∙ ap (put_at old place) (append_assoc head edges (ends_of r)) ∙ ap (put_at old place) same_block

@@ -20,7 +20,7 @@ use Rattle.model.specs.Refusals.{first_bad_cell, grid_refusal}
 use Rattle.model.specs.RefusalLaws.{size_of_test}
 use Rattle.model.specs.Calls.{Board, Answer, state_byte, decide_edge, decide_at, edge_at, read_edge, read_at, add_checkpoint, undo, undo_to, fresh_board, new}
 use Rattle.board.specs.Held.{Held, answer_said, Says}
-use Rattle.board.specs.declared.Board as code
+use Rattle.board.specs.declared.parts.Board as code
 use Rattle.board.specs.declared.Answer as code_answer
 use Rattle.hunekowha.specs.Replay.{Given, fresh_answer, called, block, block_size, blocks, all_blocks}
 use Rattle.hunekowha.proofs.Blocks.{put_at, put_then, length_put, block_long}

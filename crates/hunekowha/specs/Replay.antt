@@ -7,7 +7,7 @@ use Rattle.rules.specs.Drawing.{num}
 use Rattle.model.specs.Calls.{Board, Answer, new, decide_edge, read_edge, add_checkpoint, undo, shown}
 use Rattle.board.specs.Held.{Held, answer_said, Says}
 use Rattle.board.specs.declared.Answer as code
-use Rattle.board.specs.declared.Board as codeboard
+use Rattle.board.specs.declared.parts.Board as codeboard
 use Rattle.hunekowha.specs.Lent.{written}
 
 -- the grid that was given

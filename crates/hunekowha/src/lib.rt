@@ -12,7 +12,7 @@ ghost use Rattle.model.specs.Search.{solve};
 ghost use Rattle.model.specs.Walk.{walk};
 ghost use Rattle.gridfile.specs.Answers.{reading_says, writing_says};
 ghost use Rattle.judging.specs.Judging.{judged_says};
-ghost use Rattle.board.specs.Held.{Held, IsBoard, Says};
+ghost use Rattle.board.specs.Held.{Held, Says};
 ghost use Rattle.hunekowha.specs.Replay.{state_asked, called, block, block_size, all_blocks, Writable, Replayable};
 ghost use Rattle.std.proofs.Math.Seq.{paste};
 ghost use Rattle.hunekowha.specs.Lent.{read_numbers, reading_gives, write_numbers, write_gives, record_gives, judge_numbers, judge_gives, counted_numbers, declined_numbers, search_numbers, listing_gives, table_numbers, common_gives};
@@ -191,7 +191,6 @@ fn called(
     column: usize,
     state: u64,
 ) -> Answer
-    requires { IsBoard board }
     ensures { (B : model.Board) → Held board B → Says result (called (record { height = height; width = width; cells = cells.now }) B kind row column state) }
 {
     match kind {
@@ -208,13 +207,10 @@ fn called(
 
 // The numbers of a block of a board.
 fn size_of_block(board: Board) -> usize
-    requires { IsBoard board }
     ensures { (B : model.Board) → Held board B → result ≡ block_size B }
 {
     let shown = board.shown();
-    let height = shown.height;
-    let width = shown.width;
-    3 + (2 * height - 1) * (2 * width - 1) + height * width
+    3 + shown.edges().len() + shown.ends().len()
 }
 
 // Writes the block of an answer at a place.
@@ -224,16 +220,12 @@ fn put_block(answer: &mut [i64], place: usize, made: Answer)
 {
     let board = made.board;
     let shown = board.shown();
-    let height = shown.height;
-    let width = shown.width;
-    let places = (2 * height - 1) * (2 * width - 1);
-    let edges = shown.edges;
-    let ends = shown.ends;
-    let flag = shown.flag;
-    let head = [made.number(), made.answer() as u8, flag as u8];
+    let edges = shown.edges();
+    let ends = shown.ends();
+    let head = [made.number(), made.answer() as u8, u8::from(shown.flag)];
     lend::put_bytes(answer, place, &head);
-    lend::put_bytes(answer, place + 3, &edges[..places]);
-    lend::put(answer, place + 3 + places, &ends[..height * width]);
+    lend::put_bytes(answer, place + 3, edges);
+    lend::put(answer, place + 3 + edges.len(), ends);
 }
 
 // Makes the calls of a list on a fresh board, and writes their blocks one behind the other.

@@ -7,53 +7,11 @@ use Rattle.hunekowha.proofs.put_blocks.Goals as goal
 pub loop-i-init : goal.loop-i-init
 loop-i-init c = (c.requires.sized, c.requires.counted, begins _ _ _ _ c.requires.sized c.requires.counted _ c.requires.fits c.requires.held)
 
-pub overflow_mul-at : goal.overflow_mul-at
-overflow_mul-at c = omega (arith, c.requires.counted, c.loop-i-test.true)
-
-pub offset_bounds-calls-at : goal.offset_bounds-calls-at
-offset_bounds-calls-at c = omega (arith, c.requires.counted, c.loop-i-test.true)
-
-pub bounds-calls-at : goal.bounds-calls-at
-bounds-calls-at c = omega (arith, c.requires.counted, c.loop-i-test.true)
-
-pub overflow_add-at : goal.overflow_add-at
-overflow_add-at c = omega (arith, c.requires.counted, c.loop-i-test.true)
-
-pub offset_bounds-calls-at-in-loop-i : goal.offset_bounds-calls-at-in-loop-i
-offset_bounds-calls-at-in-loop-i c = omega (arith, c.requires.counted, c.loop-i-test.true)
-
-pub bounds-calls-at-in-loop-i : goal.bounds-calls-at-in-loop-i
-bounds-calls-at-in-loop-i c = omega (arith, c.requires.counted, c.loop-i-test.true)
-
-pub overflow_add-at-in-loop-i : goal.overflow_add-at-in-loop-i
-overflow_add-at-in-loop-i c = omega (arith, c.requires.counted, c.loop-i-test.true)
-
-pub offset_bounds-calls-at-in-loop-i-2 : goal.offset_bounds-calls-at-in-loop-i-2
-offset_bounds-calls-at-in-loop-i-2 c = omega (arith, c.requires.counted, c.loop-i-test.true)
-
-pub bounds-calls-at-in-loop-i-2 : goal.bounds-calls-at-in-loop-i-2
-bounds-calls-at-in-loop-i-2 c = omega (arith, c.requires.counted, c.loop-i-test.true)
-
-pub overflow_add-at-in-loop-i-2 : goal.overflow_add-at-in-loop-i-2
-overflow_add-at-in-loop-i-2 c = omega (arith, c.requires.counted, c.loop-i-test.true)
-
-pub offset_bounds-calls-at-in-loop-i-3 : goal.offset_bounds-calls-at-in-loop-i-3
-offset_bounds-calls-at-in-loop-i-3 c = omega (arith, c.requires.counted, c.loop-i-test.true)
-
-pub bounds-calls-at-in-loop-i-3 : goal.bounds-calls-at-in-loop-i-3
-bounds-calls-at-in-loop-i-3 c = omega (arith, c.requires.counted, c.loop-i-test.true)
-
-pub called-made-requires : goal.called-made-requires
-called-made-requires c = (c.loop-i.invariant.2.of, c.loop-i.invariant.2.held)
-
 pub overflow_mul-i : goal.overflow_mul-i
 overflow_mul-i c = omega (arith, place_fits _ _ _ _ c.loop-i.invariant.0 c.loop-i.invariant.1 _ c.requires.fits c.loop-i.invariant.2 c.loop-i-test.true)
 
 pub put_block-requires : goal.put_block-requires
 put_block-requires c = record { says = _; said = c.called-made.ensures _ c.loop-i.invariant.2.held; small = said_small (c.called-made.ensures _ c.loop-i.invariant.2.held) (called_small _ _ _ _ _ _); fits = next_fits _ _ _ _ c.loop-i.invariant.0 c.loop-i.invariant.1 _ c.requires.fits c.loop-i.invariant.2 c.loop-i-test.true }
-
-pub loop-i-smaller : goal.loop-i-smaller
-loop-i-smaller c = omega (arith, c.loop-i-test.true)
 
 pub loop-i-preserved : goal.loop-i-preserved
 loop-i-preserved c = (c.loop-i.invariant.0, c.loop-i.invariant.1, goes_on _ _ _ _ c.loop-i.invariant.0 c.loop-i.invariant.1 _ c.requires.fits c.loop-i.invariant.2 c.loop-i-test.true (c.called-made.ensures _ c.loop-i.invariant.2.held) (c.put_block.ensures _ (c.called-made.ensures _ c.loop-i.invariant.2.held)))
