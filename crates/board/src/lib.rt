@@ -1,6 +1,5 @@
-// The port of board.rs: the board by value, with a method for each call. Its fields are private, so that a board can only come from
-// these calls. What each call does is said in the crate `model`, specs/Calls.antt there; specs/Held.antt says what a board of this crate
-// holds of a board there.
+// The port of board.rs: the board by value, with a method for each call. Its parts are hidden, and its type says that they hold a board of
+// the crate `model` (specs/Holds.antt), so that no call asks anything of it. What each call does is said there, specs/Calls.antt.
 #![tactic(auto)]
 
 ghost use Rattle.std.specs.Prelude.{◌≡◌, true, false, ℕ, ◌≤◌, get_or, take};
