@@ -232,7 +232,7 @@ pub fn bar(board: &mut Arrays, kinds: &Kinds, v: usize, bit: u8, slot: usize)
 // The pad check of the pad that an end names, if it names one.
 #[cycle(deciding)]
 #[inline]
-fn check_end(board: &mut Arrays, kinds: &Kinds, end: End)
+pub fn check_end(board: &mut Arrays, kinds: &Kinds, end: End)
     requires { ((v : ℕ) → end_told end ≡ at_pad v → v < pads (grid_in kinds.now)) × Ready (grid_in kinds.now) board.old }
     ensures { Done (grid_in kinds.now) 1 board.old (check_at (pad_number (end_told end))) board.new }
 {
@@ -244,7 +244,7 @@ fn check_end(board: &mut Arrays, kinds: &Kinds, end: End)
 // The pad check.
 #[cycle(deciding)]
 #[inline]
-pub fn check(board: &mut Arrays, kinds: &Kinds, v: usize)
+fn check(board: &mut Arrays, kinds: &Kinds, v: usize)
     requires { (v < pads (grid_in kinds.now)) × Ready (grid_in kinds.now) board.old }
     ensures { Done (grid_in kinds.now) 1 board.old (check_at v) board.new }
 {
