@@ -77,9 +77,9 @@ module _ (height width layouts : ℕ) (buffer before : List ℕ) where
       none_left = omega arith
 
 -- a record is no longer than the places
-pub record_fits : (height width layouts k : ℕ) (buffer : List ℕ) → length (record_at height width layouts k buffer) ≤ places height width
+pub record_fits : (height width layouts k : ℕ) (buffer layout : List ℕ) → layout ≡ record_at height width layouts k buffer → length layout ≤ places height width
 unfolding record_at record_length
-record_fits height width layouts k buffer = go (has_record height width layouts k (length buffer))
+record_fits height width layouts k buffer layout is = rw is (go (has_record height width layouts k (length buffer)))
   where
     go : (b : Bool) → length (if b then take (places height width) (drop (k * places height width) buffer) else []) ≤ places height width
     go true = rw length-take (min-le_left _ _)

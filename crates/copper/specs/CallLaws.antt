@@ -1,7 +1,7 @@
 -- What `common` has answered and left when it returns is what the model says, test by test. It rests on the model's CommonLaws.antt, on the
 -- contract of `solve` and on OverlayLaws.antt.
-use Rattle.std.specs.Prelude.{ℕ, ◌*◌, ◌-◌, ◌≤◌, ◌<◌, ◌≡◌, List, ◌++◌, length, replicate, drop, ℤ, Result, Ok, Err}
-use Rattle.std.proofs.Common.{sym, ap, ◌∙◌, arith}
+use Rattle.std.specs.Prelude.{ℕ, ◌≤◌, ◌<◌, ◌≡◌, List, ◌++◌, length, replicate, drop, ℤ, Result, Ok, Err}
+use Rattle.std.proofs.Common.{sym, ap, ◌∙◌}
 use Rattle.rules.specs.Grid.{places}
 use Rattle.model.specs.Refusals.{grid_refusal}
 use Rattle.model.specs.RefusalLaws.{not_refused}

@@ -12,6 +12,7 @@ ghost use Rattle.copper.specs.Answers.{common_says};
 ghost use Rattle.copper.specs.declared.NoTable.TheVariants.{Grid};
 
 use grid::Refusal;
+use records::Layouts;
 use tally::{Solved, Tally};
 
 // Nothing is said of the first places yet.
@@ -33,12 +34,12 @@ fn overlay(table: &mut [u8], layout: &[u8])
 }
 
 // Lays the records of the buffer over the table, one after the other.
-fn overlay_records(table: &mut [u8], buffer: &[u8], height: usize, width: usize, layouts: usize)
-    requires { places height width ≤ length table.old }
-    ensures { table.new ≡ records_overlaid height width layouts buffer.now layouts 0 table.old }
+fn overlay_records(table: &mut [u8], layouts: &Layouts)
+    requires { places layouts.now.height layouts.now.width ≤ length table.old }
+    ensures { table.new ≡ records_overlaid layouts.now.height layouts.now.width layouts.now.count layouts.now.buffer.now layouts.now.count 0 table.old }
 {
-    for k in 0..layouts {
-        let layout = records::record_at(height, width, layouts, k, buffer);
+    for k in 0..layouts.count {
+        let layout = layouts.at(k);
         overlay(table, layout);
     }
 }
@@ -81,6 +82,12 @@ pub fn common(
         return Err(NoTable::Incomplete(found));
     }
     clear(table, places);
-    overlay_records(table, buffer, height, width, found.tally.layouts);
+    let layouts = Layouts {
+        height,
+        width,
+        count: found.tally.layouts,
+        buffer,
+    };
+    overlay_records(table, &layouts);
     Ok(found.tally)
 }

@@ -23,6 +23,7 @@ use copper::NoTable;
 use grid::{Edge, Refusal};
 use gridfile::{Declined, Grid, Unwritten};
 use judging::Judged;
+use records::Layouts;
 use tally::{Solved, Tally};
 
 // The five numbers of a reading: 0 beside the sizes of the grid, or the fault with its line and field.
@@ -130,7 +131,13 @@ pub extern "C" fn hunekowha_record(
     if answer.len() < 2 {
         return 0;
     }
-    let length = records::record_at(height, width, count, k, buffer).len();
+    let layouts = Layouts {
+        height,
+        width,
+        count,
+        buffer,
+    };
+    let length = layouts.at(k).len();
     let numbers = [(k * length) as u64, length as u64];
     lend::put(answer, 0, &numbers);
     2

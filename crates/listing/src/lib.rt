@@ -9,6 +9,7 @@ ghost use Rattle.listing.specs.Listing.{head_text, Headed, line_text};
 
 use gridfile::Declined;
 use printed::{HeadLine, LayoutLine};
+use records::Layouts;
 use tally::Solved;
 use text::Line;
 
@@ -18,6 +19,20 @@ pub struct Heading {
     pub height: usize,
     pub width: usize,
     pub found: Solved,
+}
+
+impl Heading {
+    // The layouts that the search has left in the buffer.
+    fn layouts<'a>(&self, buffer: &'a [u8]) -> Layouts<'a>
+        ensures { (result.height ≡ self.now.height) × (result.width ≡ self.now.width) × (result.count ≡ self.now.found.tally.layouts) × (result.buffer.now ≡ buffer.now) }
+    {
+        Layouts {
+            height: self.height,
+            width: self.width,
+            count: self.found.tally.layouts,
+            buffer,
+        }
+    }
 }
 
 // Reads the file and searches its grid into the buffer with this limit of visited boards; a refused file is told by why and where.
@@ -54,20 +69,20 @@ pub fn head_line(found: Result<Solved, Declined>) -> HeadLine
 
 // The line of layout k, from 0; nothing where there is no record k.
 #[tactic(auto, using(crate::specs::BufferRecords::line_laws))]
-pub fn line(buffer: &[u8], height: usize, width: usize, layouts: usize, k: usize) -> LayoutLine
-    ensures { result ≡ line_text height width layouts k buffer.now }
+pub fn line(layouts: &Layouts, k: usize) -> LayoutLine
+    ensures { result ≡ line_text layouts.now.height layouts.now.width layouts.now.count k layouts.now.buffer.now }
 {
-    let layout = records::record_at(height, width, layouts, k, buffer);
+    let layout = layouts.at(k);
     if layout.is_empty() {
         return Line::new();
     }
-    printed::layout_line(height, width, k as u64 + 1, layout)
+    printed::layout_line(layouts.height, layouts.width, k as u64 + 1, layout)
 }
 
 // Writes the lines of the layouts, in order. What cannot be written is passed over, here as below.
-fn print_lines(rt: &impl Print, buffer: &[u8], height: usize, width: usize, layouts: usize) {
-    for k in 0..layouts {
-        let _ = rt.write_all(line(buffer, height, width, layouts, k).as_bytes());
+fn print_lines(rt: &impl Print, layouts: &Layouts) {
+    for k in 0..layouts.count {
+        let _ = rt.write_all(line(layouts, k).as_bytes());
     }
 }
 
@@ -75,12 +90,6 @@ fn print_lines(rt: &impl Print, buffer: &[u8], height: usize, width: usize, layo
 pub fn print_list(rt: &impl Print, head: Result<Heading, Declined>, buffer: &[u8]) {
     let _ = rt.write_all(head_line(head.map(|heading| heading.found)).as_bytes());
     if let Ok(heading) = head {
-        print_lines(
-            rt,
-            buffer,
-            heading.height,
-            heading.width,
-            heading.found.tally.layouts,
-        );
+        print_lines(rt, &heading.layouts(buffer));
     }
 }

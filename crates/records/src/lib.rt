@@ -1,9 +1,9 @@
 // The record calls: layout k as a part of the lent answer buffer, the lines of a record, and the shorter of two lent records.
-// Each result equals the definition of the same name in the crate `model`, specs/Records.antt there, for every input. And a record laid out in
+// Each result equals its definition (`record_at`, `record_lines`, `shorter`: crate `model`, specs/Records.antt there), for every input. And a record laid out in
 // a buffer, for whoever knows the byte of an edge.
 #![tactic(auto)]
 
-ghost use Rattle.std.specs.Prelude.{◌≡◌};
+ghost use Rattle.std.specs.Prelude.{◌≡◌, length};
 ghost use Rattle.model.specs.Bounds.{is_size};
 ghost use Rattle.model.specs.Records.{has_record, record_at, shorter};
 ghost use Rattle.rules.specs.Record.{record_lines};
@@ -13,35 +13,47 @@ mod fields;
 pub use fields::put_field;
 use grid::Edge;
 
-// Whether a buffer of so many bytes has a record k: H and W are sizes, k is below the count, and the record ends in time.
-#[tactic(auto, using(crate::proofs::RecordLaws::record_laws))]
-fn has_record(height: usize, width: usize, count: usize, k: usize, room: usize) -> bool
-    ensures { result ≡ has_record height width count k room }
-{
-    if !grid::is_size(height) {
-        return false;
-    }
-    if !grid::is_size(width) {
-        return false;
-    }
-    if count <= k {
-        return false;
-    }
-    k < room / grid::places(height, width)
+// The layouts that an engine leaves in a lent buffer, record behind record: the sizes of their grid, and how many they are. Any numbers may
+// stand here.
+#[derive(Clone, Copy)]
+pub struct Layouts<'a> {
+    pub height: usize,
+    pub width: usize,
+    pub count: usize,
+    pub buffer: &'a [u8],
 }
 
-// Record k of the buffer, as that part of it; an empty part where there is no record k.
-#[tactic(auto, using(crate::proofs::RecordLaws::record_laws))]
-pub fn record_at(height: usize, width: usize, count: usize, k: usize, buffer: &[u8]) -> &[u8]
-    ensures { result.now ≡ record_at height width count k buffer.now }
-{
-    if !has_record(height, width, count, k, buffer.len()) {
-        return &buffer[0..0];
+impl<'a> Layouts<'a> {
+    // Whether the buffer has a record k: H and W are sizes, k is below the count, and the record ends in time.
+    #[tactic(auto, using(crate::proofs::RecordLaws::record_laws))]
+    fn has(&self, k: usize) -> bool
+        ensures { result ≡ has_record self.now.height self.now.width self.now.count k (length self.now.buffer.now) }
+    {
+        if !grid::is_size(self.height) {
+            return false;
+        }
+        if !grid::is_size(self.width) {
+            return false;
+        }
+        if self.count <= k {
+            return false;
+        }
+        k < self.buffer.len() / grid::places(self.height, self.width)
     }
-    let length = grid::places(height, width);
-    let start = k * length;
-    let end = start + length;
-    &buffer[start..end]
+
+    // Record k of the buffer, as that part of it; an empty part where there is no record k.
+    #[tactic(auto, using(crate::proofs::RecordLaws::record_laws))]
+    pub fn at(&self, k: usize) -> &'a [u8]
+        ensures { result.now ≡ record_at self.now.height self.now.width self.now.count k self.now.buffer.now }
+    {
+        if !self.has(k) {
+            return &self.buffer[0..0];
+        }
+        let length = grid::places(self.height, self.width);
+        let start = k * length;
+        let end = start + length;
+        &self.buffer[start..end]
+    }
 }
 
 // The number of lines of a record: its bytes 1.

@@ -3,4 +3,4 @@ use Rattle.copper.proofs.TableLaws.{Laid}
 use Rattle.copper.proofs.overlay_records.Given as goal
 
 abbrev pub invariant-loop-k : goal.invariant-loop-k
-invariant-loop-k l = Laid l.height l.width l.layouts l.buffer l.initial.table l.table l.k
+invariant-loop-k l = Laid l.layouts.height l.layouts.width l.layouts.count l.layouts.buffer.now l.initial.table l.table l.k

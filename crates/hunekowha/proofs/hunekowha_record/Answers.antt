@@ -7,7 +7,7 @@ pub returns-then-answer-lt2 : goal.returns-then-answer-lt2
 returns-then-answer-lt2 c = record_short _ _ _ _ _ _ c.if-answer-lt2.true
 
 pub overflow_mul-numbers : goal.overflow_mul-numbers
-overflow_mul-numbers c = omega (arith, offset_inside _ _ _ _ _ _ c.record_at-length.ensures)
+overflow_mul-numbers c = omega (arith, offset_inside _ _ _ _ _ _ c.at-length.ensures)
 
 pub returns : goal.returns
-returns c = record_whole _ _ _ _ _ _ c.if-answer-lt2.false _ _ c.record_at-length.ensures c.put.ensures
+returns c = record_whole _ _ _ _ _ _ c.if-answer-lt2.false _ _ c.at-length.ensures c.put.ensures
