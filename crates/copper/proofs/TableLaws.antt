@@ -84,3 +84,6 @@ record_fits height width layouts k buffer layout is = rw is (go (has_record heig
     go : (b : Bool) → length (if b then take (places height width) (drop (k * places height width) buffer) else []) ≤ places height width
     go true = rw length-take (min-le_left _ _)
     go false = omega arith
+
+-- what the proof of the loop over the records is found by
+pub ruleset record_by_record = (one_laid, all_laid, record_fits)

@@ -34,6 +34,7 @@ fn overlay(table: &mut [u8], layout: &[u8])
 }
 
 // Lays the records of the buffer over the table, one after the other.
+#[tactic(auto, using(crate::proofs::TableLaws::record_by_record))]
 fn overlay_records(table: &mut [u8], layouts: &Layouts)
     requires { places layouts.now.height layouts.now.width ≤ length table.old }
     ensures { table.new ≡ records_overlaid layouts.now.height layouts.now.width layouts.now.count layouts.now.buffer.now layouts.now.count 0 table.old }

@@ -41,9 +41,9 @@ module _ (height width count k room : ℕ) where
   unfolding has_record
   not_counted h w c = simp (h, w, le-ltb _ _ c)
 
-  pub by_room : is_size height ≡ true → is_size width ≡ true → k < count → (long : ℕ) → long ≡ places height width → ltb k (room / long) ≡ has_record height width count k room
+  pub by_room : is_size height ≡ true → is_size width ≡ true → k < count → (long many : ℕ) → long ≡ places height width → many ≡ room / long → ltb k many ≡ has_record height width count k room
   unfolding has_record record_length
-  by_room h w c long e = simp (h, w, lt-ltb _ _ c, ← e) (go (ltb k (room / long)) refl)
+  by_room h w c long many e is = rw is (simp (h, w, lt-ltb _ _ c, ← e) (go (ltb k (room / long)) refl))
     where
       some : 0 < long
       some = rw e (some_bytes height width h w)
@@ -66,9 +66,10 @@ module _ (height width count k : ℕ) (buffer : List ℕ) where
   unfolding record_at
   no_record e = simp e
 
-  pub that_part : has_record height width count k (length buffer) ≡ true → (long : ℕ) → long ≡ places height width → take (k * long + long - k * long) (drop (k * long) buffer) ≡ record_at height width count k buffer
+  pub that_part : has_record height width count k (length buffer) ≡ true → (long end : ℕ) → long ≡ places height width → end ≡ k * long + long
+      → take (end - k * long) (drop (k * long) buffer) ≡ record_at height width count k buffer
   unfolding record_at record_length
-  that_part e long l = simp (e, ← l, add-sub_cancel_left)
+  that_part e long end l to = simp (e, ← l, to, add-sub_cancel_left)
 
 -- ## Lines
 
