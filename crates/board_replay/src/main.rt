@@ -11,9 +11,6 @@ use grid::Edge;
 use std::os::fd::AsRawFd;
 use stream::{byte_at, grid_at, later, number_at, replay_all, taken, taken_bytes, taken_ends};
 
-// No stream is longer.
-const LONGEST: usize = 400000;
-
 // One call: 32 times the kind, plus the row; and the column. The kinds are 0 checkpoint, 1 undo, 2 read, 3 decide a line, 4 decide none.
 fn called(board: Board, first: u8, column: u8) -> Answer {
     let y = usize::from(first % 32);
@@ -52,20 +49,18 @@ fn sum_of_calls(stream: &[u8], place: usize, calls: usize, fresh: Board) -> u64
     sum
 }
 
-// One sequence; the place after it.
-fn sequence_at(rt: &impl Print, stream: &[u8], place: usize, number: u64) -> usize {
-    let Some(grid) = grid_at(stream, place) else {
-        return LONGEST;
-    };
+// One sequence; the place after it, or none where the stream has no sequence there.
+fn sequence_at(rt: &impl Print, stream: &[u8], place: usize, number: u64) -> Option<usize> {
+    let grid = grid_at(stream, place)?;
     let fresh = Board::new(grid.height, grid.width, grid.cells());
     let calls = number_at(stream, grid.after, 2);
     if calls > 65535 {
-        return LONGEST;
+        return None;
     }
     let first = later(grid.after, 2);
     let sum = sum_of_calls(stream, first, calls as usize, fresh.board);
     let _ = println!(rt; "{number},{calls},{sum}");
-    later(first, 2 * calls as usize)
+    Some(later(first, 2 * calls as usize))
 }
 
 // Room for the whole stream.

@@ -7,9 +7,6 @@ use std::os::fd::AsRawFd;
 use stream::{Sent, byte_at, grid_at, later, number_at, replay_all, taken_bytes};
 use tally::{Solved, Tally, outcome_number};
 
-// No stream is longer.
-const LONGEST: usize = 65536;
-
 // No room is larger.
 const LARGEST_ROOM: usize = 61504;
 
@@ -48,16 +45,14 @@ fn run_at(rt: &impl Print, stream: &[u8], place: usize, number: u64, grid: &Sent
     }
 }
 
-// All runs of one grid; the place after them.
-fn runs_at(rt: &impl Print, stream: &[u8], place: usize, number: u64) -> usize {
-    let Some(grid) = grid_at(stream, place) else {
-        return LONGEST;
-    };
+// All runs of one grid; the place after them, or none where the stream has no grid there.
+fn runs_at(rt: &impl Print, stream: &[u8], place: usize, number: u64) -> Option<usize> {
+    let grid = grid_at(stream, place)?;
     let total = usize::from(byte_at(stream, grid.after));
     for run in 0..total {
         run_at(rt, stream, later(grid.after, 1 + 12 * run), number, &grid);
     }
-    later(grid.after, 1 + 12 * total)
+    Some(later(grid.after, 1 + 12 * total))
 }
 
 fn main(rt: HostRuntime) {

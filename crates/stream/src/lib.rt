@@ -81,16 +81,19 @@ pub fn grid_at(stream: &[u8], place: usize) -> Option<Sent> {
 const MOST: u64 = 100000;
 
 // Goes through a stream of so many bytes, from one sequence or grid to the next: `replay` is asked for the one at a place, with its number from 1
-// on, and answers the place after it.
-pub fn replay_all<F: Fn(usize, u64) -> usize>(length: usize, replay: F)
+// on, and answers the place after it, or none where the stream tells no more.
+pub fn replay_all<F: Fn(usize, u64) -> Option<usize>>(length: usize, replay: F)
     requires { F.IsAlwaysCallable replay }
 {
     let mut place = 0;
     for number in 1..MOST {
         if place >= length {
-            break;
+            return;
         }
-        place = replay(place, number);
+        let Some(next) = replay(place, number) else {
+            return;
+        };
+        place = next;
     }
 }
 

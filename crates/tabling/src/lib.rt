@@ -63,14 +63,8 @@ pub fn head(file: &[u8], buffer: &mut [u8], table: &mut [u8]) -> Result<Heading,
     ensures { Headed file.now buffer.old table.old result buffer.new table.new }
 {
     let grid = gridfile::read(file)?;
-    let common = copper::common(
-        grid.height,
-        grid.width,
-        grid.accepted().cells,
-        LIMIT,
-        buffer,
-        table,
-    );
+    let cells = grid.accepted().cells;
+    let common = copper::common(grid.height, grid.width, cells, LIMIT, buffer, table);
     Ok(Heading {
         found: found_in(common),
         width: grid.width,
