@@ -168,7 +168,7 @@ fn bytes_equal(left: u8, right: u8, up: u8, down: u8, byte: u8) -> u8
 }
 
 // The side of a pad's first undecided edge: 0 left, 1 right, 2 up, 3 down. A number and no enum: it is added into a byte of the pad check's
-// table, as `action_code` of boardview's View.antt has it.
+// table, as `action_code` of boardview's Told.antt has it.
 fn undecided_side(left: u8, right: u8, up: u8) -> u8
     ensures { (result ≡ undecided_side left right up) × (result ≤ 3) }
 {
@@ -185,7 +185,7 @@ fn undecided_side(left: u8, right: u8, up: u8) -> u8
 }
 
 // What the pad check does last at a pad (`clue` is 1 for a clue, else 0) with these edges: 0 nothing, 1 the flag, 2 + a side a line there,
-// 6 + a side none there.
+// 6 + a side none there. A number, as the table holds it.
 fn action_code(clue: u8, left: u8, right: u8, up: u8, down: u8) -> u8
     requires { clue ≤ 1 }
     ensures { result ≡ action_code clue left right up down }

@@ -248,7 +248,7 @@ pub fn some_apart(board: &Arrays, width: usize, v: usize) -> bool
         || keeps_apart(board, code, 33 + 2 * v, 16 + v + width)
 }
 
-// The slot of the edge on a side of a pad: 0 left, 1 right, 2 up, 3 down.
+// The slot of the edge on a side of a pad: 0 left, 1 right, 2 up, 3 down, a number as the codes of the pad check's table hold it.
 fn slot_around(width: usize, v: usize, side: usize) -> usize
     requires { (v < 256) × (width ≤ 16) }
     ensures { (result ≡ slot_around width v side) × (result < 1024) }
@@ -278,7 +278,7 @@ fn action_index(edges: &[u8; 1024], kinds: &Kinds, v: usize) -> usize
     left + 4 * right + 16 * up + 64 * down + 256 * clue
 }
 
-// What the pad check does last at a pad, from the table of the kinds. A line or none is at the slot of an undecided edge.
+// What the pad check does last at a pad, from the code that its table has for it. A line or none is at the slot of an undecided edge.
 pub fn last_action(edges: &[u8; 1024], kinds: &Kinds, v: usize) -> Action
     requires { (v < 256) × ((n : ℕ) → get_or edges.now n 2 ≤ 2) }
     ensures acts { action_number result ≡ action_around kinds.now.bits edges.now kinds.now.width v }
