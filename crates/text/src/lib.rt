@@ -5,6 +5,8 @@
 ghost use Rattle.std.specs.Prelude.{◌≡◌, ℕ, List, [], ◌∷◌, ◌++◌, ◌+◌, ◌≤◌, ◌<◌, length, take};
 ghost use Rattle.model.specs.Decimal.{decimal};
 ghost use Rattle.text.specs.Put.{Put};
+ghost use Rattle.text.specs.Padded.{Padded, padded, bytes_in};
+ghost use Rattle.text.specs.PaddedLaws.{padded_back, text_long};
 
 use std::marker::Model;
 
@@ -19,14 +21,15 @@ pub fn put_byte(out: &mut [u8], at: usize, byte: u8) -> usize
     at + 1
 }
 
-// A word from a place on; the place after it.
+// A word from a place on; the place after it. Byte by byte, so that an archive for C needs no memmove.
 pub fn put_word(out: &mut [u8], at: usize, word: &[u8]) -> usize
     requires { at + length word.now ≤ length out.old }
     ensures { Put out.old out.new at word.now result }
 {
-    let next = at + word.len();
-    out[at..next].copy_from_slice(word);
-    next
+    for i in 0..word.len() {
+        out[at + i] = word[i];
+    }
+    at + word.len()
 }
 
 // A number in shortest digits from a place on; the place after it.
@@ -50,20 +53,24 @@ pub fn put_field(out: &mut [u8], at: usize, number: u64, after: u8) -> usize
     put_byte(out, last, after)
 }
 
-// A text of at most N bytes, in an array of its own.
-#[derive(Drop)]
+// A text of at most N bytes, in an array of its own, with zeros behind it.
+#[derive(Clone, Copy)]
 pub struct Line<const N: usize> {
     bytes: [u8; N],
     length: usize,
 }
 
-// Clauses see the text.
+// Clauses see the text, which tells the whole array.
 impl<const N: usize> Model for Line<N> {
     ghost Value = { List ℕ };
 
     ghost view = { λ line. take line.length line.bytes };
 
-    ghost invariant = { λ line. line.length ≤ N };
+    ghost invariant = { λ line. Padded N line.length line.bytes };
+
+    ghost inverse = { λ text. record { bytes = padded N text; length = bytes_in text } };
+
+    ghost inverse_ok = { λ line held i. record { bytes = padded_back held i; length = text_long held i } };
 }
 
 impl<const N: usize> Line<N> {
@@ -82,6 +89,13 @@ impl<const N: usize> Line<N> {
         ensures short { length result.now ≤ N }
     {
         &self.bytes[..self.length]
+    }
+
+    // The whole array: the text, and zeros behind it.
+    pub fn array(&self) -> [u8; N]
+        ensures { result ≡ padded N self.now }
+    {
+        self.bytes
     }
 
     // One byte more.

@@ -1,15 +1,20 @@
--- The word between what was before the place and what was after it. Assumes nothing.
-use Rattle.std.proofs.Common.{◌∙◌, ap, sym, ◌++◌, ◌+◌, List, ℕ, length, take, drop, take_all, refl, arith}
-use Rattle.std.proofs.lemmas.List.Edits.{sets-eq}
-use Rattle.std.proofs.lemmas.Slice.{put_mid-paste}
+-- `text::put_word` meets its contract. The loop's invariant: as many bytes of the word are put as were passed.
+-- Assumes nothing.
+use Rattle.text.specs.PutLaws.{put_length, put_none, byte_put, word_put}
+use native.Mathlib.Omega.{arith}
+use mathlib.Core.Path.{refl}
 use Rattle.text.proofs.put_word.Goals as goal
+
+pub loop-i-init : goal.loop-i-init
+loop-i-init c = (omega arith, put_none _ _ _ (omega arith))
+
+pub bounds-out-at : goal.bounds-out-at
+bounds-out-at c = omega (arith, put_length c.loop-i.invariant.1, c.requires)
+
+pub loop-i-preserved : goal.loop-i-preserved
+loop-i-preserved c = (omega arith, byte_put _ _ _ _ _ (omega arith) c.loop-i.invariant.1)
 
 pub returns : goal.returns
 returns c =
-    let whole = c.args.out.now in
-    let at = c.args.at in
-    let word = c.args.word.now in
-    record {
-      stored = put_mid-paste at _ whole _ word (length word) c.copy_from_slice.ensures.after (omega arith) refl ∙ ap (λ (t : List ℕ). take at whole ++ t ++ drop (at + length word) whole) (take_all (length word) word (omega arith)) ∙ sym (sets-eq word whole at c.requires);
-      place = refl;
-    }
+    let done = word_put c.args.out.now c.loop-i.out c.args.word.now c.args.at c.loop-i.i (omega arith) c.loop-i.invariant.1 in
+    record { stored = done.stored; place = refl }
