@@ -4,9 +4,15 @@
 
 use std::array;
 
+// Places further on than this are not told apart; no stream is that long.
+const FAR: usize = 1000000000;
+
 // The place so many bytes further on.
 pub fn later(place: usize, bytes: usize) -> usize {
-    place.saturating_add(bytes)
+    if place > FAR || bytes > FAR {
+        return FAR;
+    }
+    place + bytes
 }
 
 // The byte at a place, 0 past the end.
@@ -33,7 +39,7 @@ pub fn cell_of(byte: u8) -> i64 {
 }
 
 // So many cells from a place on, and blank ones after them.
-fn cells_at(stream: &[u8], place: usize, count: usize) -> [i64; 256] {
+pub fn cells_at(stream: &[u8], place: usize, count: usize) -> [i64; 256] {
     array::from_fn(|i| {
         if i < count {
             cell_of(byte_at(stream, later(place, i)))
