@@ -195,7 +195,8 @@ fn ended_field(byte: u8, digits: usize, value: usize, at: usize) -> Result<Field
     Ok(Field { value, end: at })
 }
 
-// The field of digits that begins at a place.
+// The field of digits that begins at a place. In line, since a Result goes through memory at a call.
+#[inline(always)]
 #[tactic(auto, using(crate::proofs::FieldLaws::field_laws))]
 fn field_at(bytes: &[u8], from: usize) -> Result<Field, Fault>
     ensures { result ≡ field_at bytes.now from }
@@ -218,6 +219,7 @@ fn field_at(bytes: &[u8], from: usize) -> Result<Field, Fault>
 }
 
 // The field of a row that begins at a place: a hole's sign alone, which has the value 0, or digits.
+#[inline(always)]
 #[tactic(auto, using(crate::proofs::FieldLaws::field_laws))]
 fn row_field_at(bytes: &[u8], from: usize) -> Result<Field, Fault>
     ensures { result ≡ row_field_at bytes.now from }

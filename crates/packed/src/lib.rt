@@ -25,7 +25,9 @@ fn all_blank(five: &[u8]) -> bool
     five.iter().all(|byte| *byte == BLANK_BYTE)
 }
 
-// What the five bytes of a pad give: of each byte the high half is the first digit.
+// What the five bytes of a pad give: of each byte the high half is the first digit. In line, since a Result goes through
+// memory at a call.
+#[inline(always)]
 #[tactic(auto, using(crate::proofs::PadLaws::pad_laws))]
 fn pad_of(five: &[u8]) -> Result<i64, Fault>
     requires { length five.now ≤ 5 }
@@ -36,6 +38,7 @@ fn pad_of(five: &[u8]) -> Result<i64, Fault>
     }
     let mut value: usize = 0;
     for &byte in five {
+        let byte = usize::from(byte);
         let high = byte / 16;
         let low = byte % 16;
         if high > 9 {
@@ -44,7 +47,7 @@ fn pad_of(five: &[u8]) -> Result<i64, Fault>
         if low > 9 {
             return Err(Fault::HalfByte);
         }
-        value = (value * 10 + usize::from(high)) * 10 + usize::from(low);
+        value = (value * 10 + high) * 10 + low;
     }
     if value > grid::LARGEST_CODE as usize {
         return Err(Fault::LargeCode);
