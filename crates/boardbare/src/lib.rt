@@ -40,7 +40,11 @@ fn edge_byte(grid: &Grid, slot: usize) -> u8
 fn bare_edges(grid: &Grid) -> [u8; 1024]
     ensures { EdgesFrom grid.now.width (grid.now.height * grid.now.width) 0 result }
 {
-    array::from_fn(|slot| edge_byte(grid, slot))
+    let mut edges = [NONE; 1024];
+    for slot in (0..32 + 2 * grid.pads()).rev() {
+        edges[slot] = edge_byte(grid, slot);
+    }
+    edges
 }
 
 // The end number of a pad: -v - 2 for a clue of value v, its own index for a blank pad and for a hole.
@@ -54,12 +58,16 @@ fn bare_end(cells: &[i64], v: usize) -> i64
     }
 }
 
-// The ends of all pads.
+// The ends of all pads. Most ends are a pad's own index, so all are filled with it first, without a look at the cells.
 pub fn bare_ends(cells: &[i64]) -> [i64; 512]
     requires { CellsInRange cells.now }
     ensures { EndsFrom cells.now 0 result }
 {
-    array::from_fn(|v| bare_end(cells, v))
+    let mut ends = array::from_fn(|v| v as i64);
+    for v in (0..cells.len().min(512)).rev() {
+        ends[v] = bare_end(cells, v);
+    }
+    ends
 }
 
 // Whether a pad is a clue: a blank pad and a hole are below 0.

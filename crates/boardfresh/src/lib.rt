@@ -72,22 +72,33 @@ pub struct Fresh {
     pub kinds: Kinds,
 }
 
-// The arrays of the fresh board of an accepted grid.
-pub fn fresh_board(grid: &Grid) -> Fresh
-    ensures { FreshBoard (as_grid grid.now) result.board.edges result.board.ends result.kinds result.board.count × (length result.board.log ≡ 1440) }
+// Lays the arrays of the fresh board of an accepted grid into lent ones, whatever they hold, and hands back what is told of the grid. In place,
+// since the log is large: a search makes one board, and it is not to lie on the stack twice.
+pub fn lay_board(board: &mut Arrays, grid: &Grid) -> Kinds
+    ensures { FreshBoard (as_grid grid.now) board.new.edges board.new.ends result board.new.count × (length board.new.log ≡ 1440) }
 {
     let bare = boardbare::bare_board(grid);
     let edges = bare.edges;
     let ends = bare.ends;
-    let log = [0; 1440];
+    let kinds = bare.kinds;
+    board.edges = edges;
+    board.ends = ends;
+    board.count = 0;
+    shut_holes(board, &kinds);
+    board.restart();
+    kinds
+}
+
+// The arrays of the fresh board of an accepted grid.
+pub fn fresh_board(grid: &Grid) -> Fresh
+    ensures { FreshBoard (as_grid grid.now) result.board.edges result.board.ends result.kinds result.board.count × (length result.board.log ≡ 1440) }
+{
     let mut board = Arrays {
-        edges,
-        ends,
-        log,
+        edges: [0; 1024],
+        ends: [0; 512],
+        log: [0; 1440],
         count: 0,
     };
-    let kinds = bare.kinds;
-    shut_holes(&mut board, &kinds);
-    board.restart();
+    let kinds = lay_board(&mut board, grid);
     Fresh { board, kinds }
 }

@@ -1,1 +1,2 @@
--- Undo states its promises with the definitions of boardview; there are none here.
+-- What is said of undoing beside the contracts, which cite boardview's definitions.
+pub mod Undone
