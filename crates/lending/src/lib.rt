@@ -1,2 +1,2 @@
-// How an engine's tally is lent, for every engine: theory only, in proofs/.
+// How an engine's tally was lent before `tally::lent`, for every engine: theory only, in proofs/.
 #![tactic(auto)]

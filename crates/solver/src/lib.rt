@@ -92,9 +92,13 @@ fn search_from(tally: &mut Tally, grid: &Grid, limit: u64, buffer: &mut [u8]) ->
     requires { tally.old.layouts * places grid.now.height grid.now.width ≤ length buffer.old }
     ensures { answers.Counted grid.now.height grid.now.width grid.now.cells.now limit tally.old buffer.old (record { outcome = result; tally = tally.new }) buffer.new }
 {
-    let fresh = boardfresh::fresh_board(grid);
-    let mut board = fresh.board;
-    let kinds = fresh.kinds;
+    let mut board = Arrays {
+        edges: [0; 1024],
+        ends: [0; 512],
+        log: [0; 1440],
+        count: 0,
+    };
+    let kinds = boardfresh::lay_board(&mut board, grid);
     if board.is_flagged() {
         return Ok(());
     }
@@ -107,9 +111,8 @@ fn search_from(tally: &mut Tally, grid: &Grid, limit: u64, buffer: &mut [u8]) ->
 pub fn search(grid: &Grid, limit: u64, buffer: &mut [u8]) -> Solved
     ensures { answers.Solves grid.now.height grid.now.width grid.now.cells.now limit buffer.old (Ok result) buffer.new }
 {
-    let mut tally = Tally::EMPTY;
-    let outcome = search_from(&mut tally, grid, limit, buffer);
-    Solved { outcome, tally }
+    let engine = |tally: &mut Tally, buffer: &mut [u8]| search_from(tally, grid, limit, buffer);
+    tally::lent(engine, buffer)
 }
 
 // Lists the wirings of a grid into the lent buffer.

@@ -2,4 +2,5 @@
 pub mod Outcomes
 pub mod Empty
 pub mod Counts
+pub mod Lent
 pub mod Answers

@@ -6,6 +6,8 @@ ghost use Rattle.std.specs.Prelude.{◌≡◌, ◌+◌, ◌*◌, ◌-◌, ◌≤
 ghost use Rattle.model.specs.Runs.{least};
 ghost use Rattle.tally.specs.declared.Stop.TheVariants.{Full};
 ghost use Rattle.tally.specs.Outcomes.{outcome_number};
+ghost use Rattle.tally.specs.Empty.{empty};
+ghost use Rattle.tally.specs.Lent.{Asks, Says};
 
 // Why an engine stops before it has gone through everything: it came to its limit, or the buffer had no room for a layout.
 #[derive(Clone, Copy, PartialEq, Eq)]
@@ -68,4 +70,17 @@ impl Tally {
 pub struct Solved {
     pub outcome: Result<(), Stop>,
     pub tally: Tally,
+}
+
+// Runs an engine, any one: a tally with nothing counted is lent to it, and is handed back beside how its run ended.
+pub fn lent<F: FnOnce(&mut Tally, &mut [u8]) -> Result<(), Stop>>(
+    engine: F,
+    buffer: &mut [u8],
+) -> Solved
+    requires { Asks F.FnOnce engine empty buffer.old }
+    ensures { Says F.FnOnce engine empty buffer.old result.outcome result.tally buffer.new }
+{
+    let mut tally = Tally::EMPTY;
+    let outcome = engine(&mut tally, buffer);
+    Solved { outcome, tally }
 }

@@ -22,8 +22,9 @@ use Rattle.grid.specs.declared.Refusal.{Refusal}
 use Rattle.grid.specs.Answers.{refusal_says, some_number}
 use Rattle.grid.specs.AsGrid.{as_grid}
 use Rattle.grid.specs.declared.accepted.Grid.{Grid}
+use Rattle.tally.specs.declared.Tally.{Tally}
 use Rattle.tally.specs.declared.Solved.{Solved}
-use Rattle.tally.specs.Counts.{progress_of, tally_says, from_empty, counted_run}
+use Rattle.tally.specs.Counts.{progress_of, tally_says, counted_run}
 use Rattle.tally.specs.Empty.{empty}
 use Rattle.everycode.specs.EveryCode.{every_code_exact, every_code_sized, walk_is_run, walk_is_declined}
 use Rattle.promises.specs.Contract.{promise}
@@ -51,8 +52,8 @@ zero_at n small i = elim (dec_lt i n) [
   | no past ↦ get_or-eq_default (zeros n) undecided_byte {n = i} (rw (zeros_long n small) (omega arith))
 ]
 
--- THE WHOLE WALK over it
-module _ (grid : Grid) (buffer : List ℕ) {size : ℕ} (is : size ≡ places grid.height grid.width) where
+-- THE WHOLE WALK over it, from any tally whose layouts have their records in the buffer
+module _ (grid : Grid) (t : Tally) (buffer : List ℕ) (inside : t.layouts * places grid.height grid.width ≤ length buffer) {size : ℕ} (is : size ≡ places grid.height grid.width) where
   abbrev height : ℕ
   height = grid.height
 
@@ -65,16 +66,16 @@ module _ (grid : Grid) (buffer : List ℕ) {size : ℕ} (is : size ≡ places gr
   pub few : size ≤ 961
   few = rw is (few_places height width grid.accepted.height_in_range.1 grid.accepted.width_in_range.1)
 
-  pub begun : Begun height width (zeros size) 0 buffer
-  begun = record { long = zeros_long size few ∙ is; inside = (from_empty height width cells buffer grid.accepted).inside }
+  pub begun : Begun height width (zeros size) t.layouts buffer
+  begun = record { long = zeros_long size few ∙ is; inside = inside }
 
   pub counted : (limit : ℕ) (s : Solved) (bytes' buffer' : List ℕ)
-      → WalkedOn (as_grid grid) limit 0 (zeros size) (progress_of (places height width) (Ok tt) empty buffer) bytes' (tally_says height width s buffer')
-      → Counted height width cells limit empty buffer s buffer'
+      → WalkedOn (as_grid grid) limit 0 (zeros size) (progress_of (places height width) (Ok tt) t buffer) bytes' (tally_says height width s buffer')
+      → Counted height width cells limit t buffer s buffer'
   unfolding grid_of model.every_code
   counted limit s bytes' buffer' walked = record {
     advanced = walked.advanced model.no_lines nothing
-        ∙ ap (λ (n : ℕ). advance limit (places height width) (progress_of (places height width) (Ok tt) empty buffer) (model.walk_on (grid_of height width cells) n 0 model.no_lines)) all_pads;
+        ∙ ap (λ (n : ℕ). advance limit (places height width) (progress_of (places height width) (Ok tt) t buffer) (model.walk_on (grid_of height width cells) n 0 model.no_lines)) all_pads;
     same_length = walked.same_length;
   }
     where

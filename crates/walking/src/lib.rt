@@ -124,15 +124,22 @@ fn walk_on(
     Ok(())
 }
 
-// Walks a whole grid with a tally of its own, which is lent down the walk and handed back. No pad has a code yet, so any bytes of edges will do.
-fn walk_grid(grid: &Grid, limit: u64, buffer: &mut [u8]) -> Solved
-    ensures { answers.Counted grid.now.height grid.now.width grid.now.cells.now limit empty buffer.old result buffer.new }
+// Walks a whole grid and counts on in the tally. No pad has a code yet, so any bytes of edges will do.
+fn walk_from(tally: &mut Tally, grid: &Grid, limit: u64, buffer: &mut [u8]) -> Result<(), Stop>
+    requires { tally.old.layouts * places grid.now.height grid.now.width ≤ length buffer.old }
+    ensures { answers.Counted grid.now.height grid.now.width grid.now.cells.now limit tally.old buffer.old (record { outcome = result; tally = tally.new }) buffer.new }
 {
     let mut bytes = [0u8; 961];
     let size = grid.places();
-    let mut tally = Tally::EMPTY;
-    let outcome = walk_on(grid, &mut bytes[..size], limit, buffer, &mut tally, 0);
-    Solved { outcome, tally }
+    walk_on(grid, &mut bytes[..size], limit, buffer, tally, 0)
+}
+
+// Walks a whole grid with a tally of its own, which is lent down the walk and handed back.
+fn walk_grid(grid: &Grid, limit: u64, buffer: &mut [u8]) -> Solved
+    ensures { answers.Counted grid.now.height grid.now.width grid.now.cells.now limit empty buffer.old result buffer.new }
+{
+    let engine = |tally: &mut Tally, buffer: &mut [u8]| walk_from(tally, grid, limit, buffer);
+    tally::lent(engine, buffer)
 }
 
 // Lists the wirings of a grid into the lent buffer, by trying every code at every pad.

@@ -1,17 +1,6 @@
--- The walk over a record of zeros, from the first pad on, is the walk of the grid. Assumes nothing.
-use mathlib.Core.Path.{sym}
-use native.Mathlib.Omega.{arith}
-use Rattle.walking.proofs.Answered.{zeros_long, few, begun, counted}
+-- The engine is the walk, so what is handed back is what it says from an empty tally. Assumes nothing.
+use Rattle.std.proofs.Common.{rules}
 use Rattle.walking.proofs.walk_grid.Goals as goal
 
-pub slice_bounds-bytes-end : goal.slice_bounds-bytes-end
-slice_bounds-bytes-end c = few c.args.grid.now c.args.buffer.now c.places-size.ensures
-
-pub slice_bounds-walk_on-end : goal.slice_bounds-walk_on-end
-slice_bounds-walk_on-end c = sym (zeros_long _ (few c.args.grid.now c.args.buffer.now c.places-size.ensures))
-
-pub walk_on-outcome-requires : goal.walk_on-outcome-requires
-walk_on-outcome-requires c = (begun c.args.grid.now c.args.buffer.now c.places-size.ensures, omega arith)
-
 pub returns : goal.returns
-returns c = counted c.args.grid.now _ c.places-size.ensures _ _ _ _ c.walk_on-outcome.ensures
+returns c = let e = c.lent.ensures in rw (← e.lends.0, ← e.lends.1, ← e.leaves.1) (search rules)
