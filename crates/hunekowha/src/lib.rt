@@ -15,7 +15,7 @@ ghost use Rattle.judging.specs.Judging.{judged_says};
 ghost use Rattle.board.specs.Held.{Held, Says};
 ghost use Rattle.hunekowha.specs.Replay.{state_asked, called, block, block_size, all_blocks, Writable, Replayable};
 ghost use Rattle.std.proofs.Math.Seq.{paste};
-ghost use Rattle.hunekowha.specs.Lent.{read_numbers, reading_gives, write_numbers, write_gives, record_gives, judge_numbers, judge_gives, counted_numbers, declined_numbers, search_numbers, listing_gives, table_numbers, common_gives};
+ghost use Rattle.hunekowha.specs.Lent.{written, read_numbers, reading_gives, write_numbers, write_gives, record_gives, judge_numbers, judge_gives, counted_numbers, declined_numbers, search_numbers, listing_gives, table_numbers, common_gives};
 ghost use Rattle.hunekowha.specs.Replay.{replay_gives};
 
 use board::{Answer, Board};
@@ -27,8 +27,8 @@ use records::Layouts;
 use tally::{Solved, Tally};
 
 // The five numbers of a reading: 0 beside the sizes of the grid, or the fault with its line and field.
-fn reading_numbers(reading: Result<Grid, Declined>) -> [u64; 5]
-    ensures { result ≡ read_numbers (reading_says reading) }
+fn reading_numbers(reading: &Result<Grid, Declined>) -> [u64; 5]
+    ensures { result ≡ read_numbers (reading_says reading.now) }
 {
     match reading {
         Ok(grid) => [0, 0, 0, grid.height as u64, grid.width as u64],
@@ -42,13 +42,14 @@ fn reading_numbers(reading: Result<Grid, Declined>) -> [u64; 5]
     }
 }
 
-// The cells of a reading: those of the grid, and blank ones where there is none.
-fn reading_cells(reading: Result<Grid, Declined>) -> [i64; 256]
-    ensures { result ≡ (reading_says reading).cells }
+// Writes the cells of a reading: those of the grid, and blank ones where there is none.
+fn put_cells(reading: &Result<Grid, Declined>, cells: &mut [i64])
+    requires { 256 ≤ length cells.old }
+    ensures { cells.new ≡ written (reading_says reading.now).cells cells.old }
 {
     match reading {
-        Ok(grid) => grid.cells,
-        Err(_) => gridfile::no_cells(),
+        Ok(grid) => lend::put(cells, 0, &grid.cells),
+        Err(_) => lend::put(cells, 0, &gridfile::no_cells()),
     }
 }
 
@@ -62,8 +63,8 @@ fn put_reading(reading: Result<Grid, Declined>, answer: &mut [u64], cells: &mut 
     if cells.len() < 256 {
         return 0;
     }
-    lend::put(answer, 0, &reading_numbers(reading));
-    lend::put(cells, 0, &reading_cells(reading));
+    lend::put(answer, 0, &reading_numbers(&reading));
+    put_cells(&reading, cells);
     5
 }
 

@@ -12,8 +12,5 @@ returns-then-answer-lt5 c = read_short_answer _ _ _ c.if-answer-lt5.true
 pub returns-then-cells-lt256 : goal.returns-then-cells-lt256
 returns-then-cells-lt256 c = read_short_cells _ _ _ c.if-answer-lt5.false c.if-cells-lt256.true
 
-pub put-requires-2 : goal.put-requires-2
-put-requires-2 c = let long : length c.reading_cells.result ≡ 256 = search rules in omega arith
-
 pub returns : goal.returns
-returns c = read_whole _ _ _ c.if-answer-lt5.false c.if-cells-lt256.false _ _ (put_front _ c.reading_numbers.ensures c.put.ensures) (put_front _ c.reading_cells.ensures c.put-2.ensures)
+returns c = read_whole _ _ _ c.if-answer-lt5.false c.if-cells-lt256.false _ _ (put_front _ c.reading_numbers.ensures c.put.ensures) c.put_cells.ensures
