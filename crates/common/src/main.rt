@@ -27,7 +27,7 @@ fn print_table(rt: &impl Print, file: &[u8], buffer: &mut [u8], table: &mut [u8]
     requires { (length file.now ≤ 4096) × (length buffer.old ≡ routes_room) × (961 ≤ length table.old) }
 {
     let head = tabling::head(file, buffer, table);
-    let _ = rt.write_all(listing::head_line(head.map(|heading| heading.found)).as_bytes());
+    let _ = rt.write_all(tabling::first_line(head).as_bytes());
     if let Ok(heading) = head {
         print_rows(rt, table, heading.width, heading.rows);
     }

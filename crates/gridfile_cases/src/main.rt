@@ -3,11 +3,12 @@
 // and what must be printed.
 #![tactic(auto)]
 
+use reader_cases::Reader;
 use std::os::fd::AsRawFd;
 
 fn main(rt: HostRuntime) {
     let mut input = io::large_buffer();
     // By the kit's io: std fills an array only by read_exact, which fails where the input ends before it.
     let n = io::read_full(rt.stdin().as_raw_fd(), &mut input);
-    reader_cases::run_all(&rt, &input[..n], gridfile::read);
+    reader_cases::run_all(&input[..n], Reader::File);
 }

@@ -1,5 +1,5 @@
 // The list of a file's wirings by a search that is run again and again, with limits that grow up to the one that is asked for, so that a long search
-// shows that it is alive: after each run `head` says, where it is told to, how many boards it has visited and how many layouts it has found. Its
+// shows that it is alive: after each run `head` says on standard error how many boards it has visited and how many layouts it has found. Its
 // contract is that of `listing::head` with the last limit: the runs before that one cannot be seen (specs/Limits.antt; crate `listing`,
 // specs/HeadAgain.antt). And how the limit is read from an argument. specs/Whole.antt says what a program prints with these.
 #![tactic(auto)]
@@ -12,6 +12,9 @@ ghost use Rattle.growing.specs.Limits.{says, first_limit, next_limit};
 use gridfile::Declined;
 use listing::Heading;
 use tally::Stop;
+
+// The number of standard error. It is written by the kit's io, so that `head` asks for no handle.
+const STDERR_FILENO: i32 = 2;
 
 const ZERO: u8 = 48;
 
@@ -65,23 +68,21 @@ fn next_limit(reached: u64, limit: u64) -> u64
 }
 
 // Says how far a run has come. What cannot be written is passed over.
-fn print_progress(progress: &impl Print, visited: u64, layouts: u64) {
-    let _ = progress.write_all(printed::progress_line(visited, layouts).as_bytes());
+fn print_progress(visited: u64, layouts: u64) {
+    io::write_all(
+        STDERR_FILENO,
+        printed::progress_line(visited, layouts).as_bytes(),
+    );
 }
 
 // One run, of which it is said how far it has come; nothing is said of a refused file.
-fn run(
-    progress: &impl Print,
-    file: &[u8],
-    limit: u64,
-    buffer: &mut [u8],
-) -> Result<Heading, Declined>
+fn run(file: &[u8], limit: u64, buffer: &mut [u8]) -> Result<Heading, Declined>
     ensures { Headed limit file.now buffer.old result buffer.new }
 {
     let head = listing::head(file, limit, buffer);
     if let Ok(heading) = head {
         let tally = heading.found.tally;
-        print_progress(progress, tally.visited, tally.layouts as u64);
+        print_progress(tally.visited, tally.layouts as u64);
     }
     head
 }
@@ -98,19 +99,14 @@ fn is_spent(head: Result<Heading, Declined>) -> bool
 
 // Reads the file, searches its grid into the buffer with growing limits, and gives the head of the text. It ends with a run that is not spent, since
 // a higher limit changes nothing then, or with the limit that is asked for.
-pub fn head(
-    progress: &impl Print,
-    file: &[u8],
-    limit: u64,
-    buffer: &mut [u8],
-) -> Result<Heading, Declined>
+pub fn head(file: &[u8], limit: u64, buffer: &mut [u8]) -> Result<Heading, Declined>
     ensures { Headed limit file.now buffer.old result buffer.new }
 {
     let mut reached = first_limit(limit);
-    let mut head = run(progress, file, reached, buffer);
+    let mut head = run(file, reached, buffer);
     while is_spent(head) && reached < limit {
         reached = next_limit(reached, limit);
-        head = run(progress, file, reached, buffer);
+        head = run(file, reached, buffer);
     }
     head
 }

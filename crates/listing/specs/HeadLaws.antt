@@ -1,13 +1,13 @@
 -- The head of the text, from what the reader and the search answer: `refused_head` for a refused file, `accepted_head` for an accepted one.
 -- They rest on the contracts of the reader and of `search`.
 use Prim.Native.Nat.{ℕ, zero, suc, ◌*◌}
-use Rattle.std.specs.Prelude.{◌≡◌, List, take, ℤ, Ok, Err}
+use Rattle.std.specs.Prelude.{◌≡◌, Bool, true, false, List, [], ◌∷◌, take, ℤ, Ok, Err}
 use Rattle.std.proofs.Math.Path.{refl, ap}
 use Rattle.std.proofs.Common.{arith}
 use Rattle.model.specs.Refusals.{grid_refusal}
 use Rattle.model.specs.RefusalLaws.{accepted_is_not_refused}
 use Rattle.model.specs.Runs as runs
-use Rattle.model.specs.GridFile.{read}
+use Rattle.model.specs.GridFile.{Standing, read, read_from, accepted, declined, refusal, is_complete, after}
 use Rattle.model.specs.Routes.{found_within}
 use Rattle.gridfile.specs.declared.Grid.{Grid}
 use Rattle.gridfile.specs.declared.Declined.{Declined}
@@ -21,6 +21,21 @@ use Rattle.solver.specs.Answers.{Solves, run_of}
 use Rattle.listing.specs.Listing.{grid_found, reading_found, reading_head, put_records, Headed}
 
 -- ## A refused file
+
+-- a declined file has H and W 0, from any standing of the reader on
+pub declined_sizes : (s : Standing) (bytes : List ℕ) → ((read_from s bytes).number ≡ 0 → ⊥) → ((read_from s bytes).height ≡ 0) × ((read_from s bytes).width ≡ 0)
+unfolding read_from accepted declined
+declined_sizes s [] n = go (is_complete s) refl
+  where
+    go : (b : Bool) → is_complete s ≡ b → ((read_from s []).height ≡ 0) × ((read_from s []).width ≡ 0)
+    go true h = absurd (n (rw (h, read_from) refl))
+    go false h = rw (h, read_from) (refl, refl)
+declined_sizes s (byte ∷ bytes) n = go (refusal s byte) refl (declined_sizes (after s byte) bytes)
+  where
+    go : (m : ℕ) → refusal s byte ≡ m → (((read_from (after s byte) bytes).number ≡ 0 → ⊥) → ((read_from (after s byte) bytes).height ≡ 0) × ((read_from (after s byte) bytes).width ≡ 0))
+        → ((read_from s (byte ∷ bytes)).height ≡ 0) × ((read_from s (byte ∷ bytes)).width ≡ 0)
+    go zero h rest = rw (h, read_from) (rest (rw (h, read_from) at n))
+    go (suc m) h rest = rw (h, read_from) (refl, refl)
 
 pub some_fault : (fault : Fault) → fault_number fault ≡ 0 → ⊥
 some_fault StrayByte is = omega arith

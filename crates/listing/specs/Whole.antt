@@ -1,6 +1,6 @@
 -- The head and the lines together are the text of the model: for every file, every limit and every buffer (`whole`); for a buffer of so many bytes
 -- and every file (`whole_file`); and for the first 4,096 bytes of any standard input (`list_whole`), which is what the programs `routes` and
--- `routes_to` print. It rests on the contracts of `head` and `line` (Listing.antt), on BufferRecords.antt, and on the laws of the reader.
+-- `routes_to` print. It rests on the contracts of `head`, `first_line` and `line` (Listing.antt), on BufferRecords.antt, and on the laws of the reader.
 use Prim.Native.Nat.{ℕ, zero, suc, ◌+◌, ◌*◌}
 use Rattle.std.specs.Prelude.{◌≡◌, true, length, take, Result}
 use Rattle.std.proofs.Math.Path.{refl, ap}
@@ -57,12 +57,12 @@ module _ (limit : ℕ) (reading : Reading) (sound : SoundReading reading) (buffe
       go zero e = rw (found_lines e, e) refl
       go (suc n) e = rw e (append-nil _)
 
--- THE WHOLE TEXT, over the contracts alone: what `head` answers, and what `line` answers for each layout
+-- THE WHOLE TEXT, over the contracts alone: what `head` answers, what `first_line` answers for that, and what `line` answers for each layout
 module _ (limit : ℕ) (file buffer : List ℕ) (r : Result Heading Declined) (buffer' : List ℕ) (headed : Headed limit file buffer r buffer')
-    (line : ℕ → List ℕ) (lined : (k : ℕ) → line k ≡ line_text (height_of r) (width_of r) (layouts_of r) k buffer') where
-  -- the bytes of the head, and after them the bytes of the lines of the layouts 0, 1, .. in this order
+    (first : List ℕ) (begun : first ≡ text_of r) (line : ℕ → List ℕ) (lined : (k : ℕ) → line k ≡ line_text (height_of r) (width_of r) (layouts_of r) k buffer') where
+  -- the bytes of the first line, and after them the bytes of the lines of the layouts 0, 1, .. in this order
   unfoldable pub all_bytes : List ℕ
-  all_bytes = text_of r ++ line_bytes line (layouts_of r) 0
+  all_bytes = first ++ line_bytes line (layouts_of r) 0
 
   same_lines : (more k : ℕ) → line_bytes line more k ≡ lines_from (height_of r) (width_of r) (layouts_of r) buffer' more k
   unfolding line_bytes lines_from
@@ -72,7 +72,7 @@ module _ (limit : ℕ) (file buffer : List ℕ) (r : Result Heading Declined) (b
   -- for every file, every limit and every buffer
   pub whole : all_bytes ≡ file_text limit (length buffer) file
   unfolding all_bytes file_text
-  whole = rw (same_lines (layouts_of r) 0, headed.text, headed.height, headed.width, headed.layouts, headed.after) (reading_whole limit (read file) (read_sound file) buffer)
+  whole = rw (same_lines (layouts_of r) 0, begun, headed.text, headed.height, headed.width, headed.layouts, headed.after) (reading_whole limit (read file) (read_sound file) buffer)
 
   -- for a buffer of so many bytes: what is printed for a file, however long
   pub whole_file : (room : ℕ) → length buffer ≡ room → all_bytes ≡ list_text limit room file
@@ -82,7 +82,7 @@ module _ (limit : ℕ) (file buffer : List ℕ) (r : Result Heading Declined) (b
 -- WHAT A PROGRAM PRINTS, for every standard input, that hands over its first 4,096 bytes and lends so many: `routes` with its limit and its room,
 -- `routes_to` with its own
 module _ (limit : ℕ) (input buffer : List ℕ) (r : Result Heading Declined) (buffer' : List ℕ) (headed : Headed limit (take 4096 input) buffer r buffer')
-    (line : ℕ → List ℕ) (lined : (k : ℕ) → line k ≡ line_text (height_of r) (width_of r) (layouts_of r) k buffer') where
-  pub list_whole : (room : ℕ) → length buffer ≡ room → all_bytes limit (take 4096 input) buffer r buffer' headed line lined ≡ list_text limit room input
+    (first : List ℕ) (begun : first ≡ text_of r) (line : ℕ → List ℕ) (lined : (k : ℕ) → line k ≡ line_text (height_of r) (width_of r) (layouts_of r) k buffer') where
+  pub list_whole : (room : ℕ) → length buffer ≡ room → all_bytes limit (take 4096 input) buffer r buffer' headed first begun line lined ≡ list_text limit room input
   unfolding file_text list_text printed
-  list_whole room same = whole limit (take 4096 input) buffer r buffer' headed line lined ∙ ap (λ (n : ℕ). file_text limit n (take 4096 input)) same
+  list_whole room same = whole limit (take 4096 input) buffer r buffer' headed first begun line lined ∙ ap (λ (n : ℕ). file_text limit n (take 4096 input)) same

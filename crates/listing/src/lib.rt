@@ -5,13 +5,16 @@
 #![tactic(auto)]
 
 ghost use Rattle.std.specs.Prelude.{◌≡◌};
-ghost use Rattle.listing.specs.Listing.{head_text, Headed, line_text};
+ghost use Rattle.listing.specs.Listing.{head_text, text_of, Headed, line_text};
 
 use gridfile::Declined;
 use printed::{HeadLine, LayoutLine};
 use records::Layouts;
 use tally::Solved;
 use text::Line;
+
+// The number of standard output. It is written by the kit's io, so that no function here asks for a handle.
+const STDOUT_FILENO: i32 = 1;
 
 // What a list tells of an accepted file: H and W, and what the search of its grid has found.
 #[derive(Clone, Copy, PartialEq, Eq)]
@@ -67,6 +70,16 @@ pub fn head_line(found: Result<Solved, Declined>) -> HeadLine
     }
 }
 
+// The first line of the list that `head` has answered.
+pub fn first_line(head: Result<Heading, Declined>) -> HeadLine
+    ensures { result ≡ text_of head }
+{
+    match head {
+        Ok(heading) => head_line(Ok(heading.found)),
+        Err(declined) => head_line(Err(declined)),
+    }
+}
+
 // The line of layout k, from 0; nothing where there is no record k.
 #[tactic(auto, using(crate::specs::BufferRecords::line_laws))]
 pub fn line(layouts: &Layouts, k: usize) -> LayoutLine
@@ -80,16 +93,27 @@ pub fn line(layouts: &Layouts, k: usize) -> LayoutLine
 }
 
 // Writes the lines of the layouts, in order. What cannot be written is passed over, here as below.
-fn print_lines(rt: &impl Print, layouts: &Layouts) {
+fn print_layouts(layouts: &Layouts) {
     for k in 0..layouts.count {
-        let _ = rt.write_all(line(layouts, k).as_bytes());
+        io::write_all(STDOUT_FILENO, line(layouts, k).as_bytes());
     }
 }
 
+// The same of so many layouts of a grid of these sizes.
+pub fn print_lines(buffer: &[u8], height: usize, width: usize, layouts: usize) {
+    let list = Layouts {
+        height,
+        width,
+        count: layouts,
+        buffer,
+    };
+    print_layouts(&list);
+}
+
 // Writes the whole text: the line of the head, and those of the layouts that the search left in the buffer.
-pub fn print_list(rt: &impl Print, head: Result<Heading, Declined>, buffer: &[u8]) {
-    let _ = rt.write_all(head_line(head.map(|heading| heading.found)).as_bytes());
+pub fn print_list(head: Result<Heading, Declined>, buffer: &[u8]) {
+    io::write_all(STDOUT_FILENO, first_line(head).as_bytes());
     if let Ok(heading) = head {
-        print_lines(rt, &heading.layouts(buffer));
+        print_layouts(&heading.layouts(buffer));
     }
 }

@@ -1,5 +1,5 @@
 // Runs the cases of a reader, that of grid files or that of packed decimal: takes the slices of an input, each behind its length in
-// two bytes, and prints the answer of each: the line of a refused slice, or the grid as it is written back. It is safe for any reader,
+// two bytes, and prints the answer of each: the line of a refused slice, or the grid as it is written back. It is safe for either reader,
 // since a grid that was read is accepted, and lends the cells of its pads.
 #![tactic(auto)]
 
@@ -7,38 +7,56 @@ ghost use Rattle.std.specs.Prelude.{IfSome, ◌<◌, length};
 
 use gridfile::{Declined, Grid};
 
+// The number of standard output. It is written by the kit's io, so that no function here asks for a handle.
+const STDOUT_FILENO: i32 = 1;
+
+// Which reader is asked: that of grid files, or that of packed decimal.
+#[derive(Clone, Copy)]
+pub enum Reader {
+    File,
+    Packed,
+}
+
 // The line of a refused slice. What cannot be written is passed over, here as below.
-fn print_refusal(rt: &impl Print, declined: Declined) {
+fn print_refusal(declined: Declined) {
     let number = declined.fault.number();
     let line = printed::refusal_line(number, declined.line as u64, declined.field as u64);
-    let _ = rt.write_all(line.as_bytes());
+    io::write_all(STDOUT_FILENO, line.as_bytes());
 }
 
 // The grid of an accepted slice, as it is written back; nothing where it cannot be.
-fn print_grid(rt: &impl Print, grid: &grid::Grid<'_>) {
+fn print_grid(grid: &grid::Grid<'_>) {
     let mut text = [0; gridfile::LONGEST_TEXT];
     if let Ok(length) = gridfile::write(grid.height, grid.width, grid.cells, &mut text) {
-        let _ = rt.write_all(&text[..length]);
+        io::write_all(STDOUT_FILENO, &text[..length]);
     }
 }
 
 // A line for each cell past the pads that is not blank.
-fn print_past(rt: &impl Print, cells: &[i64], pads: usize) {
+fn print_past(cells: &[i64], pads: usize) {
     for cell in cells.iter().skip(pads) {
         if *cell != grid::BLANK {
-            let _ = println!(rt; "past");
+            io::write_all(STDOUT_FILENO, b"past\n");
         }
     }
 }
 
-fn print_answer(rt: &impl Print, answer: Result<Grid, Declined>) {
+// What the reader that is asked gives for a slice.
+fn ask(bytes: &[u8], reader: Reader) -> Result<Grid, Declined> {
+    match reader {
+        Reader::File => gridfile::read(bytes),
+        Reader::Packed => packed::read_packed(bytes),
+    }
+}
+
+fn print_answer(answer: Result<Grid, Declined>) {
     match answer {
         Ok(read) => {
             let grid = read.accepted();
-            print_grid(rt, &grid);
-            print_past(rt, &read.cells, grid.cells.len());
+            print_grid(&grid);
+            print_past(&read.cells, grid.cells.len());
         }
-        Err(declined) => print_refusal(rt, declined),
+        Err(declined) => print_refusal(declined),
     }
 }
 
@@ -50,13 +68,11 @@ fn split_case(input: &[u8]) -> Option<(&[u8], &[u8])>
     rest.split_at_checked(usize::from(u16::from_be_bytes(*long)))
 }
 
-// Every case of the input, in order, by a reader.
-pub fn run_all<F: Fn(&[u8]) -> Result<Grid, Declined>>(rt: &impl Print, input: &[u8], read: F)
-    requires { F.IsAlwaysCallable read }
-{
+// Every case of the input, in order, by the reader that is asked.
+pub fn run_all(input: &[u8], reader: Reader) {
     let mut rest = input;
     while let Some((case, after)) = split_case(rest) {
-        print_answer(rt, read(case));
+        print_answer(ask(case, reader));
         rest = after;
     }
 }

@@ -12,11 +12,11 @@ use std::os::fd::AsRawFd;
 const LIMIT: u64 = 1000000;
 
 // The whole text for a file of at most 4,096 bytes, with an answer buffer of 61,504 bytes lent: the head, then the lines.
-fn print_list(rt: &impl Print, file: &[u8], limit: u64, buffer: &mut [u8])
+fn print_list(file: &[u8], limit: u64, buffer: &mut [u8])
     requires { (length file.now ≤ 4096) × (limit ≡ routes_limit) × (length buffer.old ≡ routes_room) }
 {
     let head = listing::head(file, limit, buffer);
-    listing::print_list(rt, head, buffer);
+    listing::print_list(head, buffer);
 }
 
 fn main(rt: HostRuntime) {
@@ -24,5 +24,5 @@ fn main(rt: HostRuntime) {
     // By the kit's io: std fills an array only by read_exact, which fails where the input ends before it.
     let n = io::read_full(rt.stdin().as_raw_fd(), &mut input);
     let mut buffer = [0u8; 61504];
-    print_list(&rt, &input[..n], LIMIT, &mut buffer);
+    print_list(&input[..n], LIMIT, &mut buffer);
 }

@@ -11,19 +11,19 @@ ghost use Rattle.model.specs.RoutesTo.{routes_to_room};
 use std::os::fd::AsRawFd;
 
 // The whole text for a file of at most 4,096 bytes, with an answer buffer of 3,936,256 bytes lent: the head, then the lines.
-fn print_list(rt: &HostRuntime, file: &[u8], limit: u64, buffer: &mut [u8])
+fn print_list(file: &[u8], limit: u64, buffer: &mut [u8])
     requires { (length file.now ≤ 4096) × (length buffer.old ≡ routes_to_room) }
 {
-    let head = growing::head(&rt.stderr(), file, limit, buffer);
-    listing::print_list(rt, head, buffer);
+    let head = growing::head(file, limit, buffer);
+    listing::print_list(head, buffer);
 }
 
 // The same, and lends that buffer.
-fn list_file(rt: &HostRuntime, file: &[u8], limit: u64)
+fn list_file(file: &[u8], limit: u64)
     requires { length file.now ≤ 4096 }
 {
     let mut buffer = [0u8; 3936256];
-    print_list(rt, file, limit, &mut buffer);
+    print_list(file, limit, &mut buffer);
 }
 
 // Reads standard input, and prints the text for it.
@@ -31,7 +31,7 @@ fn list_input(rt: &HostRuntime, limit: u64) {
     let mut input = io::buffer();
     // By the kit's io: std fills an array only by read_exact, which fails where the input ends before it.
     let n = io::read_full(rt.stdin().as_raw_fd(), &mut input);
-    list_file(rt, &input[..n], limit);
+    list_file(&input[..n], limit);
 }
 
 // Prints that the argument is no limit.

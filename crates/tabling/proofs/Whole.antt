@@ -1,5 +1,5 @@
 -- The head and the rows together are the text that `common` prints, for an answer buffer of 61,504 bytes and a table of at least 961: for every
--- file (`whole_file`), and for the first 4,096 bytes of any standard input (`common_whole`). It rests on the contracts of `head` and `row`
+-- file (`whole_file`), and for the first 4,096 bytes of any standard input (`common_whole`). It rests on the contracts of `head`, `first_line` and `row`
 -- (specs/Tabling.antt), on TableRows.antt, on the model's CommonLaws.antt, on promises' TableLaws.antt (the table's bytes) and on the laws of the
 -- reader. What is proved of the definitions in specs/Whole.antt.
 use Prim.Native.Nat.{ℕ, zero, suc, ◌+◌, ◌*◌, ◌≤◌}
@@ -27,7 +27,7 @@ use Rattle.reading.specs.ReadingLaws.{SoundReading, read_sound}
 use Rattle.reading.specs.LongFiles.{first_bytes_suffice}
 use Rattle.gridfile.specs.declared.Declined.{Declined}
 use Rattle.tabling.specs.declared.Heading.{Heading}
-use Rattle.tabling.specs.Tabling.{rows_printed, common_head, reading_head, row_text, width_of, rows_of, Headed}
+use Rattle.tabling.specs.Tabling.{rows_printed, common_head, reading_head, row_text, text_of, width_of, rows_of, Headed}
 use Rattle.tabling.specs.TableRows.{rows_from, small_digits}
 use Rattle.tabling.specs.Whole.{head_text, grid_text, row_bytes, all_bytes}
 use Rattle.tabling.proofs.TableRows.{all_rows}
@@ -81,31 +81,31 @@ module _ (buffer table : List ℕ) (room : length buffer ≡ routes_room) (long 
 
 -- ## The whole text, over the contracts alone
 
--- what `head` answers, and what `row` answers for each row
+-- what `head` answers, what `first_line` answers for that, and what `row` answers for each row
 module _ (file buffer table : List ℕ) (r : Result Heading Declined) (buffer' table' : List ℕ) (headed : Headed file buffer table r buffer' table')
-    (row : ℕ → List ℕ) (lined : (k : ℕ) → row k ≡ row_text (width_of r) (rows_of r) k table') where
+    (first : List ℕ) (begun : first ≡ text_of r) (row : ℕ → List ℕ) (lined : (k : ℕ) → row k ≡ row_text (width_of r) (rows_of r) k table') where
   same_rows : (more k : ℕ) → row_bytes row more k ≡ rows_from (width_of r) (rows_of r) table' more k
   unfolding row_bytes rows_from
   same_rows zero k = refl
   same_rows (suc more) k = rw (lined k, same_rows more (k + 1)) refl
 
-  made_bytes : all_bytes file buffer table r buffer' table' headed row lined ≡ head_text (reading_head (read file) buffer table)
+  made_bytes : all_bytes file buffer table r buffer' table' headed first begun row lined ≡ head_text (reading_head (read file) buffer table)
   unfolding all_bytes head_text
-  made_bytes = rw (same_rows (rows_of r) 0, headed.text, headed.width, headed.rows, headed.table_after) refl
+  made_bytes = rw (same_rows (rows_of r) 0, begun, headed.text, headed.width, headed.rows, headed.table_after) refl
 
   module _ (room : length buffer ≡ routes_room) (long : 961 ≤ length table) where
     -- the text for the grid that was read
-    pub whole : all_bytes file buffer table r buffer' table' headed row lined ≡ reading_text grid_text (read file)
+    pub whole : all_bytes file buffer table r buffer' table' headed first begun row lined ≡ reading_text grid_text (read file)
     whole = made_bytes ∙ reading_whole buffer table room long (read file) (read_sound file)
 
     -- WHAT `common` PRINTS for a file, however long
-    pub whole_file : all_bytes file buffer table r buffer' table' headed row lined ≡ common_text file
+    pub whole_file : all_bytes file buffer table r buffer' table' headed first begun row lined ≡ common_text file
     unfolding common_text printed
     whole_file = whole ∙ ap (reading_text grid_text) (sym (first_bytes_suffice file))
 
 -- WHAT `common` PRINTS, for every standard input: it hands over the first 4,096 bytes, and lends 61,504 bytes and 961
 module _ (input buffer table : List ℕ) (r : Result Heading Declined) (buffer' table' : List ℕ) (headed : Headed (take 4096 input) buffer table r buffer' table')
-    (row : ℕ → List ℕ) (lined : (k : ℕ) → row k ≡ row_text (width_of r) (rows_of r) k table') where
-  pub common_whole : length buffer ≡ routes_room → 961 ≤ length table → all_bytes (take 4096 input) buffer table r buffer' table' headed row lined ≡ common_text input
+    (first : List ℕ) (begun : first ≡ text_of r) (row : ℕ → List ℕ) (lined : (k : ℕ) → row k ≡ row_text (width_of r) (rows_of r) k table') where
+  pub common_whole : length buffer ≡ routes_room → 961 ≤ length table → all_bytes (take 4096 input) buffer table r buffer' table' headed first begun row lined ≡ common_text input
   unfolding common_text printed
-  common_whole = whole (take 4096 input) buffer table r buffer' table' headed row lined
+  common_whole = whole (take 4096 input) buffer table r buffer' table' headed first begun row lined

@@ -1,5 +1,5 @@
 -- What it is that the head and the rows together are: the text of a head with the rows of its table, what the model prints for an accepted
--- grid, and the bytes of what `head` and `row` answer (Tabling.antt). proofs/Whole.antt proves that they are the text that `common` prints.
+-- grid, and the bytes of what `first_line` and `row` answer (Tabling.antt). proofs/Whole.antt proves that they are the text that `common` prints.
 use Rattle.std.specs.Prelude.{ℕ, zero, suc, ◌+◌, ◌≡◌, List, [], ◌++◌, ℤ, Result}
 use Rattle.model.specs.Routes.{routes_found}
 use Rattle.model.specs.CommonText.{common_found_text}
@@ -23,9 +23,9 @@ unfoldable pub row_bytes : (ℕ → List ℕ) → ℕ → ℕ → List ℕ
 row_bytes row zero k = []
 row_bytes row (suc more) k = row k ++ row_bytes row more (k + 1)
 
--- what `head` answers, and what `row` answers for each row
+-- what `head` answers, what `first_line` answers for that, and what `row` answers for each row
 module _ (file buffer table : List ℕ) (r : Result Heading Declined) (buffer' table' : List ℕ) (headed : Headed file buffer table r buffer' table')
-    (row : ℕ → List ℕ) (lined : (k : ℕ) → row k ≡ row_text (width_of r) (rows_of r) k table') where
-  -- the bytes of the head, and after them the bytes of the rows 0, 1, .. in this order
+    (first : List ℕ) (begun : first ≡ text_of r) (row : ℕ → List ℕ) (lined : (k : ℕ) → row k ≡ row_text (width_of r) (rows_of r) k table') where
+  -- the bytes of the first line, and after them the bytes of the rows 0, 1, .. in this order
   unfoldable pub all_bytes : List ℕ
-  all_bytes = text_of r ++ row_bytes row (rows_of r) 0
+  all_bytes = first ++ row_bytes row (rows_of r) 0

@@ -1,13 +1,14 @@
-// What `common` prints for a file, in parts that a program writes one after the other: the head, whose line is that of a refused file or
-// the summary line (crate `listing`, `head_line`), and the line of each row of the table. specs/Tabling.antt says each part, and proofs/Whole.antt that together they are the text
+// What `common` prints for a file, in parts that a program writes one after the other: the head, whose line (`first_line`) is that of a
+// refused file or the summary line (crate `listing`, `head_line`), and the line of each row of the table. specs/Tabling.antt says each part, and proofs/Whole.antt that together they are the text
 // of the crate `model`. The answer buffer and the table are lent: `head` leaves the table of a complete list in it, and `row` reads it there.
 #![tactic(auto)]
 
 ghost use Rattle.std.specs.Prelude.{◌≡◌, map, ◌++◌, ◌+◌, ◌≤◌, length};
-ghost use Rattle.tabling.specs.Tabling.{has_row, table_digit, row_text, found_in, rows_in, Headed};
+ghost use Rattle.tabling.specs.Tabling.{has_row, table_digit, row_text, text_of, found_in, rows_in, Headed};
 
 use copper::NoTable;
 use gridfile::Declined;
+use printed::HeadLine;
 use tally::{Solved, Tally};
 use text::Line;
 
@@ -70,6 +71,16 @@ pub fn head(file: &[u8], buffer: &mut [u8], table: &mut [u8]) -> Result<Heading,
         width: grid.width,
         rows: rows_in(common, grid.height),
     })
+}
+
+// The first line of the text, for what `head` has answered.
+pub fn first_line(head: Result<Heading, Declined>) -> HeadLine
+    ensures { result ≡ text_of head }
+{
+    match head {
+        Ok(heading) => listing::head_line(Ok(heading.found)),
+        Err(declined) => listing::head_line(Err(declined)),
+    }
 }
 
 // Whether a table of so many bytes has a row k: W is a size, k is below the rows, and the row ends in time.

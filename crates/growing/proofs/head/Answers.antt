@@ -6,7 +6,7 @@ use Rattle.growing.specs.Limits.{next_reached}
 use Rattle.growing.proofs.head.Goals as goal
 
 pub loop-head-preserved : goal.loop-head-preserved
-loop-head-preserved g c =
+loop-head-preserved c =
     let larger = next_reached _ _ c.loop-head.invariant.so_far c.if-reached-limit.true in
     rw c.next_limit-reached.ensures (record {
       so_far = larger.1;
@@ -14,4 +14,4 @@ loop-head-preserved g c =
     })
 
 pub returns-after-loop-head : goal.returns-after-loop-head
-returns-after-loop-head g c = headed_last _ _ _ _ _ c.loop-head.invariant.is_run _ c.loop-head.invariant.so_far.within (λ spent. cc (c.is_spent.ensures.1 spent))
+returns-after-loop-head c = headed_last _ _ _ _ _ c.loop-head.invariant.is_run _ c.loop-head.invariant.so_far.within (λ spent. cc (c.is_spent.ensures.1 spent))

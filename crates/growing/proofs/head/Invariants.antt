@@ -6,7 +6,7 @@ use Rattle.growing.specs.Limits.{Reached}
 use Rattle.growing.proofs.head.Given as goal
 
 abbrev pub invariant-loop-head : goal.invariant-loop-head
-invariant-loop-head g l = record { so_far : Reached l.reached l.limit; is_run : Headed l.reached l.file l.fn.buffer l.head l.buffer }
+invariant-loop-head l = record { so_far : Reached l.reached l.limit; is_run : Headed l.reached l.file l.fn.buffer l.head l.buffer }
 
 abbrev pub decreases-loop-head : goal.decreases-loop-head
-decreases-loop-head g l = l.limit - l.reached
+decreases-loop-head l = l.limit - l.reached

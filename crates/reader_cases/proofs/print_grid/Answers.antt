@@ -13,7 +13,7 @@ within : (height width : ℕ) (cells : List ℤ) (buffer : List ℕ) {r : Writin
 within height width cells buffer e = rw e (written_within height width cells buffer)
 
 pub slice_bounds-text-end : goal.slice_bounds-text-end
-slice_bounds-text-end g c = within _ _ _ _ c.in-Ok.ensures
+slice_bounds-text-end c = within _ _ _ _ c.in-Ok.ensures
 
 pub slice_bounds-write_all-end : goal.slice_bounds-write_all-end
-slice_bounds-write_all-end g c = sym (length-take-le _ _ (within _ _ _ _ c.in-Ok.ensures))
+slice_bounds-write_all-end c = sym (length-take-le _ _ (within _ _ _ _ c.in-Ok.ensures))

@@ -3,4 +3,4 @@ use lib.ListN.{length}
 use Rattle.reader_cases.proofs.run_all.Given as goal
 
 abbrev pub decreases-loop-case : goal.decreases-loop-case
-decreases-loop-case g l = length l.rest
+decreases-loop-case l = length l.rest
