@@ -31,7 +31,12 @@ fn same_bytes(first: &[u8], second: &[u8], count: usize) -> bool
     if first.len() < count || second.len() < count {
         return false;
     }
-    first[..count] == second[..count]
+    for i in 0..count {
+        if first[i] != second[i] {
+            return false;
+        }
+    }
+    true
 }
 
 // Whether so many records lie in two buffers, and are the same bytes.
