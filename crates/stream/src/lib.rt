@@ -2,6 +2,8 @@
 // checksum. These functions read them, and go through one from its start to its end. They are total: past the end of a stream every byte is 0.
 #![tactic(auto)]
 
+ghost use Rattle.std.specs.Prelude.{IfSome, ◌≡◌, ◌+◌, ◌*◌, ◌-◌, ◌^◌, min, get_or};
+
 use std::array;
 
 // Places further on than this are not told apart; no stream is that long.
@@ -16,7 +18,9 @@ pub fn later(place: usize, bytes: usize) -> usize {
 }
 
 // The byte at a place, 0 past the end.
-pub fn byte_at(stream: &[u8], place: usize) -> u8 {
+pub fn byte_at(stream: &[u8], place: usize) -> u8
+    ensures { result ≡ get_or stream.now place 0 }
+{
     stream.get(place).copied().unwrap_or(0)
 }
 
@@ -66,10 +70,13 @@ impl Sent {
     }
 }
 
-// The grid at a place: height and width in a byte each, and a byte for each cell. None where there are more than 256.
-pub fn grid_at(stream: &[u8], place: usize) -> Option<Sent> {
-    let height = usize::from(byte_at(stream, place));
-    let width = usize::from(byte_at(stream, later(place, 1)));
+// The grid at a place, however far on: height and width in a byte each, and a byte for each cell. None where there are more than 256.
+pub fn grid_at(stream: &[u8], place: usize) -> Option<Sent>
+    ensures { IfSome result (λ sent. (sent.height ≡ get_or stream.now place 0) × (sent.width ≡ get_or stream.now (place + 1) 0) × (sent.after ≡ min (place + (2 + sent.height * sent.width)) (2 ^ 64 - 1))) }
+{
+    let rest = stream.get(place..).unwrap_or(&[]);
+    let height = usize::from(byte_at(rest, 0));
+    let width = usize::from(byte_at(rest, 1));
     let count = height * width;
     if count > 256 {
         return None;
@@ -78,8 +85,8 @@ pub fn grid_at(stream: &[u8], place: usize) -> Option<Sent> {
         height,
         width,
         count,
-        cells: cells_at(stream, later(place, 2), count),
-        after: later(place, 2 + count),
+        cells: cells_at(rest, 2, count),
+        after: place.saturating_add(2 + count),
     })
 }
 
@@ -129,4 +136,36 @@ fn unsigned(end: i64) -> u64 {
 // The checksum after so many ends more, each as a number without a sign.
 pub fn taken_ends(sum: u64, ends: &[i64]) -> u64 {
     ends.iter().fold(sum, |sum, end| taken(sum, unsigned(*end)))
+}
+
+#[cfg(test)]
+mod tests {
+    use super::*;
+    use std::test::Fail;
+
+    // A grid of one row and two columns, behind a byte that is not its own.
+    #[test]
+    fn one_row(rt: HostRuntime) -> Result<(), Fail> {
+        let sent = grid_at(&[9, 1, 2, 0, 5, 7], 1).ok_or("no grid")?;
+        assert_eq!(rt; sent.height, 1);
+        assert_eq!(rt; sent.width, 2);
+        assert_eq!(rt; sent.cells(), [-1, 4].as_slice());
+        assert_eq!(rt; sent.after, 5);
+        Ok(())
+    }
+
+    // Seventeen rows of sixteen are more than 256 cells.
+    #[test]
+    fn too_many_cells(rt: HostRuntime) {
+        assert!(rt; grid_at(&[17, 16], 0).is_none());
+    }
+
+    // Past the end every byte is 0, however far on: no rows and no columns, and two bytes.
+    #[test]
+    fn far_on(rt: HostRuntime) -> Result<(), Fail> {
+        let sent = grid_at(&[], 2000000000).ok_or("no grid")?;
+        assert_eq!(rt; sent.cells().len(), 0);
+        assert_eq!(rt; sent.after, 2000000002);
+        Ok(())
+    }
 }
