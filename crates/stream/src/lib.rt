@@ -6,7 +6,7 @@ ghost use Rattle.std.specs.Prelude.{IfSome, ◌≡◌, ◌+◌, ◌*◌, ◌-◌
 
 use std::array;
 
-// Places further on than this are not told apart; no stream is that long.
+// `later` doesn't tell places further on than this apart; no stream is that long.
 const FAR: usize = 1000000000;
 
 // The place so many bytes further on.
@@ -142,6 +142,13 @@ pub fn taken_ends(sum: u64, ends: &[i64]) -> u64 {
 mod tests {
     use super::*;
     use std::test::Fail;
+
+    // The one byte of a stream, and 0 behind it.
+    #[test]
+    fn one_byte(rt: HostRuntime) {
+        assert_eq!(rt; byte_at(&[5], 0), 5);
+        assert_eq!(rt; byte_at(&[5], 1), 0);
+    }
 
     // A grid of one row and two columns, behind a byte that is not its own.
     #[test]
